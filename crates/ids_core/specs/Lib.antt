@@ -1,0 +1,5 @@
+pub mod Ids
+pub mod Name
+pub mod Orders
+pub mod Padded
+pub mod Same

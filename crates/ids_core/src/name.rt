@@ -1,0 +1,93 @@
+// Names, kept inline.
+ghost use Rattle.std.specs.Prelude.{◌≡◌, ◌↔◌, IfOk, IsErr, IsTrue};
+ghost use Rattle.ids_core.specs.Name.{IsName, IsNameByte};
+
+use std::marker::Model;
+
+/// The bytes are no name.
+#[derive(Clone, Copy, Debug, PartialEq, Eq)]
+pub struct BadName;
+
+/// A name, seen as the list of its bytes: 1 to 32 out of `a` to `z`, `0` to `9` and `_`.
+#[derive(Clone, Copy, Debug)]
+pub struct Name {
+    // The name, with 0 in all places behind it.
+    bytes: [u8; 32],
+    len: u8,
+}
+
+impl Model for Name {
+    ghost use Rattle.std.specs.Prelude.{ℕ, List, ◌++◌, ◌-◌, take, length};
+    ghost use Rattle.ids_core.specs.Padded.{IsPadded, repadded, zeros};
+
+    ghost Value = { List ℕ };
+
+    ghost view = { λ n. take n.len n.bytes };
+
+    ghost invariant = { λ n. IsPadded n.bytes n.len };
+
+    ghost inverse = { λ l. record { bytes = l ++ zeros (32 - length l); len = length l } };
+
+    ghost inverse_ok = { λ n h. repadded (λ bytes len. record { bytes = bytes; len = len }) n.bytes n.len h };
+}
+
+impl Name {
+    /// Reads a name. An `Err` says exactly that the bytes are none.
+    pub fn read(bytes: &[u8]) -> Result<Name, BadName>
+        ensures taken { IfOk result (λ name. name ≡ bytes.now) }
+        ensures refused { IsErr result ↔ (IsName bytes.now → ⊥) }
+    {
+        if !is_name(bytes) {
+            return Err(BadName);
+        }
+        let mut kept = [0; 32];
+        let len = bytes.len();
+        kept[..len].copy_from_slice(bytes);
+        Ok(Name {
+            bytes: kept,
+            len: len as u8,
+        })
+    }
+
+    /// The bytes of the name.
+    pub fn as_slice(&self) -> &[u8]
+        ensures value { result.now ≡ self.now }
+        ensures name { IsName result.now }
+    {
+        &self.bytes[..usize::from(self.len)]
+    }
+}
+
+impl PartialEq for Name {
+    ghost use Rattle.std.specs.Prelude.{◌==◌};
+    ghost use Rattle.std.proofs.Common.{rules};
+    ghost use Rattle.std.specs.Cmp.Rules.{comparing};
+    ghost use lib.Pointwise.{pointwise};
+
+    ghost eq = { pointwise ◌==◌ };
+
+    ghost laws = { Prim.search (comparing, rules) };
+
+    fn eq(&self, other: &Name) -> bool {
+        self.as_slice() == other.as_slice()
+    }
+}
+
+impl Eq for Name {
+    ghost use Rattle.std.proofs.Common.{rules};
+    ghost use Rattle.std.specs.Cmp.Rules.{comparing};
+
+    ghost laws = { Prim.search (comparing, rules) };
+}
+
+fn is_name(bytes: &[u8]) -> bool
+    ensures { IsTrue result ↔ IsName bytes.now }
+{
+    !bytes.is_empty() && bytes.len() <= 32 && bytes.iter().all(|byte| is_name_byte(*byte))
+}
+
+fn is_name_byte(byte: u8) -> bool
+    ensures { IsTrue result ↔ IsNameByte byte }
+{
+    byte.is_ascii_lowercase() || byte.is_ascii_digit() || byte == b'_'
+}
