@@ -91,3 +91,21 @@ fn is_name_byte(byte: u8) -> bool
 {
     byte.is_ascii_lowercase() || byte.is_ascii_digit() || byte == b'_'
 }
+
+#[cfg(test)]
+mod tests {
+    use super::*;
+    use std::test::Fail;
+
+    #[test]
+    fn reads_names_alone(rt: HostRuntime) -> Result<(), Fail> {
+        for text in ["a", "z9_", "abcdefghijklmnopqrstuvwxyz_01234"] {
+            let name = Name::read(text.as_bytes())?;
+            assert_eq!(rt; name.as_slice(), text.as_bytes(), "at {text}");
+        }
+        for text in ["", "A", "a-b", "a b", "abcdefghijklmnopqrstuvwxyz_012345"] {
+            assert_eq!(rt; Name::read(text.as_bytes()), Err(BadName), "at {text}");
+        }
+        Ok(())
+    }
+}

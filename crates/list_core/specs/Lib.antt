@@ -1,2 +1,4 @@
 pub mod Moments
 pub mod Choices
+pub mod Firsts
+pub mod Members

@@ -1,0 +1,17 @@
+//! What clients ask of a data centre, what it answers, and the logs in which both are kept. The
+//! definitions of a centre's answer and of a session's conduct stand in this crate's `specs/`.
+#![tactic(auto)]
+
+mod ask;
+mod line;
+mod log;
+mod say;
+mod session;
+mod trail;
+
+pub use ask::Ask;
+pub use line::{Line, Miss, PushEnd, StepWord};
+pub use log::{Deed, Fate, Log, Note};
+pub use say::Say;
+pub use session::{Cached, Call, Change, Link, Outcome, Refusal};
+pub use trail::{Entry, Trail};

@@ -1,0 +1,68 @@
+// What a centre answers.
+ghost use Rattle.std.specs.Prelude.{◌≡◌, IfOk};
+
+use ids_core::NoMemory;
+use std::alloc::AllocError;
+use tx_core::State;
+use vv_core::{Stamp, Vector};
+
+/// One answer of a centre. Centres are numbered from 1.
+#[derive(Debug, Drop)]
+pub enum Say {
+    /// The ask does not fit a system of this many centres.
+    Misfit,
+    /// The least centre of which the ask needs more records than the answering centre has.
+    Lacks { centre: u8, need: u64, have: u64 },
+    /// To a hello: the greatest number of the client's transactions that is here, 0 for none.
+    Welcome { through: u64 },
+    /// To a refresh: the new snapshot, the greatest number of the client's own transactions within
+    /// it, and the greatest rank that the centre has seen.
+    Snap { vector: Vector, mine: u64, top: u64 },
+    /// To a fetch: the state of the object at the snapshot.
+    Object { state: State },
+    /// The transaction was here before: the greatest number of its client that is here.
+    Known { through: u64 },
+    /// An earlier transaction of the client is missing: the greatest number that is here.
+    OutOfOrder { have: u64 },
+    /// The centre has stamped as many transactions as it may.
+    Full { limit: u64 },
+    /// The transaction has this stamp now.
+    Stamped { stamp: Stamp },
+}
+
+impl Clone for Say {
+    ghost is_clone = { λ old new. new ≡ old };
+
+    fn clone(&self) -> Result<Say, AllocError> {
+        match self {
+            Say::Misfit => Ok(Say::Misfit),
+            Say::Lacks { centre, need, have } => Ok(Say::Lacks {
+                centre: *centre,
+                need: *need,
+                have: *have,
+            }),
+            Say::Welcome { through } => Ok(Say::Welcome { through: *through }),
+            Say::Snap { vector, mine, top } => Ok(Say::Snap {
+                vector: *vector,
+                mine: *mine,
+                top: *top,
+            }),
+            Say::Object { state } => Ok(Say::Object {
+                state: state.clone()?,
+            }),
+            Say::Known { through } => Ok(Say::Known { through: *through }),
+            Say::OutOfOrder { have } => Ok(Say::OutOfOrder { have: *have }),
+            Say::Full { limit } => Ok(Say::Full { limit: *limit }),
+            Say::Stamped { stamp } => Ok(Say::Stamped { stamp: *stamp }),
+        }
+    }
+}
+
+impl Say {
+    /// An equal answer. Nothing changes where memory is refused.
+    pub fn copy(&self) -> Result<Say, NoMemory>
+        ensures { IfOk result (λ copy. copy ≡ self.now) }
+    {
+        Ok(self.clone()?)
+    }
+}

@@ -1,0 +1,78 @@
+// What a client does at its session, how that ends, and parts of what a session keeps.
+use ids_core::ObjectId;
+use tx_core::{State, Value};
+use vv_core::Vector;
+
+/// A change of an object, as a client issues it.
+#[derive(Clone, Copy, Debug)]
+pub enum Change {
+    /// Adds to a counter. Deltas are from -10^12 to 10^12.
+    Inc { delta: i64 },
+}
+
+/// One call of a session.
+#[derive(Clone, Copy, Debug)]
+pub enum Call {
+    /// Opens a transaction.
+    Begin,
+    /// Changes an object in the open transaction.
+    Change { object: ObjectId, change: Change },
+    /// Reads an object.
+    Read { object: ObjectId },
+    /// Commits the open transaction.
+    Commit,
+}
+
+/// Why a session refuses a call. After each of them the session is as it was.
+#[derive(Clone, Copy, Debug, PartialEq, Eq)]
+pub enum Refusal {
+    /// A transaction is open.
+    AlreadyOpen,
+    /// The clock is at 2^62, the greatest rank.
+    ClockFull,
+    /// No transaction is open.
+    NotOpen,
+    /// The delta is outside -10^12 to 10^12.
+    DeltaTooLarge,
+    /// The open transaction has `limit` updates, the most there may be.
+    TooManyUpdates { limit: u64 },
+    /// The object is not in the cache at the session's snapshot.
+    NeedsFetch { object: ObjectId },
+    /// So many commits are pending, the most there may be.
+    PendingFull { limit: u64 },
+    /// No centre is connected.
+    NotConnected,
+    /// Memory was refused.
+    NoMemory,
+}
+
+/// How a call of a session ended.
+#[derive(Debug, Drop)]
+pub enum Outcome {
+    /// The call was taken.
+    Fine,
+    /// A read has this value.
+    Got(Value),
+    /// A commit has this number.
+    Number(u64),
+    /// The transaction had no updates, and there is nothing to commit.
+    Nothing,
+    /// The call was refused.
+    Refused(Refusal),
+}
+
+/// The centre that a session is connected to, and the greatest number of the session's own commits
+/// that is known to be there.
+#[derive(Clone, Copy, Debug)]
+pub struct Link {
+    pub centre: u8,
+    pub sent: u64,
+}
+
+/// One entry of a client's cache: the state of an object at a vector.
+#[derive(Debug, Drop)]
+pub struct Cached {
+    pub object: ObjectId,
+    pub vector: Vector,
+    pub state: State,
+}

@@ -1,0 +1,139 @@
+-- A transaction has no fault exactly where it is fit.
+use Rattle.std.proofs.Common.{◌≡◌, ◌≢◌, ◌≤◌, ◌+◌, ◌^◌, ℕ, zero, suc, unsigned_abs, Bool, true, false, cond, not, nat_le, nat_lt, ◌==◌, Option, Some, None, List, [], ◌∷◌, length, All, refl, sym, ap, ◌∙◌, arith}
+use Rattle.std.specs.Prelude.{position}
+use Rattle.std.specs.Bool.{Decides}
+use Rattle.std.specs.List.{position_from}
+use Rattle.std.specs.Option.{option_or, option_map}
+use Rattle.std.proofs.lemmas.Bool.{and_parts, and_from, leb-true, le-leb, false≢true}
+use Rattle.std.proofs.lemmas.Bool.Decides.{leb_tells, Decides-eqb}
+use Rattle.std.proofs.lemmas.Int.{ints}
+use Rattle.std.proofs.Math.Dec.{eqb-suc-zero}
+use Rattle.std.proofs.lemmas.Iterator.Adapters.{position_from-zero}
+use Rattle.std.proofs.lemmas.List.Elements.{All-head, All-tail, All-cons}
+use Rattle.tx_core.specs.declared.op.Op.{Op}
+use Rattle.tx_core.specs.declared.op.Op.TheVariants.{Inc}
+use Rattle.tx_core.specs.declared.tx.Update.{Update}
+use Rattle.tx_core.specs.declared.tx.Tx.{Tx}
+use Rattle.tx_core.specs.declared.check.TxFault.{TxFault}
+use Rattle.tx_core.specs.declared.check.TxFault.TheVariants.{NoUpdates, TooManyUpdates, BadDot, BadRank, WrongWidth, BadSnap, DeltaTooLarge}
+use Rattle.tx_core.specs.Checks.{is_within, is_dot, is_small, snap_fault, update_fault, updates_fault, fault_of, HasSmallDelta, IsFit}
+
+-- a row was passed over
+passed : (test : Bool) (fault : TxFault) (rest : Option TxFault) → cond test (Some fault) rest ≡ None → (test ≡ false) × (rest ≡ None)
+passed true fault rest h = cc
+passed false fault rest h = (refl, h)
+
+passes : (test : Bool) (fault : TxFault) (rest : Option TxFault) → test ≡ false → rest ≡ None → cond test (Some fault) rest ≡ None
+passes true fault rest t h = cc
+passes false fault rest t h = h
+
+both_none : (a b : Option TxFault) → option_or a b ≡ None → (a ≡ None) × (b ≡ None)
+both_none None b h = (refl, h)
+both_none (Some fault) b h = cc
+
+none_of_both : (a b : Option TxFault) → a ≡ None → b ≡ None → option_or a b ≡ None
+none_of_both None b h k = k
+none_of_both (Some fault) b h k = cc
+
+true_of : (b : Bool) → not b ≡ false → b ≡ true
+true_of true h = refl
+true_of false h = cc
+
+false_of : (b : Bool) → b ≡ true → not b ≡ false
+false_of true h = refl
+false_of false h = cc
+
+is_within-Decides : (low high number : ℕ) → Decides (is_within low high number) ((low ≤ number) × (number ≤ high))
+is_within-Decides low high number = (λ h. let parts = and_parts (nat_le low number) (nat_le number high) h in (leb-true low number parts.0, leb-true number high parts.1), λ h. and_from (nat_le low number) (nat_le number high) (le-leb low number h.0) (le-leb number high h.1))
+
+is_small-Decides : (op : Op) → Decides (is_small op) (HasSmallDelta op)
+is_small-Decides (Inc delta) = (λ h. let le = leb-true (unsigned_abs delta) 1000000000000 h in (omega (arith, ints, le), omega (arith, ints, le)), λ h. let low = h.0 in let high = h.1 in le-leb (unsigned_abs delta) 1000000000000 (omega (arith, ints, low, high)))
+
+nat_lt-false : (low high : ℕ) → nat_lt low high ≡ false → high ≤ low
+nat_lt-false low high h = grind (arith, leb_tells)
+
+false-nat_lt : (low high : ℕ) → high ≤ low → nat_lt low high ≡ false
+false-nat_lt low high h = grind (arith, leb_tells)
+
+zero_apart : (n : ℕ) → 1 ≤ n → (n == 0) ≡ false
+zero_apart zero h = absurd (omega (arith, h))
+zero_apart (suc n) h = eqb-suc-zero n
+
+-- no place is found exactly where no entry passes
+none_passes : {X : Type 0} (test : X → Bool) (place : ℕ) (xs : List X) → position_from test place xs ≡ None → All (λ x. test x ≡ false) xs
+none_passes test place [] h = λ k d below. absurd (omega (arith, below))
+none_passes test place (x ∷ xs) h = All-cons (λ x. test x ≡ false) x xs (fails (test x) _ h).0 (none_passes test (place + 1) xs (fails (test x) _ h).1)
+  where
+    fails : (t : Bool) (rest : Option ℕ) → cond t (Some place) rest ≡ None → (t ≡ false) × (rest ≡ None)
+    fails true rest h = cc
+    fails false rest h = (refl, h)
+
+none_found : {X : Type 0} (test : X → Bool) (place : ℕ) (xs : List X) → All (λ x. test x ≡ false) xs → position_from test place xs ≡ None
+none_found test place [] h = refl
+none_found test place (x ∷ xs) h = rw (All-head (λ x. test x ≡ false) x xs h) (none_found test (place + 1) xs (All-tail (λ x. test x ≡ false) x xs h))
+
+map_none : {X Y : Type 0} (f : X → Y) (o : Option X) → option_map f o ≡ None → o ≡ None
+map_none f None h = refl
+map_none f (Some x) h = cc
+
+snap_fault-none : (snap : List ℕ) → snap_fault snap ≡ None → All (λ entry. entry ≤ 1000000) snap
+snap_fault-none snap h =
+    let none = map_none (λ place. BadSnap (place + 1)) (position (nat_lt 1000000) snap) h in
+    let fails = none_passes (nat_lt 1000000) 0 snap (sym (position_from-zero (nat_lt 1000000) snap) ∙ none) in
+    λ k d below. nat_lt-false 1000000 _ (fails k d below)
+
+none-snap_fault : (snap : List ℕ) → All (λ entry. entry ≤ 1000000) snap → snap_fault snap ≡ None
+none-snap_fault snap h = ap (option_map (λ place. BadSnap (place + 1))) (position_from-zero (nat_lt 1000000) snap ∙ none_found (nat_lt 1000000) 0 snap (λ k d below. false-nat_lt 1000000 _ (h k d below)))
+
+update_passed : (place : ℕ) (op : Op) (small : Bool) → cond small None (Some (DeltaTooLarge place)) ≡ None → small ≡ true
+update_passed place op true h = refl
+update_passed place op false h = cc
+
+updates_fault-none : (place : ℕ) (updates : List Update) → updates_fault place updates ≡ None → All (λ update. HasSmallDelta update.op) updates
+updates_fault-none place [] h = λ k d below. absurd (omega (arith, below))
+updates_fault-none place (update ∷ updates) h =
+    let both = both_none (update_fault place update) (updates_fault (place + 1) updates) h in
+    let small = update_passed place update.op (is_small update.op) both.0 in
+    All-cons (λ update. HasSmallDelta update.op) update updates ((is_small-Decides update.op).0 small) (updates_fault-none (place + 1) updates both.1)
+
+none-updates_fault : (place : ℕ) (updates : List Update) → All (λ update. HasSmallDelta update.op) updates → updates_fault place updates ≡ None
+none-updates_fault place [] h = refl
+none-updates_fault place (update ∷ updates) h =
+    let small = (is_small-Decides update.op).1 (All-head (λ update. HasSmallDelta update.op) update updates h) in
+    none_of_both (update_fault place update) (updates_fault (place + 1) updates) (rw small refl) (none-updates_fault (place + 1) updates (All-tail (λ update. HasSmallDelta update.op) update updates h))
+
+pub fault_of-none : (n : ℕ) (tx : Tx) → fault_of n tx ≡ None → IsFit n tx
+fault_of-none n tx h =
+    let some = passed (length tx.updates == 0) NoUpdates _ h in
+    let few = passed (nat_lt 256 (length tx.updates)) (TooManyUpdates (length tx.updates)) _ some.1 in
+    let dot = passed (not (is_dot tx.dot)) BadDot _ few.1 in
+    let rank = passed (not (is_within 1 (2 ^ 62) tx.rank)) BadRank _ dot.1 in
+    let width = passed (not (length tx.snap == n)) (WrongWidth (length tx.snap)) _ rank.1 in
+    let rest = both_none (snap_fault tx.snap) (updates_fault 0 tx.updates) width.1 in
+    let parts = and_parts (is_within 1 1024 tx.dot.client) (is_within 1 (2 ^ 62) tx.dot.number) (true_of (is_dot tx.dot) dot.0) in
+    let none : length tx.updates ≢ 0 = λ e. false≢true (sym some.0 ∙ (Decides-eqb (length tx.updates) 0).1 e) in
+    record {
+      some = omega (arith, none);
+      few = nat_lt-false 256 (length tx.updates) few.0;
+      client = (is_within-Decides 1 1024 tx.dot.client).0 parts.0;
+      number = (is_within-Decides 1 (2 ^ 62) tx.dot.number).0 parts.1;
+      rank = (is_within-Decides 1 (2 ^ 62) tx.rank).0 (true_of (is_within 1 (2 ^ 62) tx.rank) rank.0);
+      width = (Decides-eqb (length tx.snap) n).0 (true_of (length tx.snap == n) width.0);
+      snap = snap_fault-none tx.snap rest.0;
+      deltas = updates_fault-none 0 tx.updates rest.1;
+    }
+
+pub none-fault_of : (n : ℕ) (tx : Tx) → IsFit n tx → fault_of n tx ≡ None
+none-fault_of n tx fit =
+    let some = zero_apart (length tx.updates) fit.some in
+    let client = (is_within-Decides 1 1024 tx.dot.client).1 fit.client in
+    let number = (is_within-Decides 1 (2 ^ 62) tx.dot.number).1 fit.number in
+    let dot = and_from (is_within 1 1024 tx.dot.client) (is_within 1 (2 ^ 62) tx.dot.number) client number in
+    let rank = (is_within-Decides 1 (2 ^ 62) tx.rank).1 fit.rank in
+    let width = (Decides-eqb (length tx.snap) n).1 fit.width in
+    passes (length tx.updates == 0) NoUpdates _ some
+    (passes (nat_lt 256 (length tx.updates)) (TooManyUpdates (length tx.updates)) _ (false-nat_lt 256 (length tx.updates) fit.few)
+    (passes (not (is_dot tx.dot)) BadDot _ (false_of (is_dot tx.dot) dot)
+    (passes (not (is_within 1 (2 ^ 62) tx.rank)) BadRank _ (false_of (is_within 1 (2 ^ 62) tx.rank) rank)
+    (passes (not (length tx.snap == n)) (WrongWidth (length tx.snap)) _ (false_of (length tx.snap == n) width)
+    (none_of_both (snap_fault tx.snap) (updates_fault 0 tx.updates) (none-snap_fault tx.snap fit.snap) (none-updates_fault 0 tx.updates fit.deltas))))))

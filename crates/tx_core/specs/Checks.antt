@@ -1,0 +1,67 @@
+-- Which transactions are fit, and what is wrong with the others.
+use Rattle.std.specs.Prelude.{◌≡◌, ◌≤◌, ◌==◌, ◌&&◌, ◌+◌, ◌^◌, ℕ, neg_ℤ, pos, ◌≤ℤ◌, Bool, not, nat_le, nat_lt, unsigned_abs, if◌then◌else◌, Option, Some, None, List, [], ◌∷◌, length, position, All}
+use Rattle.std.specs.Option.{option_or, option_map}
+use Rattle.ids_core.specs.declared.ids.Dot.{Dot}
+use Rattle.tx_core.specs.declared.op.Op.{Op}
+use Rattle.tx_core.specs.declared.op.Op.TheVariants.{Inc}
+use Rattle.tx_core.specs.declared.tx.Update.{Update}
+use Rattle.tx_core.specs.declared.tx.Tx.{Tx}
+use Rattle.tx_core.specs.declared.check.TxFault.{TxFault}
+use Rattle.tx_core.specs.declared.check.TxFault.TheVariants.{NoUpdates, TooManyUpdates, BadDot, BadRank, WrongWidth, BadSnap, DeltaTooLarge}
+
+-- the value beside the first test that holds, and the other value where none does
+abbrev pub first_of : {X : Type 0} → List (Bool × X) → X → X
+first_of [] other = other
+first_of (row ∷ rows) other = if row.0 then row.1 else first_of rows other
+
+-- from low to high, both included
+abbrev pub is_within : ℕ → ℕ → ℕ → Bool
+is_within low high number = nat_le low number && nat_le number high
+
+-- a client of 1 to 1,024, and a number of 1 to 2^62
+abbrev pub is_dot : Dot → Bool
+is_dot dot = is_within 1 1024 dot.client && is_within 1 (2 ^ 62) dot.number
+
+-- a delta of at most 10^12, up or down
+abbrev pub is_small : Op → Bool
+is_small (Inc delta) = nat_le (unsigned_abs delta) 1000000000000
+
+-- the least centre with an entry above 1,000,000 is at fault
+abbrev pub snap_fault : List ℕ → Option TxFault
+snap_fault snap = option_map (λ place. BadSnap (place + 1)) (position (nat_lt 1000000) snap)
+
+-- what is wrong with the update at a place
+abbrev pub update_fault : ℕ → Update → Option TxFault
+update_fault place update = if is_small update.op then None else Some (DeltaTooLarge place)
+
+-- what is wrong with the first update at fault, where the first of all has that place
+abbrev pub updates_fault : ℕ → List Update → Option TxFault
+updates_fault place [] = None
+updates_fault place (update ∷ updates) = option_or (update_fault place update) (updates_fault (place + 1) updates)
+
+-- the first fault of a transaction among n centres
+abbrev pub fault_of : ℕ → Tx → Option TxFault
+fault_of n tx =
+    first_of (
+    (length tx.updates == 0, Some NoUpdates)
+    ∷ (nat_lt 256 (length tx.updates), Some (TooManyUpdates (length tx.updates)))
+    ∷ (not (is_dot tx.dot), Some BadDot)
+    ∷ (not (is_within 1 (2 ^ 62) tx.rank), Some BadRank)
+    ∷ (not (length tx.snap == n), Some (WrongWidth (length tx.snap)))
+    ∷ [])
+    (option_or (snap_fault tx.snap) (updates_fault 0 tx.updates))
+
+-- the delta lies in ±10^12
+abbrev pub HasSmallDelta : Op → Type 0
+HasSmallDelta (Inc delta) = (neg_ℤ (pos 1000000000000) ≤ℤ delta) × (delta ≤ℤ pos 1000000000000)
+
+-- a transaction that is fit for n centres
+pub record IsFit (n : ℕ) (tx : Tx) : Type 0 where
+  pub some : 1 ≤ length tx.updates
+  pub few : length tx.updates ≤ 256
+  pub client : (1 ≤ tx.dot.client) × (tx.dot.client ≤ 1024)
+  pub number : (1 ≤ tx.dot.number) × (tx.dot.number ≤ 2 ^ 62)
+  pub rank : (1 ≤ tx.rank) × (tx.rank ≤ 2 ^ 62)
+  pub width : length tx.snap ≡ n
+  pub snap : All (λ entry. entry ≤ 1000000) tx.snap
+  pub deltas : All (λ update. HasSmallDelta update.op) tx.updates

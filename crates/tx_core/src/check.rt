@@ -1,0 +1,203 @@
+// Which transactions are taken.
+ghost use Rattle.std.specs.Prelude.{◌≡◌, ◌≤◌, ◌<◌, ◌↔◌, Some, None, OnOk, IfErr, IfSome, IsOk, length, nat_lt, position};
+ghost use Rattle.tx_core.specs.Checks.{fault_of, is_dot, is_within, snap_fault, updates_fault, update_fault, IsFit};
+
+use crate::op::Op;
+use crate::tx::{Tx, Update};
+use ids_core::Dot;
+use vv_core::Vector;
+
+/// What is wrong with a transaction.
+#[derive(Clone, Copy, Debug, PartialEq, Eq)]
+pub enum TxFault {
+    /// There is no update.
+    NoUpdates,
+    /// There are more than 256 updates.
+    TooManyUpdates { count: u64 },
+    /// The client is outside 1 to 1,024, or the number is outside 1 to 2^62.
+    BadDot,
+    /// The rank is outside 1 to 2^62.
+    BadRank,
+    /// The snapshot has not the width asked for.
+    WrongWidth { width: u8 },
+    /// An entry of the snapshot is above 1,000,000; the least such centre.
+    BadSnap { centre: u8 },
+    /// The delta of the update at that place is outside ±10^12.
+    DeltaTooLarge { place: u16 },
+}
+
+impl Tx {
+    /// Whether the transaction is fit for a system of `n` centres. An `Err` names the first fault,
+    /// in the order of `TxFault`, and among the updates that of the least place.
+    pub fn check(&self, n: u8) -> Result<(), TxFault>
+        ensures taken { OnOk result (fault_of n self.now ≡ None) }
+        ensures refused { IfErr result (λ fault. fault_of n self.now ≡ Some fault) }
+        ensures fits { IsOk result ↔ IsFit n self.now }
+    {
+        match first_fault(self, n) {
+            None => Ok(()),
+            Some(fault) => Err(fault),
+        }
+    }
+}
+
+fn first_fault(tx: &Tx, n: u8) -> Option<TxFault>
+    ensures { result ≡ fault_of n tx.now }
+{
+    let updates = tx.updates.as_slice();
+    let width = tx.snap.width();
+    if updates.is_empty() {
+        Some(TxFault::NoUpdates)
+    } else if updates.len() > 256 {
+        let count = updates.len() as u64;
+        Some(TxFault::TooManyUpdates { count })
+    } else if !is_dot(&tx.dot) {
+        Some(TxFault::BadDot)
+    } else if !is_within(1, 1 << 62, tx.rank) {
+        Some(TxFault::BadRank)
+    } else if width != n {
+        Some(TxFault::WrongWidth { width })
+    } else {
+        match snap_fault(&tx.snap) {
+            None => updates_fault(updates),
+            Some(fault) => Some(fault),
+        }
+    }
+}
+
+fn is_dot(dot: &Dot) -> bool
+    ensures { result ≡ is_dot dot.now }
+{
+    is_within(1, 1024, u64::from(dot.client)) && is_within(1, 1 << 62, dot.number)
+}
+
+fn is_within(low: u64, high: u64, number: u64) -> bool
+    ensures { result ≡ is_within low high number }
+{
+    low <= number && number <= high
+}
+
+fn snap_fault(snap: &Vector) -> Option<TxFault>
+    ensures { result ≡ snap_fault snap.now }
+{
+    match high_place(snap.as_slice()) {
+        None => None,
+        Some(place) => {
+            let centre = (place + 1) as u8;
+            Some(TxFault::BadSnap { centre })
+        }
+    }
+}
+
+// The first place with an entry above 1,000,000.
+fn high_place(entries: &[u64]) -> Option<usize>
+    ensures place { result ≡ position (nat_lt 1000000) entries.now }
+    ensures inside { IfSome result (λ place. place < length entries.now) }
+{
+    entries.iter().position(|entry| 1_000_000 < *entry)
+}
+
+fn updates_fault(updates: &[Update]) -> Option<TxFault>
+    requires { length updates.now ≤ 256 }
+    ensures { result ≡ updates_fault 0 updates.now }
+{
+    for (place, update) in updates.iter().enumerate() {
+        if let Some(fault) = update_fault(place as u16, update) {
+            return Some(fault);
+        }
+    }
+    None
+}
+
+fn update_fault(place: u16, update: &Update) -> Option<TxFault>
+    ensures { result ≡ update_fault place update.now }
+{
+    match update.op {
+        Op::Inc { delta } => {
+            if delta.unsigned_abs() <= 1_000_000_000_000 {
+                None
+            } else {
+                Some(TxFault::DeltaTooLarge { place })
+            }
+        }
+    }
+}
+
+#[cfg(test)]
+mod tests {
+    use super::*;
+    use crate::tx::Updates;
+    use ids_core::{Name, ObjectId, Sort};
+    use std::alloc::Global;
+    use std::test::Fail;
+    use vv_core::Stamp;
+
+    fn update_of(object: &ObjectId, delta: i64) -> Update {
+        Update {
+            object: *object,
+            op: Op::Inc { delta },
+        }
+    }
+
+    // Of client 1, at rank 1, over two entries that are 0.
+    fn tx_of(alloc: Global, deltas: &[i64]) -> Result<Tx, Fail> {
+        let sort = Sort::Counter;
+        let name = Name::read(b"a")?;
+        let object = ObjectId { sort, name };
+        let mut items = Vec::new(alloc);
+        for delta in deltas {
+            items.push(update_of(&object, *delta))?;
+        }
+        let client = 1;
+        let number = 1;
+        Ok(Tx {
+            dot: Dot { client, number },
+            rank: 1,
+            snap: Vector::zero(2),
+            updates: Updates::from_vec(items),
+        })
+    }
+
+    #[test]
+    fn limits_are_taken(rt: HostRuntime) -> Result<(), Fail> {
+        let mut tx = tx_of(rt.alloc(), &[1_000_000_000_000, -1_000_000_000_000])?;
+        tx.dot.client = 1_024;
+        tx.dot.number = 1 << 62;
+        tx.rank = 1 << 62;
+        assert_eq!(rt; tx.snap.width(), 2);
+        let centre = 2;
+        let seq = 1_000_000;
+        tx.snap = tx.snap.raise(&Stamp { centre, seq });
+        assert_eq!(rt; tx.check(2), Ok(()));
+        let full = tx_of(rt.alloc(), &[1; 256])?;
+        assert_eq!(rt; full.check(2), Ok(()));
+        Ok(())
+    }
+
+    #[test]
+    fn the_first_fault_is_named(rt: HostRuntime) -> Result<(), Fail> {
+        let alloc = rt.alloc();
+        let empty = tx_of(alloc, &[])?;
+        assert_eq!(rt; empty.check(3), Err(TxFault::NoUpdates));
+        let long = tx_of(alloc, &[1; 257])?;
+        assert_eq!(rt; long.check(3), Err(TxFault::TooManyUpdates { count: 257 }));
+
+        let large = 1_000_000_000_001;
+        let mut tx = tx_of(alloc, &[1, -large, large])?;
+        assert_eq!(rt; tx.check(2), Err(TxFault::DeltaTooLarge { place: 1 }));
+        assert_eq!(rt; tx.snap.width(), 2);
+        let centre = 2;
+        let seq = 1_000_001;
+        tx.snap = tx.snap.raise(&Stamp { centre, seq });
+        assert_eq!(rt; tx.check(2), Err(TxFault::BadSnap { centre: 2 }));
+        assert_eq!(rt; tx.check(3), Err(TxFault::WrongWidth { width: 2 }));
+        tx.rank = 0;
+        assert_eq!(rt; tx.check(3), Err(TxFault::BadRank));
+        tx.dot.number = 0;
+        assert_eq!(rt; tx.check(3), Err(TxFault::BadDot));
+        tx.dot.number = 1;
+        tx.dot.client = 1_025;
+        assert_eq!(rt; tx.check(3), Err(TxFault::BadDot));
+        Ok(())
+    }
+}

@@ -1,0 +1,192 @@
+// Transactions and their records.
+ghost use Rattle.std.specs.Prelude.{◌≡◌, ◌==◌, [], length, IfOk, ◌∷◌, ◌++◌, OnOk, OnErr};
+
+use crate::op::Op;
+use ids_core::{Dot, NoMemory, ObjectId};
+use std::alloc::Global;
+use std::marker::Model;
+use vv_core::{Stamp, Vector};
+
+/// An operation on one object.
+#[derive(Clone, Debug, Drop)]
+pub struct Update {
+    pub object: ObjectId,
+    pub op: Op,
+}
+
+/// The updates of a transaction in their order, seen as their list.
+#[derive(Clone, Debug, Drop)]
+pub struct Updates {
+    items: Vec<Update>,
+}
+
+/// A transaction as its client commits it (Zawirski and others, Middleware 2015).
+#[derive(Clone, Debug, Drop)]
+pub struct Tx {
+    /// The client's own number for it.
+    pub dot: Dot,
+    /// Its rank, greater than that of all that the client had seen.
+    pub rank: u64,
+    /// The snapshot that it read.
+    pub snap: Vector,
+    pub updates: Updates,
+}
+
+/// A transaction as a centre took it.
+#[derive(Clone, Debug, Drop)]
+pub struct Record {
+    /// The centre's number for it.
+    pub stamp: Stamp,
+    /// What has to be at another centre before it.
+    pub deps: Vector,
+    pub tx: Tx,
+}
+
+impl Model for Updates {
+    ghost use Rattle.std.specs.Prelude.{List};
+    ghost use Rattle.tx_core.specs.declared.tx.Update.{Update};
+
+    ghost Value = { List Update };
+
+    ghost view = { λ u. u.items.items };
+}
+
+impl Update {
+    /// The same update again.
+    pub fn copy(&self) -> Result<Update, NoMemory>
+        ensures { IfOk result (λ copy. copy ≡ self.now) }
+    {
+        Ok(self.clone()?)
+    }
+}
+
+impl Updates {
+    /// No updates.
+    pub fn new(alloc: Global) -> Self
+        ensures { result ≡ [] }
+    {
+        Updates {
+            items: Vec::new(alloc),
+        }
+    }
+
+    /// Puts an update at the end. An `Err` leaves the updates as they were.
+    pub fn push(&mut self, update: Update) -> Result<(), NoMemory>
+        ensures ok { OnOk result (self.new ≡ self.old ++ update ∷ []) }
+        ensures err { OnErr result (self.new ≡ self.old) }
+    {
+        self.items.push(update)?;
+        Ok(())
+    }
+
+    /// The updates of a vector.
+    pub fn from_vec(items: Vec<Update>) -> Self
+        ensures { result ≡ items.items }
+    {
+        Updates { items }
+    }
+
+    /// The updates as a vector.
+    pub fn into_vec(self) -> Vec<Update>
+        ensures { result.items ≡ self }
+    {
+        self.items
+    }
+
+    /// The updates in their order.
+    pub fn as_slice(&self) -> &[Update]
+        ensures { result.now ≡ self.now }
+    {
+        self.items.as_slice()
+    }
+
+    /// How many there are.
+    pub fn len(&self) -> usize
+        ensures { result ≡ length self.now }
+    {
+        self.items.len()
+    }
+
+    /// Whether there is none.
+    pub fn is_empty(&self) -> bool
+        ensures { result ≡ (length self.now == 0) }
+    {
+        self.items.is_empty()
+    }
+
+    /// The same updates again.
+    pub fn copy(&self) -> Result<Updates, NoMemory>
+        ensures { IfOk result (λ copy. copy ≡ self.now) }
+    {
+        Ok(self.clone()?)
+    }
+}
+
+impl Tx {
+    /// The same transaction again.
+    pub fn copy(&self) -> Result<Tx, NoMemory>
+        ensures { IfOk result (λ copy. copy ≡ self.now) }
+    {
+        Ok(self.clone()?)
+    }
+}
+
+impl Record {
+    /// The same record again.
+    pub fn copy(&self) -> Result<Record, NoMemory>
+        ensures { IfOk result (λ copy. copy ≡ self.now) }
+    {
+        Ok(Record {
+            stamp: self.stamp,
+            deps: self.deps,
+            tx: self.tx.copy()?,
+        })
+    }
+}
+
+#[cfg(test)]
+mod tests {
+    use super::*;
+    use ids_core::{Name, Sort};
+    use std::test::Fail;
+
+    #[test]
+    fn records_are_copied_whole(rt: HostRuntime) -> Result<(), Fail> {
+        let alloc = rt.alloc();
+        let sort = Sort::Counter;
+        let name = Name::read(b"a")?;
+        let object = ObjectId { sort, name };
+        let update = Update {
+            object,
+            op: Op::Inc { delta: -7 },
+        };
+        let mut updates = Updates::new(alloc).into_vec();
+        updates.push(update.copy()?)?;
+        updates.push(update)?;
+        let tx = Tx {
+            dot: Dot {
+                client: 2,
+                number: 3,
+            },
+            rank: 9,
+            snap: Vector::zero(2),
+            updates: Updates::from_vec(updates).copy()?,
+        };
+        let record = Record {
+            stamp: Stamp { centre: 1, seq: 4 },
+            deps: Vector::zero(2),
+            tx: tx.copy()?,
+        };
+        let copy = record.copy()?;
+        assert_eq!(rt; copy.stamp, record.stamp);
+        assert_eq!(rt; copy.tx.dot, tx.dot);
+        assert_eq!(rt; copy.tx.rank, 9);
+        assert_eq!(rt; copy.tx.updates.len(), 2);
+        for update in copy.tx.updates.as_slice() {
+            let Op::Inc { delta } = update.op.copy()?;
+            assert_eq!(rt; update.object, object);
+            assert_eq!(rt; delta, -7);
+        }
+        Ok(())
+    }
+}

@@ -1,0 +1,4 @@
+pub mod Entrywise
+pub mod Covering
+pub mod Reaching
+pub mod Sound

@@ -1,0 +1,5 @@
+use Rattle.std.proofs.Common.{◌≡◌, ◌<◌, ℕ, get_or, max}
+use Rattle.vv_core.proofs.entries.join_entries.Given as goal
+
+abbrev pub invariant-loop-e : goal.invariant-loop-e
+invariant-loop-e l = (i : ℕ) → i < l.e → get_or l.into i 0 ≡ max (get_or l.left i 0) (get_or l.right i 0)

@@ -1,0 +1,263 @@
+// A vector of 1 to 8 entries, kept inline.
+ghost use Rattle.std.specs.Prelude.{◌≡◌, ◌≤◌, ◌↔◌, ℕ, IsTrue, IsNone, IfSome, All, length};
+ghost use Rattle.vv_core.specs.Vectors.{at, zeros, Covers, covers, join_of, meet_of, raised, within, width_of, kth_largest, lack_of, IsFirstLack};
+
+use crate::entries::{covers_entries, join_entries, kth_entries, meet_entries, raise_entry};
+use crate::stamp::{Lack, Stamp};
+use std::marker::Model;
+
+/// One number for each centre, seen as the list of the numbers. It has 1 to 8 entries, for the centres 1, 2 and
+/// so on. What lies behind them is 0. (Zawirski and others, Middleware 2015: version vectors.)
+#[derive(Clone, Copy, Debug)]
+pub struct Vector {
+    entries: [u64; 8],
+    width: u8,
+}
+
+impl Model for Vector {
+    ghost use Rattle.std.specs.Prelude.{ℕ, List, ◌++◌, ◌-◌, take, length, replicate};
+    ghost use Rattle.vv_core.specs.Padded.{IsPadded, repadded};
+
+    ghost Value = { List ℕ };
+
+    ghost view = { λ v. take v.width v.entries };
+
+    ghost invariant = { λ v. IsPadded v.entries v.width };
+
+    ghost inverse = { λ l. record { entries = l ++ replicate (8 - length l) 0; width = length l } };
+
+    ghost inverse_ok = { λ v h. repadded (λ entries width. record { entries = entries; width = width }) v.entries v.width h };
+}
+
+impl Vector {
+    /// The vector of `n` entries that are 0, for `n` in 1 to 8.
+    pub fn zero(n: u8) -> Vector
+        requires { (1 ≤ n) × (n ≤ 8) }
+        ensures { result ≡ zeros n }
+    {
+        Vector {
+            entries: [0; 8],
+            width: n,
+        }
+    }
+
+    /// The number of entries.
+    pub fn width(&self) -> u8
+        ensures width { result ≡ length self.now }
+        ensures range { (1 ≤ result) × (result ≤ 8) }
+    {
+        self.width
+    }
+
+    /// The entries in the order of the centres.
+    pub fn as_slice(&self) -> &[u64]
+        ensures value { result.now ≡ self.now }
+        ensures range { (1 ≤ length result.now) × (length result.now ≤ 8) }
+    {
+        &self.entries[..usize::from(self.width)]
+    }
+
+    /// The entry of a centre, counted from 1.
+    pub fn get(&self, centre: u8) -> u64
+        requires { (1 ≤ centre) × (centre ≤ length self.now) }
+        ensures { result ≡ at self.now centre }
+    {
+        self.entries[usize::from(centre - 1)]
+    }
+
+    /// Whether a stamp is within the vector: its number is at most the entry of its centre.
+    pub fn has(&self, stamp: &Stamp) -> bool
+        requires { (1 ≤ stamp.now.centre) × (stamp.now.centre ≤ length self.now) }
+        ensures test { result ≡ within stamp.now self.now }
+        ensures number { IsTrue result ↔ (stamp.now.seq ≤ at self.now stamp.now.centre) }
+    {
+        stamp.seq <= self.get(stamp.centre)
+    }
+
+    /// Whether no entry of the other is greater.
+    pub fn covers(&self, other: &Vector) -> bool
+        requires { length self.now ≡ length other.now }
+        ensures test { result ≡ covers self.now other.now }
+        ensures entries { IsTrue result ↔ Covers self.now other.now }
+    {
+        covers_entries(self.as_slice(), other.as_slice())
+    }
+
+    /// The greater of each two entries.
+    pub fn join(&self, other: &Vector) -> Vector
+        requires { length self.now ≡ length other.now }
+        ensures entries { result ≡ join_of self.now other.now }
+        ensures width { length result ≡ length self.now }
+    {
+        let mut entries = [0; 8];
+        join_entries(
+            &mut entries[..usize::from(self.width)],
+            self.as_slice(),
+            other.as_slice(),
+        );
+        Vector {
+            entries,
+            width: self.width,
+        }
+    }
+
+    /// The least of each two entries.
+    pub fn meet(&self, other: &Vector) -> Vector
+        requires { length self.now ≡ length other.now }
+        ensures entries { result ≡ meet_of self.now other.now }
+        ensures width { length result ≡ length self.now }
+    {
+        let mut entries = [0; 8];
+        meet_entries(
+            &mut entries[..usize::from(self.width)],
+            self.as_slice(),
+            other.as_slice(),
+        );
+        Vector {
+            entries,
+            width: self.width,
+        }
+    }
+
+    /// The join with one stamp: the entry of its centre becomes at least its number.
+    pub fn raise(&self, stamp: &Stamp) -> Vector
+        requires { (1 ≤ stamp.now.centre) × (stamp.now.centre ≤ length self.now) }
+        ensures entries { result ≡ raised self.now stamp.now }
+        ensures width { length result ≡ length self.now }
+    {
+        let mut entries = self.entries;
+        raise_entry(&mut entries[..usize::from(self.width)], stamp);
+        Vector {
+            entries,
+            width: self.width,
+        }
+    }
+
+    /// At each centre the greatest number that at least `k` rows reach. The rows have one width.
+    pub fn kth(rows: &[Vector], k: u8) -> Vector
+        requires k { (1 ≤ k) × (k ≤ length rows.now) }
+        requires rows { All (λ row. length row ≡ width_of rows.now) rows.now }
+        ensures entries { result ≡ kth_largest k rows.now }
+        ensures width { length result ≡ width_of rows.now }
+    {
+        let width = rows[0].width();
+        let mut entries = [0; 8];
+        kth_entries(&mut entries[..usize::from(width)], rows, usize::from(k));
+        Vector { entries, width }
+    }
+
+    /// The least centre where `need` exceeds `have`, with both numbers.
+    pub fn first_lack(have: &Vector, need: &Vector) -> Option<Lack>
+        requires { length have.now ≡ length need.now }
+        ensures lack { result ≡ lack_of have.now need.now }
+        ensures none { IsNone result ↔ Covers have.now need.now }
+        ensures some { IfSome result (IsFirstLack have.now need.now) }
+    {
+        for centre in 1..have.width() + 1 {
+            let h = have.get(centre);
+            let n = need.get(centre);
+            if h < n {
+                return Some(Lack {
+                    centre,
+                    need: n,
+                    have: h,
+                });
+            }
+        }
+        None
+    }
+}
+
+impl PartialEq for Vector {
+    ghost use Rattle.std.specs.Prelude.{◌==◌};
+    ghost use Rattle.std.proofs.Common.{rules};
+    ghost use Rattle.std.specs.Cmp.Rules.{comparing};
+    ghost use lib.Pointwise.{pointwise};
+
+    ghost eq = { pointwise ◌==◌ };
+
+    ghost laws = { Prim.search (comparing, rules) };
+
+    fn eq(&self, other: &Vector) -> bool {
+        self.as_slice() == other.as_slice()
+    }
+}
+
+impl Eq for Vector {
+    ghost use Rattle.std.proofs.Common.{rules};
+    ghost use Rattle.std.specs.Cmp.Rules.{comparing};
+
+    ghost laws = { Prim.search (comparing, rules) };
+}
+
+#[cfg(test)]
+mod tests {
+    use super::*;
+
+    fn pair(first: u64, second: u64) -> Vector
+        ensures { length result ≡ 2 }
+    {
+        Vector::zero(2)
+            .raise(&Stamp {
+                centre: 1,
+                seq: first,
+            })
+            .raise(&Stamp {
+                centre: 2,
+                seq: second,
+            })
+    }
+
+    #[test]
+    fn kth_is_reached_by_k_rows(rt: HostRuntime) {
+        let rows = [pair(3, 1), pair(2, 5), pair(4, 4)];
+        assert_eq!(rt; Vector::kth(&rows, 1), pair(4, 5));
+        assert_eq!(rt; Vector::kth(&rows, 2), pair(3, 4));
+        assert_eq!(rt; Vector::kth(&rows, 3), pair(2, 1));
+    }
+
+    #[test]
+    fn entries_are_combined(rt: HostRuntime) {
+        let v = pair(3, 1);
+        let w = pair(2, 5);
+        assert_eq!(rt; v.as_slice(), [3, 1].as_slice());
+        assert_eq!(rt; v.width(), 2);
+        assert_eq!(rt; v.get(2), 1);
+        assert_eq!(rt; v.join(&w), pair(3, 5));
+        assert_eq!(rt; v.meet(&w), pair(2, 1));
+        assert_eq!(rt; v.raise(&Stamp { centre: 2, seq: 4 }), pair(3, 4));
+        assert_eq!(rt; v.raise(&Stamp { centre: 1, seq: 2 }), v);
+        assert_ne!(rt; v, w);
+    }
+
+    #[test]
+    fn lacks_are_found(rt: HostRuntime) {
+        let have = pair(3, 1);
+        for (need, lack) in [
+            (pair(3, 1), None),
+            (pair(2, 0), None),
+            (
+                pair(2, 5),
+                Some(Lack {
+                    centre: 2,
+                    need: 5,
+                    have: 1,
+                }),
+            ),
+            (
+                pair(4, 5),
+                Some(Lack {
+                    centre: 1,
+                    need: 4,
+                    have: 3,
+                }),
+            ),
+        ] {
+            assert_eq!(rt; Vector::first_lack(&have, &need), lack);
+            assert_eq!(rt; have.covers(&need), lack.is_none());
+        }
+        for (centre, seq, within) in [(1, 3, true), (1, 4, false), (2, 1, true), (2, 2, false)] {
+            assert_eq!(rt; have.has(&Stamp { centre, seq }), within);
+        }
+    }
+}
