@@ -11,6 +11,8 @@ use Rattle.dc_talk.specs.declared.ask.Ask.{Ask}
 use Rattle.dc_talk.specs.declared.ask.Ask.TheVariants.{Hello, Refresh, Fetch, Commit}
 use Rattle.dc_talk.specs.declared.say.Say.{Say}
 use Rattle.dc_talk.specs.declared.say.Say.TheVariants.{Misfit, Lacks, Welcome, Snap, Object, Known, OutOfOrder, Full, Stamped}
+use Rattle.dc_talk.specs.declared.session.Call.TheVariants.{Commit as CommitCall}
+use Rattle.dc_talk.specs.declared.session.Outcome.TheVariants.{Number}
 use Rattle.dc_talk.specs.declared.session.Link.{Link}
 use Rattle.dc_talk.specs.declared.session.Cached.{Cached}
 use Rattle.dc_talk.specs.declared.log.Fate.{Fate}
@@ -69,6 +71,20 @@ after s _ = s
 -- the client after these notes of its log, from its first state among n centres
 abbrev pub client_after : ℕ → ℕ → ℕ → List Note → Client
 client_after n client capacity notes = fold (λ s note. after s note.deed) (new_client n client capacity) notes
+
+-- the transaction that a deed commits
+abbrev pub commit_in : Client → Deed → List Tx
+commit_in s (Did CommitCall (Number number)) = next_tx s (draft_updates s) ∷ []
+commit_in s _ = []
+
+-- the transactions that the notes commit, in order, for a client that is so before them
+abbrev pub commits_from : Client → List Note → List Tx
+commits_from s [] = []
+commits_from s (note ∷ notes) = commit_in s note.deed ++ commits_from (after s note.deed) notes
+
+-- the transactions that these notes of a client's log commit, in order
+abbrev pub commits_of : ℕ → ℕ → ℕ → List Note → List Tx
+commits_of n client capacity notes = commits_from (new_client n client capacity) notes
 
 -- the asks that a client makes: a hello to come to a centre, a refresh and a fetch at its snapshot
 abbrev pub hello_of : Client → Ask

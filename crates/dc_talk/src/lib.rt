@@ -3,6 +3,7 @@
 #![tactic(auto)]
 
 mod ask;
+mod fold;
 mod line;
 mod log;
 mod say;
@@ -10,6 +11,7 @@ mod session;
 mod trail;
 
 pub use ask::Ask;
+pub use fold::fold_updates;
 pub use line::{Line, Miss, PushEnd, StepWord};
 pub use log::{Deed, Fate, Log, Note};
 pub use say::Say;

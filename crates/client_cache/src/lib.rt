@@ -1,0 +1,6 @@
+//! The cache of a client: states of objects at vectors, the most recently used first.
+#![tactic(auto)]
+
+mod cache;
+
+pub use cache::Cache;

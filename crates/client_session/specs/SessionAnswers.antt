@@ -1,0 +1,47 @@
+-- What a session answers.
+use Rattle.std.specs.Prelude.{ℕ, Bool, true, false, cond, length, Option, Some, None, is_some, Result, Ok, Err}
+use Rattle.std.specs.Option.{option_map, unwrap_or}
+use Rattle.ids_core.specs.declared.object.ObjectId.{ObjectId}
+use Rattle.dc_talk.specs.declared.ask.Ask.{Ask}
+use Rattle.dc_talk.specs.declared.ask.Ask.TheVariants.{Commit}
+use Rattle.dc_talk.specs.declared.say.Say.{Say}
+use Rattle.dc_talk.specs.declared.say.Say.TheVariants.{Object}
+use Rattle.dc_talk.specs.declared.session.Link.{Link}
+use Rattle.dc_talk.specs.declared.session.Refusal.{Refusal}
+use Rattle.dc_talk.specs.declared.session.Refusal.TheVariants.{NotConnected, AlreadyOpen}
+use Rattle.dc_talk.specs.Clients.{Client}
+use Rattle.dc_talk.specs.Rule.{refresh_of, fetch_of, next_commit}
+use Rattle.client_session.specs.declared.session.Heard.{Heard}
+use Rattle.client_session.specs.declared.session.Heard.TheVariants.{Took, Ignored}
+use Rattle.client_session.specs.declared.session.Facts.{Facts}
+
+-- an answer over the link, refused where there is none
+abbrev pub over_link : {X : Type 0} → Option Link → (Link → Result X Refusal) → Result X Refusal
+over_link None answer = Err NotConnected
+over_link (Some link) answer = answer link
+
+-- the refresh that the client asks, and the centre that it asks
+abbrev pub refresh_ask : Client → Result (ℕ × Ask) Refusal
+refresh_ask s = over_link s.link (λ link. cond (is_some s.draft) (Err AlreadyOpen) (Ok (link.centre, refresh_of s)))
+
+-- the fetch that the client asks, and the centre that it asks
+abbrev pub fetch_ask : Client → ObjectId → Result (ℕ × Ask) Refusal
+fetch_ask s o = over_link s.link (λ link. Ok (link.centre, fetch_of s o))
+
+-- the commit that the client asks next, and the centre that it asks
+abbrev pub commit_ask : Client → Result (Option (ℕ × Ask)) Refusal
+commit_ask s = over_link s.link (λ link. Ok (option_map (λ tx. (link.centre, Commit tx)) (next_commit s link)))
+
+-- whether it was taken
+abbrev pub heard_as : Bool → Heard
+heard_as true = Took
+heard_as false = Ignored
+
+-- whether the answer is the state of an object
+abbrev pub is_object : Say → Bool
+is_object (Object state) = true
+is_object _ = false
+
+-- what can be read off the client
+abbrev pub facts_of : Client → Facts
+facts_of s = record { vector = s.vector; own = s.own; mine = s.mine; clock = s.clock; is_open = is_some s.draft; centre = option_map (λ link. link.centre) s.link; sent = unwrap_or (option_map (λ link. link.sent) s.link) 0; pending = length s.pending }

@@ -1,0 +1,7 @@
+//! A client's session: its snapshot, its commits, its open transaction and its cache, and what it asks
+//! of a centre and hears (Middleware 2015).
+#![tactic(auto)]
+
+mod session;
+
+pub use session::{Facts, Heard, Session};

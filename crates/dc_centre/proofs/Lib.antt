@@ -1,0 +1,5 @@
+pub mod Dots
+pub mod Rows
+pub mod Stamping
+pub mod Standing
+pub mod Desks

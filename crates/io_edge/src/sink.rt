@@ -1,0 +1,30 @@
+ghost use Rattle.std.specs.Prelude.{◌≡◌, ◌≢◌, ◌<◌, ◌≤◌, List, ℕ, Option, length, take, IfOk, OnErr};
+ghost use Rattle.io_edge.specs.Streams.{HasRisen, puts_behind};
+
+/// Why a write took nothing.
+#[derive(Clone, Copy, Debug, PartialEq, Eq)]
+pub enum WriteFault {
+    /// The outside failed.
+    Failed,
+    /// There is no memory to keep the bytes in.
+    NoMemory,
+}
+
+/// Where bytes are written to. A sink may tell which bytes it took, and counts its faults.
+pub trait Sink {
+    /// The bytes taken, where the sink tells them.
+    ghost taken: { Self → Option (List ℕ) };
+
+    /// How often it has failed. A call that doesn't answer `Failed` leaves this count as it was.
+    ghost faults: { Self → ℕ };
+
+    /// Takes bytes from the front of `piece`, of a nonempty one at least one, and answers how many.
+    fn write(&mut self, piece: &[u8]) -> Result<usize, WriteFault>
+        ensures count { IfOk result (λ n. n ≤ length piece.now) }
+        ensures some { 0 < length piece.now → IfOk result (λ n. 0 < n) }
+        ensures bytes { IfOk result (λ n. taken self.new ≡ puts_behind (take n piece.now) (taken self.old)) }
+        ensures quiet { result ≢ Err WriteFault.Failed → faults self.new ≡ faults self.old }
+
+        ensures risen { result ≡ Err WriteFault.Failed → HasRisen (faults self.old) (faults self.new) }
+        ensures kept { OnErr result (taken self.new ≡ taken self.old) };
+}

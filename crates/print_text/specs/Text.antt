@@ -1,0 +1,146 @@
+-- The text of a book.
+use Rattle.std.specs.Prelude.{◌≡◌, ℕ, ◌==◌, ◌≤◌, List, [], ◌∷◌, ◌++◌, map, filter, flat_map, codes, decimal}
+use Rattle.std.specs.List.{join_with_byte, range_with_len}
+use Rattle.std.specs.Fmt.{signed_decimal}
+use Rattle.ids_core.specs.declared.object.ObjectId.{ObjectId}
+use Rattle.ids_core.specs.declared.object.Sort.{Sort}
+use Rattle.ids_core.specs.declared.object.Sort.TheVariants.{Counter}
+use Rattle.vv_core.specs.declared.stamp.Lack.{Lack}
+use Rattle.vv_core.specs.declared.stamp.Stamp.{Stamp}
+use Rattle.vv_core.specs.Vectors.{most}
+use Rattle.tx_core.specs.declared.state.Value.{Value}
+use Rattle.tx_core.specs.declared.state.Value.TheVariants.{Number}
+use Rattle.dc_talk.specs.declared.line.Line.{Line}
+use Rattle.dc_talk.specs.declared.line.Line.TheVariants.{At, Refused, ConnectMissed, BeginOpen, BeginClock, Closed, ManyUpdates, Unconnected, FetchMissed, FetchLacks, FetchIgnored, ReadValue, CommitNumber, CommitNone, CommitClosed, CommitPending, PushUnconnected, PushNone, Push, Sees, RefreshUnconnected, RefreshOpen, RefreshLacks, RefreshMissed, RefreshIgnored}
+use Rattle.dc_talk.specs.declared.line.Miss.{Miss}
+use Rattle.dc_talk.specs.declared.line.Miss.TheVariants.{Misfit}
+use Rattle.dc_talk.specs.declared.line.PushEnd.{PushEnd}
+use Rattle.dc_talk.specs.declared.line.PushEnd.TheVariants.{Stamped, Known, Full, Order, Lacks, Missed}
+use Rattle.dc_talk.specs.declared.line.StepWord.{StepWord}
+use Rattle.dc_talk.specs.declared.line.StepWord.TheVariants.{Inc, Read}
+use Rattle.dc_talk.specs.declared.log.Deed.{Deed}
+use Rattle.dc_talk.specs.declared.log.Deed.TheVariants.{Told}
+use Rattle.dc_talk.specs.declared.log.Note.{Note}
+use Rattle.dc_talk.specs.Logs.{Logged}
+
+-- a client: `c1`
+abbrev pub client_text : ℕ → List ℕ
+client_text client = codes "c" ++ decimal client
+
+-- a vector: its entries with commas between them
+abbrev pub vector_text : List ℕ → List ℕ
+vector_text vector = join_with_byte 44 (map decimal vector)
+
+-- an entry of a vector behind the first one
+abbrev pub later_text : ℕ → List ℕ
+later_text entry = codes "," ++ decimal entry
+
+-- a stamp: the centre and the number, with a colon between them
+abbrev pub stamp_text : Stamp → List ℕ
+stamp_text stamp = decimal stamp.centre ++ codes ":" ++ decimal stamp.seq
+
+-- the letter of a kind of objects
+abbrev pub sort_text : Sort → List ℕ
+sort_text Counter = codes "c"
+
+-- an object: the letter of its kind, a full stop and its name
+abbrev pub object_text : ObjectId → List ℕ
+object_text object = sort_text object.sort ++ codes "." ++ object.name
+
+-- the value of a counter: a decimal number, with `-` where it is negative
+abbrev pub value_text : Value → List ℕ
+value_text (Number sum) = signed_decimal sum
+
+-- what is lacked: the entry that is needed and the one that is there
+abbrev pub lack_text : Lack → List ℕ
+lack_text lack = codes "lacks " ++ decimal lack.centre ++ codes ":" ++ decimal lack.need ++ codes " has " ++ decimal lack.have
+
+-- why an ask has no reply that counts
+abbrev pub miss_text : Miss → List ℕ
+miss_text Misfit = codes "misfit"
+
+-- the word of a step on an object
+abbrev pub word_text : StepWord → List ℕ
+word_text Inc = codes "inc"
+word_text Read = codes "read"
+
+-- a client's step on an object
+abbrev pub step_text : ℕ → StepWord → ObjectId → List ℕ
+step_text client word object = client_text client ++ codes " " ++ word_text word ++ codes " " ++ object_text object
+
+-- how a push ended
+abbrev pub end_text : PushEnd → List ℕ
+end_text (Stamped stamp) = codes "stamp " ++ stamp_text stamp
+end_text (Known through) = codes "known " ++ decimal through
+end_text (Full limit) = codes "full " ++ decimal limit
+end_text (Order have) = codes "order " ++ decimal have
+end_text (Lacks lack) = lack_text lack
+end_text (Missed miss) = miss_text miss
+
+-- a line, without its line feed
+abbrev pub line_text : Line → List ℕ
+line_text (At client centre) = client_text client ++ codes " at " ++ decimal centre
+line_text (Refused client centre lack) = client_text client ++ codes " refused " ++ decimal centre ++ codes " " ++ lack_text lack
+line_text (ConnectMissed client centre miss) = client_text client ++ codes " connect " ++ decimal centre ++ codes " " ++ miss_text miss
+line_text (BeginOpen client) = client_text client ++ codes " begin open"
+line_text (BeginClock client) = client_text client ++ codes " begin clock"
+line_text (Closed client word object) = step_text client word object ++ codes " closed"
+line_text (ManyUpdates client word object) = step_text client word object ++ codes " many 256"
+line_text (Unconnected client word object) = step_text client word object ++ codes " unconnected"
+line_text (FetchMissed client word object miss) = step_text client word object ++ codes " " ++ miss_text miss
+line_text (FetchLacks client word object lack) = step_text client word object ++ codes " " ++ lack_text lack
+line_text (FetchIgnored client word object) = step_text client word object ++ codes " ignored"
+line_text (ReadValue client object value) = step_text client Read object ++ codes " " ++ value_text value
+line_text (CommitNumber client number) = client_text client ++ codes " commit " ++ decimal number
+line_text (CommitNone client) = client_text client ++ codes " commit none"
+line_text (CommitClosed client) = client_text client ++ codes " commit closed"
+line_text (CommitPending client) = client_text client ++ codes " commit pending 1024"
+line_text (PushUnconnected client) = client_text client ++ codes " push unconnected"
+line_text (PushNone client) = client_text client ++ codes " push none"
+line_text (Push client number end) = client_text client ++ codes " push " ++ decimal number ++ codes " " ++ end_text end
+line_text (Sees client vector mine) = client_text client ++ codes " sees " ++ vector_text vector ++ codes " own " ++ decimal mine
+line_text (RefreshUnconnected client) = client_text client ++ codes " refresh unconnected"
+line_text (RefreshOpen client) = client_text client ++ codes " refresh open"
+line_text (RefreshLacks client lack) = client_text client ++ codes " refresh " ++ lack_text lack
+line_text (RefreshMissed client miss) = client_text client ++ codes " refresh " ++ miss_text miss
+line_text (RefreshIgnored client) = client_text client ++ codes " refresh ignored"
+
+-- the line that a deed tells, with its line feed, and nothing of the other deeds
+abbrev pub told_text : Deed → List ℕ
+told_text (Told line) = line_text line ++ codes "\n"
+told_text _ = []
+
+-- the lines of the notes, in their order
+abbrev pub notes_text : List Note → List ℕ
+notes_text notes = flat_map (λ note. told_text note.deed) notes
+
+-- the notes of a section
+abbrev pub notes_in : ℕ → List Note → List Note
+notes_in section notes = filter (λ note. note.section == section) notes
+
+-- the lines of a section's notes
+abbrev pub section_text : ℕ → List Note → List ℕ
+section_text section notes = notes_text (notes_in section notes)
+
+-- the logs with the first one, the operator's, behind all others
+abbrev pub operator_last : List Logged → List Logged
+operator_last [] = []
+operator_last (operator ∷ others) = others ++ operator ∷ []
+
+-- the greatest section of the notes of the logs, and 0 where there are none
+abbrev pub last_section : List Logged → ℕ
+last_section logs = most (map (λ note. note.section) (flat_map (λ log. log.notes) logs))
+
+-- the text of the logs of all actors: section by section the lines of the clients, in the order of
+-- the clients, and those of the operator last
+abbrev pub text_of : List Logged → List ℕ
+text_of logs = flat_map (λ section. flat_map (λ log. section_text section log.notes) (operator_last logs)) (range_with_len 1 (last_section logs))
+
+-- a log without notes
+abbrev pub IsSilent : Logged → Type 0
+IsSilent log = log.notes ≡ []
+
+-- the sections of the notes never fall, the first is at least one number and the last at most another
+abbrev pub Ascend : ℕ → ℕ → List Note → Type 0
+Ascend first last [] = Unit {0}
+Ascend first last (note ∷ notes) = (first ≤ note.section) × (note.section ≤ last) × Ascend note.section last notes

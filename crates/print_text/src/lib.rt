@@ -1,0 +1,6 @@
+//! The text of lines, of logs and of books.
+#![tactic(auto)]
+
+mod text;
+
+pub use text::{log_text, write_deed, write_line};

@@ -1,0 +1,5 @@
+pub mod Books
+pub mod Parts
+pub mod Fit
+pub mod Scripted
+pub mod Graphs

@@ -1,0 +1,7 @@
+pub mod Limits
+pub mod LineCounts
+pub mod Lines
+pub mod Steps
+pub mod Shapes
+pub mod Scripts
+pub mod Deeds
