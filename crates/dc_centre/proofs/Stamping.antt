@@ -1,6 +1,6 @@
 -- A centre at first, and one that has one record more.
-use Rattle.std.proofs.Common.{◌≡◌, ◌≤◌, ◌<◌, ℕ, zero, suc, ◌+◌, Bool, true, false, cond, List, [], ◌∷◌, ◌++◌, length, Option, Some, None, ◌⊎◌, inl, inr, ⊎_elim, max, refl, sym, ap, ◌∙◌, subst, arith}
-use Rattle.std.specs.Prelude.{All, ◌==◌, count_by}
+use Rattle.std.proofs.Common.{◌≡◌, ◌≤◌, ◌<◌, ℕ, ◌+◌, true, false, cond, List, [], ◌∷◌, ◌++◌, Some, ◌⊎◌, inl, inr, ⊎_elim, max, refl, sym, ap, ◌∙◌, subst, arith}
+use Rattle.std.specs.Prelude.{All, ◌==◌}
 use Rattle.std.proofs.lemmas.List.Elements.{All-nil, All-cons, All-append, All-head, All-tail}
 use Rattle.std.proofs.lemmas.Bool.{cases_Bool, false≢true}
 use Rattle.std.proofs.lemmas.Bool.Decides.{Decides-eqb}
@@ -9,7 +9,7 @@ use Rattle.tx_core.specs.Checks.{IsFit}
 use Rattle.dc_centre.proofs.Dots.{distinct_more, new_dot}
 use Rattle.std.proofs.lemmas.Option.{none-some, same_Some}
 use Rattle.tx_core.specs.declared.tx.Record.{Record}
-use Rattle.vv_core.specs.Vectors.{zeros, at, tabulate, raised}
+use Rattle.vv_core.specs.Vectors.{zeros, at, raised}
 use Rattle.vv_core.proofs.Entrywise.{length-zeros, is_tabulate, at-tabulate, at-zeros, raised-tabulate, same_tabulate, length-raised}
 use Rattle.vv_core.specs.declared.stamp.Stamp.{Stamp}
 use Rattle.ids_core.specs.declared.ids.Dot.{Dot}

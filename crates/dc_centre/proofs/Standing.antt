@@ -1,8 +1,7 @@
 -- A centre that stands for a trail answers as is defined for that trail.
-use Rattle.std.proofs.Common.{◌≡◌, ℕ, Bool, true, false, cond, List, [], ◌∷◌, ◌++◌, Option, Some, None, refl, sym, ap, ◌∙◌, subst}
+use Rattle.std.proofs.Common.{◌≡◌, ℕ, true, false, cond, List, [], ◌∷◌, Option, Some, None, refl, sym, ap, ◌∙◌}
 use Rattle.std.specs.Prelude.{map, fold, ◌==◌, is_none, Result, Ok, Err, IfOk}
 use Rattle.ids_core.specs.declared.memory.NoMemory.{NoMemory}
-use Rattle.std.proofs.lemmas.List.Sums.{fold_push}
 use Rattle.vv_core.specs.Vectors.{zeros, centres, meet_of, kth_largest}
 use Rattle.tx_core.specs.declared.tx.Tx.{Tx}
 use Rattle.tx_core.specs.declared.check.TxFault.{TxFault}
@@ -14,9 +13,9 @@ use Rattle.dc_talk.specs.declared.say.Say.{Say}
 use Rattle.dc_talk.specs.declared.say.Say.TheVariants.{Misfit}
 use Rattle.dc_talk.specs.declared.trail.Entry.{Entry}
 use Rattle.dc_talk.specs.Records.{vector}
-use Rattle.dc_talk.specs.Trails.{applied, grown, told, taught, taught_in, rows, stable}
+use Rattle.dc_talk.specs.Trails.{applied, taught, taught_in, rows, stable}
 use Rattle.dc_talk.specs.Answers.{fits, answer, row, hello_answer, refresh_answer, fetch_answer, commit_answer}
-use Rattle.dc_centre.specs.Centre.{Holds, StandsFor, lone_rows, lone_stable, row_over, after_reply}
+use Rattle.dc_centre.specs.Centre.{Holds, StandsFor, lone_rows, lone_stable, row_over}
 
 -- nobody tells anything yet
 told_from : (j : ℕ) (row : List ℕ) (trail : List Entry) → fold (λ row entry. taught j row (taught_in entry.ask entry.say)) row trail ≡ row
@@ -46,12 +45,6 @@ answers_row c trail ask stands fit = row_is c trail ask stands.records ∙ sym (
 pub answers_misfit : (me n k limit : ℕ) (trail : List Entry) (ask : Ask) → fits n ask ≡ false → Misfit ≡ answer me n k limit trail ask
 unfolding answer
 answers_misfit me n k limit trail ask misfit = sym (rw misfit refl)
-
--- the trail with the entry
-pub stands_more : (c : Holds) (trail : List Entry) (caller : ℕ) (ask : Ask) (say : Say) → StandsFor c trail → StandsFor (after_reply c ask say) (trail ++ record { caller = caller; ask = ask; say = say } ∷ [])
-stands_more c trail caller ask say stands =
-    let entry : Entry = record { caller = caller; ask = ask; say = say } in
-    record { records = ap (λ A. grown c.n A entry) stands.records ∙ sym (fold_push (grown c.n) [] trail entry) }
 
 no_fault : (fault : Option TxFault) → is_none fault ≡ true → fault ≡ None
 no_fault None h = refl

@@ -1,6 +1,5 @@
 -- What a centre holds, and what it answers over that.
-use Rattle.std.specs.Prelude.{◌≡◌, ◌≤◌, ℕ, ◌+◌, Bool, true, false, ◌||◌, ◌&&◌, not, cond, ◌==◌, map, length, All, List, [], ◌∷◌, ◌++◌, Some}
-use Rattle.ids_core.specs.declared.ids.Dot.{Dot}
+use Rattle.std.specs.Prelude.{◌≡◌, ◌≤◌, ℕ, ◌+◌, Bool, true, ◌&&◌, not, cond, ◌==◌, map, length, All, List, [], ◌∷◌, ◌++◌, Some}
 use Rattle.vv_core.specs.Vectors.{at, zeros, centres, meet_of, kth_largest}
 use Rattle.vv_core.specs.declared.stamp.Stamp.{Stamp}
 use Rattle.tx_core.specs.declared.tx.Tx.{Tx}

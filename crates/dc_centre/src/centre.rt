@@ -327,3 +327,158 @@ impl Centre {
         self.reply(alloc, ask)
     }
 }
+
+#[cfg(test)]
+mod tests {
+    use super::*;
+    use ids_core::{Name, Sort};
+    use std::test::Fail;
+    use tx_core::{Op, Update, Updates};
+
+    // The vector of one entry.
+    fn at(seq: u64) -> Vector
+        ensures { length result ≡ 1 }
+    {
+        Vector::zero(1).raise(&Stamp { centre: 1, seq })
+    }
+
+    fn counter() -> Result<ObjectId, Fail> {
+        let sort = Sort::Counter;
+        let name = Name::read(b"a")?;
+        Ok(ObjectId { sort, name })
+    }
+
+    // The commit of client 1 that adds 5, under this number as its rank too.
+    fn commit_of(alloc: Global, number: u64, snap: Vector) -> Result<Ask, Fail> {
+        let object = counter()?;
+        let op = Op::Inc { delta: 5 };
+        let mut updates = Updates::new(alloc);
+        updates.push(Update { object, op })?;
+        let client = 1;
+        let tx = Tx {
+            dot: Dot { client, number },
+            rank: number,
+            snap,
+            updates,
+        };
+        Ok(Ask::Commit { tx })
+    }
+
+    // What the centre answers, as it is printed; of a state its value.
+    fn said(alloc: Global, centre: &mut Centre, ask: &Ask) -> Result<String, Fail> {
+        match centre.step(alloc, ask)? {
+            (Say::Object { state }, _) => {
+                let value = state.value(alloc)?;
+                Ok(format!(in alloc; "{value:?}")?)
+            }
+            (say, _) => Ok(format!(in alloc; "{say:?}")?),
+        }
+    }
+
+    fn fetched(alloc: Global, centre: &mut Centre, at: Vector) -> Result<String, Fail> {
+        let object = counter()?;
+        said(alloc, centre, &Ask::Fetch { object, at })
+    }
+
+    fn refreshed(alloc: Global, centre: &mut Centre, at: Vector) -> Result<String, Fail> {
+        let client = 1;
+        said(alloc, centre, &Ask::Refresh { client, at })
+    }
+
+    #[test]
+    fn stamps_and_shows_one_commit(rt: HostRuntime) -> Result<(), Fail> {
+        let alloc = rt.alloc();
+        let client = 1;
+        let mut centre = Centre::new(alloc, 1, 1, 1, 1)?;
+        let say = said(
+            alloc,
+            &mut centre,
+            &Ask::Hello {
+                client,
+                need: at(0),
+            },
+        )?;
+        assert_eq!(rt; say.as_str(), "Welcome { through: 0 }");
+        assert_eq!(rt; fetched(alloc, &mut centre, at(0))?.as_str(), "Number(0)");
+        let say = said(alloc, &mut centre, &commit_of(alloc, 1, at(0))?)?;
+        assert_eq!(rt;
+            say.as_str(),
+            "Stamped { stamp: Stamp { centre: 1, seq: 1 } }"
+        );
+        let say = refreshed(alloc, &mut centre, at(0))?;
+        assert_eq!(rt;
+            say.as_str(),
+            "Snap { vector: Vector { entries: [1, 0, 0, 0, 0, 0, 0, 0], width: 1 }, mine: 1, top: 1 }"
+        );
+        assert_eq!(rt; fetched(alloc, &mut centre, at(0))?.as_str(), "Number(0)");
+        assert_eq!(rt; fetched(alloc, &mut centre, at(1))?.as_str(), "Number(5)");
+        Ok(())
+    }
+
+    #[test]
+    fn refuses_what_it_cannot_stamp(rt: HostRuntime) -> Result<(), Fail> {
+        let alloc = rt.alloc();
+        let mut centre = Centre::new(alloc, 1, 1, 1, 1)?;
+        for (number, snap, want) in [
+            (1, 0, "Stamped { stamp: Stamp { centre: 1, seq: 1 } }"),
+            (1, 0, "Known { through: 1 }"),
+            (3, 0, "OutOfOrder { have: 1 }"),
+            (2, 2, "Lacks { centre: 1, need: 2, have: 1 }"),
+            (2, 1, "Full { limit: 1 }"),
+        ] {
+            let say = said(alloc, &mut centre, &commit_of(alloc, number, at(snap))?)?;
+            assert_eq!(rt; say.as_str(), want);
+        }
+        let client = 1;
+        for (need, want) in [
+            (at(1), "Welcome { through: 1 }"),
+            (at(2), "Lacks { centre: 1, need: 2, have: 1 }"),
+            (Vector::zero(2), "Misfit"),
+        ] {
+            let say = said(alloc, &mut centre, &Ask::Hello { client, need })?;
+            assert_eq!(rt; say.as_str(), want);
+        }
+        Ok(())
+    }
+
+    #[test]
+    fn a_commit_is_stable_once_k_centres_know_it(rt: HostRuntime) -> Result<(), Fail> {
+        let alloc = rt.alloc();
+        let none = Vector::zero(2);
+        for (k, want) in [
+            (
+                1,
+                "Snap { vector: Vector { entries: [1, 0, 0, 0, 0, 0, 0, 0], width: 2 }, mine: 1, top: 1 }",
+            ),
+            (
+                2,
+                "Snap { vector: Vector { entries: [0, 0, 0, 0, 0, 0, 0, 0], width: 2 }, mine: 0, top: 1 }",
+            ),
+        ] {
+            assert!(rt; 1 <= k && k <= 2);
+            let mut centre = Centre::new(alloc, 1, 2, k, 10)?;
+            let say = said(alloc, &mut centre, &commit_of(alloc, 1, none)?)?;
+            assert_eq!(rt;
+                say.as_str(),
+                "Stamped { stamp: Stamp { centre: 1, seq: 1 } }"
+            );
+            let say = refreshed(alloc, &mut centre, none)?;
+            assert_eq!(rt; say.as_str(), want);
+        }
+        Ok(())
+    }
+
+    #[test]
+    fn a_commit_depends_on_the_one_before(rt: HostRuntime) -> Result<(), Fail> {
+        let alloc = rt.alloc();
+        let mut centre = Centre::new(alloc, 1, 1, 1, 10)?;
+        for number in [1, 2, 3] {
+            said(alloc, &mut centre, &commit_of(alloc, number, at(0))?)?;
+        }
+        assert_eq!(rt; centre.records.len(), 3);
+        assert_eq!(rt; centre.records[0].deps, at(0));
+        assert_eq!(rt; centre.records[1].deps, at(1));
+        assert_eq!(rt; centre.records[2].deps, at(2));
+        Ok(())
+    }
+}

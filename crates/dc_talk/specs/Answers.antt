@@ -1,10 +1,9 @@
 -- The answer of a centre to an ask, from its whole trail.
-use Rattle.std.specs.Prelude.{◌≡◌, ℕ, ◌+◌, ◌^◌, Bool, ◌&&◌, not, cond, nat_le, ◌==◌, length, List, [], ◌∷◌, Option, Some, None, is_none}
+use Rattle.std.specs.Prelude.{◌≡◌, ℕ, ◌+◌, Bool, ◌&&◌, cond, nat_le, ◌==◌, length, List, [], ◌∷◌, Option, is_none}
 use Rattle.std.specs.Option.{option_map}
 use Rattle.list_core.specs.Moments.{Each}
 use Rattle.list_core.specs.Choices.{when, first_of}
 use Rattle.ids_core.specs.declared.object.ObjectId.{ObjectId}
-use Rattle.vv_core.specs.declared.stamp.Lack.{Lack}
 use Rattle.vv_core.specs.Vectors.{join_of, lack_of}
 use Rattle.tx_core.specs.declared.tx.Tx.{Tx}
 use Rattle.tx_core.specs.declared.tx.Record.{Record}

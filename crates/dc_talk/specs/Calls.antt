@@ -1,25 +1,17 @@
 -- How each call of a session ends, and what it changes.
-use Rattle.std.specs.Prelude.{◌≡◌, ℕ, ◌+◌, ◌-◌, ◌*◌, ◌^◌, Bool, true, false, ◌&&◌, not, cond, max, min, nat_le, ◌==◌, length, drop, List, [], ◌∷◌, ◌++◌, Option, Some, None, is_some, is_none, slice_get, ℤ}
-use Rattle.std.specs.Option.{option_map}
+use Rattle.std.specs.Prelude.{◌≡◌, ℕ, ◌+◌, ◌^◌, not, cond, nat_le, length, List, [], ◌∷◌, ◌++◌, Option, Some, None, is_some, is_none}
 use Rattle.list_core.specs.Choices.{when, first_of}
 use Rattle.ids_core.specs.declared.object.ObjectId.{ObjectId}
-use Rattle.ids_core.specs.Ids.{same_sort}
 use Rattle.tx_core.specs.declared.op.Op.{Op}
 use Rattle.tx_core.specs.declared.op.Op.TheVariants.{Inc as IncOp}
 use Rattle.tx_core.specs.declared.tx.Update.{Update}
-use Rattle.tx_core.specs.declared.tx.Tx.{Tx}
 use Rattle.tx_core.specs.declared.state.State.{State}
 use Rattle.tx_core.specs.Checks.{is_small}
-use Rattle.tx_core.specs.States.{value_of, sort_of}
-use Rattle.dc_talk.specs.declared.ask.Ask.{Ask}
-use Rattle.dc_talk.specs.declared.ask.Ask.TheVariants.{Hello, Refresh, Fetch, Commit as CommitAsk}
-use Rattle.dc_talk.specs.declared.say.Say.{Say}
-use Rattle.dc_talk.specs.declared.say.Say.TheVariants.{Misfit, Lacks, Welcome, Snap, Object, Known, OutOfOrder, Full, Stamped}
+use Rattle.tx_core.specs.States.{value_of}
 use Rattle.dc_talk.specs.declared.session.Change.{Change}
 use Rattle.dc_talk.specs.declared.session.Change.TheVariants.{Inc}
 use Rattle.dc_talk.specs.declared.session.Call.{Call}
 use Rattle.dc_talk.specs.declared.session.Call.TheVariants.{Begin, Change as ChangeCall, Read, Commit}
-use Rattle.dc_talk.specs.declared.session.Refusal.{Refusal}
 use Rattle.dc_talk.specs.declared.session.Refusal.TheVariants.{AlreadyOpen, ClockFull, NotOpen, DeltaTooLarge, TooManyUpdates, NeedsFetch, PendingFull}
 use Rattle.dc_talk.specs.declared.session.Outcome.{Outcome}
 use Rattle.dc_talk.specs.declared.session.Outcome.TheVariants.{Fine, Got, Number, Nothing, Refused}

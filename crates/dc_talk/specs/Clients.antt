@@ -1,5 +1,5 @@
 -- The state of a session, and what it shows of an object.
-use Rattle.std.specs.Prelude.{ℕ, ◌+◌, ◌-◌, Bool, ◌&&◌, not, cond, ◌==◌, max, take, filter, flat_map, List, [], ◌∷◌, ◌++◌, Option, Some, None, slice_get}
+use Rattle.std.specs.Prelude.{ℕ, ◌+◌, Bool, ◌&&◌, ◌==◌, max, take, flat_map, List, [], ◌∷◌, ◌++◌, Option, None}
 use Rattle.std.specs.Option.{option_map, unwrap_or}
 use Rattle.list_core.specs.Firsts.{first_that, without_first, brought_forward}
 use Rattle.ids_core.specs.declared.ids.Dot.{Dot}

@@ -1,5 +1,5 @@
 -- Lists of records, as a centre applies them: who made what, and what lies within a vector.
-use Rattle.std.specs.Prelude.{ℕ, ◌+◌, ◌≤◌, Bool, true, false, ◌&&◌, ◌||◌, not, cond, max, nat_le, ◌==◌, List, [], ◌∷◌, map, filter, count_by, Option, Some, None}
+use Rattle.std.specs.Prelude.{ℕ, Bool, false, ◌||◌, cond, max, nat_le, ◌==◌, List, [], ◌∷◌, map, filter, count_by, Option, Some, None}
 use Rattle.ids_core.specs.declared.ids.Dot.{Dot}
 use Rattle.ids_core.specs.Ids.{same_dot}
 use Rattle.vv_core.specs.declared.stamp.Stamp.{Stamp}

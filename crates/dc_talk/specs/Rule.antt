@@ -1,6 +1,5 @@
 -- The conduct of a session: what it hears, what it asks, and which logs are its own.
-use Rattle.std.specs.Prelude.{◌≡◌, ℕ, ◌+◌, ◌-◌, Bool, true, false, ◌&&◌, ◌⊎◌, cond, max, min, nat_le, ◌==◌, length, drop, take, fold, List, [], ◌∷◌, ◌++◌, Option, Some, None, is_some, is_none, slice_get}
-use Rattle.std.specs.Option.{option_map}
+use Rattle.std.specs.Prelude.{◌≡◌, ℕ, ◌-◌, Bool, false, ◌&&◌, ◌⊎◌, cond, max, min, nat_le, ◌==◌, length, drop, fold, List, [], ◌∷◌, ◌++◌, Option, Some, None, is_none, slice_get}
 use Rattle.list_core.specs.Moments.{Each}
 use Rattle.ids_core.specs.declared.object.ObjectId.{ObjectId}
 use Rattle.ids_core.specs.Ids.{same_sort}
@@ -10,13 +9,12 @@ use Rattle.tx_core.specs.States.{sort_of}
 use Rattle.dc_talk.specs.declared.ask.Ask.{Ask}
 use Rattle.dc_talk.specs.declared.ask.Ask.TheVariants.{Hello, Refresh, Fetch, Commit}
 use Rattle.dc_talk.specs.declared.say.Say.{Say}
-use Rattle.dc_talk.specs.declared.say.Say.TheVariants.{Misfit, Lacks, Welcome, Snap, Object, Known, OutOfOrder, Full, Stamped}
+use Rattle.dc_talk.specs.declared.say.Say.TheVariants.{Welcome, Snap, Object, Known, Stamped}
 use Rattle.dc_talk.specs.declared.session.Call.TheVariants.{Commit as CommitCall}
 use Rattle.dc_talk.specs.declared.session.Outcome.TheVariants.{Number}
 use Rattle.dc_talk.specs.declared.session.Link.{Link}
-use Rattle.dc_talk.specs.declared.session.Cached.{Cached}
 use Rattle.dc_talk.specs.declared.log.Fate.{Fate}
-use Rattle.dc_talk.specs.declared.log.Fate.TheVariants.{AskLost, ReplyLost, Heard, Unheard}
+use Rattle.dc_talk.specs.declared.log.Fate.TheVariants.{Heard, Unheard}
 use Rattle.dc_talk.specs.declared.log.Deed.{Deed}
 use Rattle.dc_talk.specs.declared.log.Deed.TheVariants.{Did, Asked, Told}
 use Rattle.dc_talk.specs.declared.log.Note.{Note}
@@ -86,13 +84,15 @@ commits_from s (note ∷ notes) = commit_in s note.deed ++ commits_from (after s
 abbrev pub commits_of : ℕ → ℕ → ℕ → List Note → List Tx
 commits_of n client capacity notes = commits_from (new_client n client capacity) notes
 
--- the asks that a client makes: a hello to come to a centre, a refresh and a fetch at its snapshot
+-- the ask by which a client comes to a centre
 abbrev pub hello_of : Client → Ask
 hello_of s = Hello s.client s.vector
 
+-- the ask for a newer snapshot
 abbrev pub refresh_of : Client → Ask
 refresh_of s = Refresh s.client s.vector
 
+-- the ask for an object's state at the client's snapshot
 abbrev pub fetch_of : Client → ObjectId → Ask
 fetch_of s o = Fetch o s.vector
 

@@ -67,8 +67,123 @@ impl Ask {
     }
 }
 
+// Whether clients have this number.
 fn is_client(client: u32) -> bool
     ensures { result ≡ is_client_number client }
 {
     (1..=1024).contains(&client)
+}
+
+#[cfg(test)]
+mod tests {
+    use super::*;
+    use ids_core::{Dot, Name, Sort};
+    use std::alloc::Global;
+    use std::test::Fail;
+    use tx_core::{Op, Update, Updates};
+
+    fn counter() -> Result<ObjectId, Fail> {
+        let sort = Sort::Counter;
+        let name = Name::read(b"a")?;
+        Ok(ObjectId { sort, name })
+    }
+
+    fn update_of(object: &ObjectId, delta: i64) -> Update {
+        Update {
+            object: *object,
+            op: Op::Inc { delta },
+        }
+    }
+
+    fn fetch_of(object: &ObjectId, at: Vector) -> Ask {
+        Ask::Fetch {
+            object: *object,
+            at,
+        }
+    }
+
+    // The second of client 3, at rank 4, over one entry that is 0.
+    fn tx_of(alloc: Global, deltas: &[i64]) -> Result<Tx, Fail> {
+        let object = counter()?;
+        let mut updates = Updates::new(alloc);
+        for delta in deltas {
+            updates.push(update_of(&object, *delta))?;
+        }
+        let client = 3;
+        let number = 2;
+        Ok(Tx {
+            dot: Dot { client, number },
+            rank: 4,
+            snap: Vector::zero(1),
+            updates,
+        })
+    }
+
+    #[test]
+    fn a_commit_is_copied_whole(rt: HostRuntime) -> Result<(), Fail> {
+        let tx = tx_of(rt.alloc(), &[5, -7])?;
+        let ask = Ask::Commit { tx };
+        match ask.copy()? {
+            Ask::Commit { tx } => {
+                let client = 3;
+                let number = 2;
+                assert_eq!(rt; tx.dot, Dot { client, number });
+                assert_eq!(rt; tx.rank, 4);
+                assert_eq!(rt; tx.snap, Vector::zero(1));
+                let updates = tx.updates.as_slice();
+                assert_eq!(rt; updates.len(), 2);
+                assert!(rt; matches!(&updates[0].op, Op::Inc { delta: 5 }));
+                assert!(rt; matches!(&updates[1].op, Op::Inc { delta: -7 }));
+            }
+            _ => assert!(rt; false, "another ask"),
+        }
+        Ok(())
+    }
+
+    #[test]
+    fn clients_are_1_to_1024(rt: HostRuntime) {
+        for (client, fits) in [(0, false), (1, true), (1024, true), (1025, false)] {
+            let need = Vector::zero(1);
+            let at = Vector::zero(1);
+            assert_eq!(rt;
+                Ask::Hello { client, need }.fits(1),
+                fits,
+                "hello of {client}"
+            );
+            assert_eq!(rt;
+                Ask::Refresh { client, at }.fits(1),
+                fits,
+                "refresh of {client}"
+            );
+        }
+    }
+
+    #[test]
+    fn vectors_have_n_entries(rt: HostRuntime) -> Result<(), Fail> {
+        let object = counter()?;
+        let client = 1;
+        for (width, n, fits) in [(1, 1, true), (2, 1, false), (2, 2, true), (2, 3, false)] {
+            let need = Vector::zero(width);
+            let at = Vector::zero(width);
+            assert_eq!(rt; Ask::Hello { client, need }.fits(n), fits, "{width} of {n}");
+            assert_eq!(rt; Ask::Refresh { client, at }.fits(n), fits, "{width} of {n}");
+            assert_eq!(rt; fetch_of(&object, at).fits(n), fits, "{width} of {n}");
+        }
+        Ok(())
+    }
+
+    #[test]
+    fn transactions_pass_their_check(rt: HostRuntime) -> Result<(), Fail> {
+        let alloc = rt.alloc();
+        let tx = tx_of(alloc, &[5])?;
+        assert!(rt; Ask::Commit { tx }.fits(1));
+        let tx = tx_of(alloc, &[5])?;
+        assert!(rt;
+            !Ask::Commit { tx }.fits(2),
+            "a snapshot of one entry among two"
+        );
+        let tx = tx_of(alloc, &[])?;
+        assert!(rt; !Ask::Commit { tx }.fits(1), "no update");
+        Ok(())
+    }
 }

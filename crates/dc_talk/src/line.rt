@@ -13,124 +13,157 @@ pub enum Miss {
 /// The word of a step that reads or changes an object.
 #[derive(Clone, Copy, Debug, PartialEq, Eq)]
 pub enum StepWord {
+    /// Adds to a counter.
     Inc,
+    /// Reads an object.
     Read,
 }
 
 /// How the push of a commit ended.
 #[derive(Clone, Copy, Debug)]
 pub enum PushEnd {
+    /// The commit has this stamp now.
     Stamped { stamp: Stamp },
+    /// The centre had it before, and the client's commits up to this number.
     Known { through: u64 },
+    /// The centre has stamped as many transactions as it may.
     Full { limit: u64 },
+    /// An earlier commit is missing there: the greatest number that it has.
     Order { have: u64 },
+    /// The centre lacks records that the commit needs.
     Lacks { lack: Lack },
+    /// There was no reply that counts.
     Missed { miss: Miss },
 }
 
 /// What a step of a script writes, one variant for each form of line.
 #[derive(Debug, Drop)]
 pub enum Line {
+    /// The client is connected to the centre.
     At {
         client: u32,
         centre: u8,
     },
+    /// The centre refused the client, since it lacks records that the client has seen.
     Refused {
         client: u32,
         centre: u8,
         lack: Lack,
     },
+    /// The hello had no reply that counts.
     ConnectMissed {
         client: u32,
         centre: u8,
         miss: Miss,
     },
+    /// A begin was refused: a transaction is open.
     BeginOpen {
         client: u32,
     },
+    /// A begin was refused: the clock is at the greatest rank.
     BeginClock {
         client: u32,
     },
+    /// A change was refused: no transaction is open.
     Closed {
         client: u32,
         word: StepWord,
         object: ObjectId,
     },
+    /// A change was refused: the open transaction has 256 updates.
     ManyUpdates {
         client: u32,
         word: StepWord,
         object: ObjectId,
     },
+    /// A fetch was needed, and the client is connected to no centre.
     Unconnected {
         client: u32,
         word: StepWord,
         object: ObjectId,
     },
+    /// The fetch had no reply that counts.
     FetchMissed {
         client: u32,
         word: StepWord,
         object: ObjectId,
         miss: Miss,
     },
+    /// The centre lacks records of the client's snapshot.
     FetchLacks {
         client: u32,
         word: StepWord,
         object: ObjectId,
         lack: Lack,
     },
+    /// The session did not take the state that it fetched.
     FetchIgnored {
         client: u32,
         word: StepWord,
         object: ObjectId,
     },
+    /// A read had this value.
     ReadValue {
         client: u32,
         object: ObjectId,
         value: Value,
     },
+    /// A commit got this number.
     CommitNumber {
         client: u32,
         number: u64,
     },
+    /// A commit had no updates.
     CommitNone {
         client: u32,
     },
+    /// A commit was refused: no transaction is open.
     CommitClosed {
         client: u32,
     },
+    /// A commit was refused: 1,024 commits are pending.
     CommitPending {
         client: u32,
     },
+    /// A push was made with no centre connected.
     PushUnconnected {
         client: u32,
     },
+    /// There was nothing to push.
     PushNone {
         client: u32,
     },
+    /// The push of the commit of this number ended so.
     Push {
         client: u32,
         number: u64,
         end: PushEnd,
     },
+    /// The client has this snapshot now, and within it so many commits of its own.
     Sees {
         client: u32,
         vector: Vector,
         mine: u64,
     },
+    /// A refresh was made with no centre connected.
     RefreshUnconnected {
         client: u32,
     },
+    /// A refresh was refused: a transaction is open.
     RefreshOpen {
         client: u32,
     },
+    /// The centre lacks records of the client's snapshot.
     RefreshLacks {
         client: u32,
         lack: Lack,
     },
+    /// The refresh had no reply that counts.
     RefreshMissed {
         client: u32,
         miss: Miss,
     },
+    /// The session did not take the snapshot.
     RefreshIgnored {
         client: u32,
     },

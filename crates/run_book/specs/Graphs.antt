@@ -1,6 +1,6 @@
 -- The graph of the transactions of a book with their dependency sets, and what a read stands on.
 -- No code keeps a dependency set: they are here alone.
-use Rattle.std.specs.Prelude.{◌≡◌, ℕ, ◌+◌, ◌-◌, ◌≤◌, ◌<◌, cond, ℤ, map, filter, flat_map, take, List, [], ◌∷◌, ◌++◌, Option, Some, None, slice_get}
+use Rattle.std.specs.Prelude.{◌≡◌, ℕ, ◌+◌, ◌-◌, ◌≤◌, ◌<◌, cond, ℤ, map, filter, flat_map, take, List, [], ◌∷◌, ◌++◌, Some, slice_get}
 use Rattle.std.specs.List.{range_with_len}
 use Rattle.list_core.specs.Members.{In}
 use Rattle.ids_core.specs.declared.ids.Dot.{Dot}
@@ -119,3 +119,8 @@ pub record IsCausal (b : Book) (clients capacity : ℕ) : Type 0 where
   pub made : WellMade (graph b clients capacity)
   pub reads : (a m : ℕ) (o : ObjectId) (value : Value) → Reads b clients a m o value → IsCausalRead b clients capacity a m o value
   pub grows : (a m later : ℕ) (o p : ObjectId) (value later_value : Value) → m ≤ later → Reads b clients a m o value → Reads b clients a later p later_value → Within (basis_at b capacity a m) (basis_at b capacity a later)
+
+-- before a client's first commit each value that it reads is the sum of the deltas that its open
+-- transaction has added to the counter until then
+pub record FirstSums (b : Book) (clients capacity : ℕ) : Type 0 where
+  pub by : (a m : ℕ) (o : ObjectId) (value : Value) → Reads b clients a m o value → (client_at b capacity a m).own ≡ 0 → value ≡ Number (total (deltas_of o (draft_updates (client_at b capacity a m))))

@@ -3,3 +3,4 @@ pub mod Parts
 pub mod Fit
 pub mod Scripted
 pub mod Graphs
+pub mod Alone

@@ -3,5 +3,7 @@
 #![tactic(auto)]
 
 mod book;
+mod laws;
 
 pub use book::{Book, Logs, Trails};
+pub use laws::law_one_client;

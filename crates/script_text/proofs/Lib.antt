@@ -5,3 +5,4 @@ pub mod Cuts
 pub mod Deltas
 pub mod Spellings
 pub mod Readings
+pub mod FewLines

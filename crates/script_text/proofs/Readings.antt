@@ -4,7 +4,8 @@ use Rattle.std.specs.Prelude.{All, map, IfNone}
 use Rattle.std.proofs.lemmas.List.{map_push}
 use Rattle.std.proofs.lemmas.List.Elements.{All-push, All-head, All-tail}
 use Rattle.script_text.specs.Steps.{spelling, IsStep}
-use Rattle.script_text.specs.Shapes.{IsShape, Reaches}
+use Rattle.script_text.specs.Shapes.{IsShape}
+use Rattle.script_text.specs.Reaches.{Reaches}
 use Rattle.script_text.specs.Scripts.{AreSteps}
 use Rattle.script_text.specs.declared.steps.ClientStep.{ClientStep}
 use Rattle.script_text.specs.declared.shape.Shape.{Shape}

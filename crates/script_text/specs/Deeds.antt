@@ -1,15 +1,13 @@
 -- What a client's step leaves in its log: the calls of the session with how they ended, the ask with
 -- the answer that was heard, and the line of the step.
-use Rattle.std.specs.Prelude.{◌≡◌, ℕ, Bool, true, false, cond, List, [], ◌∷◌, ◌++◌, Option, Some, None}
+use Rattle.std.specs.Prelude.{◌≡◌, ℕ, Bool, true, false, cond, List, [], ◌∷◌, Option, Some, None}
 use Rattle.ids_core.specs.declared.object.ObjectId.{ObjectId}
 use Rattle.vv_core.specs.declared.stamp.Lack.{Lack}
 use Rattle.tx_core.specs.declared.tx.Tx.{Tx}
 use Rattle.tx_core.specs.declared.tx.Update.{Update}
-use Rattle.dc_talk.specs.declared.ask.Ask.{Ask}
 use Rattle.dc_talk.specs.declared.ask.Ask.TheVariants.{Commit as CommitAsk}
 use Rattle.dc_talk.specs.declared.say.Say.{Say}
 use Rattle.dc_talk.specs.declared.say.Say.TheVariants.{Lacks, Welcome, Snap, Object, Known, OutOfOrder, Full, Stamped}
-use Rattle.dc_talk.specs.declared.session.Change.{Change}
 use Rattle.dc_talk.specs.declared.session.Change.TheVariants.{Inc as IncChange}
 use Rattle.dc_talk.specs.declared.session.Call.TheVariants.{Begin as BeginCall, Change as ChangeCall, Read as ReadCall, Commit as CommitCall}
 use Rattle.dc_talk.specs.declared.session.Refusal.TheVariants.{AlreadyOpen, ClockFull, NotOpen, TooManyUpdates, PendingFull}

@@ -1,10 +1,10 @@
 -- In which order the steps of a script stand.
 use Rattle.std.specs.Prelude.{◌≡◌, ◌≤◌, ◌⊎◌, ℕ, Bool, true, false, List, [], ◌∷◌, ◌++◌, All, count_by}
+use Rattle.std.specs.List.{flat_map}
 use Rattle.script_text.specs.declared.steps.ClientStep.{ClientStep}
 use Rattle.script_text.specs.declared.steps.ClientStep.TheVariants.{Connect, Begin, Inc, Read, Commit, Push, Refresh}
-use Rattle.script_text.specs.declared.shape.Shape.{Shape}
-use Rattle.script_text.specs.declared.shape.Shape.TheVariants.{Empty, Connected, Open, Committed, Pushed, Whole}
 
+-- an `inc`
 abbrev pub is_inc : ClientStep → Bool
 is_inc (Connect centre) = false
 is_inc Begin = false
@@ -34,49 +34,26 @@ pub record IsBody (body : List ClientStep) : Type 0 where
   pub some : 1 ≤ incs_in body
   pub most : incs_in body ≤ 256
 
--- begin, a body, commit, push and refresh
-pub record IsBlock (steps : List ClientStep) : Type 0 where
+-- a block: begin, its body, commit, push and refresh
+abbrev pub block_of : List ClientStep → List ClientStep
+block_of body = Begin ∷ (body ++ (Commit ∷ Push ∷ Refresh ∷ []))
+
+-- what a block begins with: none of it, its first lines, or all of it
+pub record IsFront (steps : List ClientStep) : Type 0 where
   pub body : List ClientStep
-  pub parts : steps ≡ Begin ∷ (body ++ (Commit ∷ Push ∷ Refresh ∷ []))
+  pub rest : List ClientStep
+  pub parts : steps ++ rest ≡ block_of body
   pub is_body : IsBody body
 
--- a connect alone
-pub record IsConnect (steps : List ClientStep) : Type 0 where
+-- a connect, then whole blocks, one after another, and then what a last block begins with
+pub record IsConnectAndBlocks (steps : List ClientStep) : Type 0 where
   pub centre : ℕ
-  pub parts : steps ≡ Connect centre ∷ []
+  pub bodies : List (List ClientStep)
+  pub front : List ClientStep
+  pub parts : steps ≡ Connect centre ∷ (flat_map block_of bodies ++ front)
+  pub each : All IsBody bodies
+  pub is_front : IsFront front
 
--- a connect and a block
-pub record IsConnectAndBlock (steps : List ClientStep) : Type 0 where
-  pub centre : ℕ
-  pub block : List ClientStep
-  pub parts : steps ≡ Connect centre ∷ block
-  pub is_block : IsBlock block
-
--- no step, a connect alone, or a connect and one whole block
+-- no step, or a connect and blocks, of which the last may break off
 abbrev pub IsShape : List ClientStep → Type 0
-IsShape steps = (steps ≡ []) ⊎ IsConnect steps ⊎ IsConnectAndBlock steps
-
--- a connect, a begin and what may stand behind it, with so many incs
-pub record IsOpen (incs : ℕ) (steps : List ClientStep) : Type 0 where
-  pub centre : ℕ
-  pub body : List ClientStep
-  pub parts : steps ≡ Connect centre ∷ Begin ∷ body
-  pub each : All IsOfBody body
-  pub count : incs_in body ≡ incs
-  pub most : incs ≤ 256
-
--- a connect, a begin, a body, and these steps behind it
-pub record IsClosing (behind steps : List ClientStep) : Type 0 where
-  pub centre : ℕ
-  pub body : List ClientStep
-  pub parts : steps ≡ Connect centre ∷ Begin ∷ (body ++ behind)
-  pub is_body : IsBody body
-
--- the steps came so far
-abbrev pub Reaches : Shape → List ClientStep → Type 0
-Reaches Empty steps = steps ≡ []
-Reaches Connected steps = IsConnect steps
-Reaches (Open incs) steps = IsOpen incs steps
-Reaches Committed steps = IsClosing (Commit ∷ []) steps
-Reaches Pushed steps = IsClosing (Commit ∷ Push ∷ []) steps
-Reaches Whole steps = IsClosing (Commit ∷ Push ∷ Refresh ∷ []) steps
+IsShape steps = (steps ≡ []) ⊎ IsConnectAndBlocks steps

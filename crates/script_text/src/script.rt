@@ -1,5 +1,5 @@
 // Reads a script.
-ghost use Rattle.std.specs.Prelude.{◌≡◌, ◌∷◌, ◌++◌, ◌↔◌, List, ℕ, Err, IsTrue, IfOk, IfSome, IfNone};
+ghost use Rattle.std.specs.Prelude.{◌≡◌, ◌≤◌, length, ◌∷◌, ◌++◌, ◌↔◌, List, ℕ, Err, IsTrue, IfOk, IfSome, IfNone};
 ghost use Rattle.script_text.specs.declared.script.ScriptFault.TheVariants.{NoMemory};
 ghost use Rattle.script_text.specs.declared.script.Script.{Script as Told};
 ghost use Rattle.script_text.specs.declared.steps.ClientStep.{ClientStep as Step};
@@ -48,9 +48,11 @@ impl<T: Drop> From<AllocFailed<T>> for ScriptFault {
 }
 
 /// The one script that an input is, if it is one.
+#[tactic(auto, using(crate::proofs::FewLines::steps_few))]
 pub fn parse(alloc: Global, input: &Input) -> Result<Script, ScriptFault>
     requires { IsTrue input.now.past_limits ↔ PassesLimits input.now.bytes.items }
     ensures taken { IfOk result (λ script. IsScript input.now.bytes.items script) }
+    ensures few { IfOk result (λ script. length script.steps ≤ 200000) }
     ensures refused { result ≡ Err ScriptFault.Refused → (script : Told) → IsScript input.now.bytes.items script → ⊥ }
 {
     if input.past_limits {
@@ -119,11 +121,7 @@ fn parse_steps(alloc: Global, text: &[u8]) -> Result<Steps, ScriptFault>
         shape = next;
         rest = more;
     }
-    if shape.may_end() {
-        Ok(Steps::from_vec(steps))
-    } else {
-        Err(ScriptFault::Refused)
-    }
+    Ok(Steps::from_vec(steps))
 }
 
 #[cfg(test)]

@@ -1,15 +1,16 @@
 // In which order the steps of a script stand.
-ghost use Rattle.std.specs.Prelude.{◌∷◌, ◌++◌, [], ◌↔◌, List, IsTrue, IfSome, IfNone};
+ghost use Rattle.std.specs.Prelude.{◌∷◌, ◌++◌, [], List, IfSome, IfNone};
 ghost use Rattle.script_text.specs.declared.steps.ClientStep.{ClientStep as Step};
-ghost use Rattle.script_text.specs.Shapes.{IsShape, IsOpen, Reaches};
+ghost use Rattle.script_text.specs.Shapes.{IsShape};
+ghost use Rattle.script_text.specs.Reaches.{IsOpen, Reaches};
 
 use crate::steps::ClientStep;
 
 /// The most incs of a transaction.
 const MAX_INCS: u16 = 256;
 
-/// How far the steps came: to none, to the connect, into a transaction with so many incs, or to the
-/// commit, the push or the refresh behind it.
+/// How far the steps came: to none, to the connect or the end of a block, into a transaction with so
+/// many incs, or to the commit or the push behind it. A script may end at each.
 #[derive(Clone, Copy, Debug)]
 pub enum Shape {
     Empty,
@@ -17,7 +18,6 @@ pub enum Shape {
     Open { incs: u16 },
     Committed,
     Pushed,
-    Whole,
 }
 
 impl Shape {
@@ -41,18 +41,10 @@ impl Shape {
                 _ => None,
             },
             Shape::Pushed => match step {
-                ClientStep::Refresh => Some(Shape::Whole),
+                ClientStep::Refresh => Some(Shape::Connected),
                 _ => None,
             },
-            Shape::Whole => None,
         }
-    }
-
-    /// Whether a script may end here.
-    pub fn may_end(self) -> bool
-        ensures { (steps : List Step) → Reaches self steps → IsTrue result ↔ IsShape steps }
-    {
-        matches!(self, Shape::Empty | Shape::Connected | Shape::Whole)
     }
 }
 

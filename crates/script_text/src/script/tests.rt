@@ -6,9 +6,15 @@ use std::test::Fail;
 
 const HEAD: &[u8] = b"centres 1 k 1\nclients 1\n";
 
+const CONNECT: &[u8] = b"centres 1 k 1\nclients 1\nc1 connect 1\n";
+
 const OPEN: &[u8] = b"centres 1 k 1\nclients 1\nc1 connect 1\nc1 begin\n";
 
 const CLOSE: &[u8] = b"c1 commit\nc1 push\nc1 refresh\n";
+
+const INC: &[u8] = b"c1 inc c.a 1\n";
+
+const BLOCK: &[u8] = b"c1 begin\nc1 inc c.a 1\nc1 commit\nc1 push\nc1 refresh\n";
 
 // How many steps the three parts are together, or the fault.
 fn steps_of(
@@ -25,6 +31,15 @@ fn steps_of(
         Ok(script) => Ok(Ok(script.steps.len())),
         Err(fault) => Ok(Err(fault)),
     }
+}
+
+// The text, so many times.
+fn repeated(alloc: Global, text: &[u8], times: usize) -> Result<Vec<u8>, Fail> {
+    let mut bytes = Vec::new(alloc);
+    for _ in 0..times {
+        bytes.extend_from_slice(text)?;
+    }
+    Ok(bytes)
 }
 
 #[test]
@@ -64,7 +79,39 @@ fn a_script_without_a_block_is_taken(rt: HostRuntime) -> Result<(), Fail> {
         steps_of(alloc, b"centres 1 k 1\nclients 1", b"", b"")?,
         Ok(0)
     );
-    assert_eq!(rt; steps_of(alloc, HEAD, b"c1 connect 1\n", b"")?, Ok(1));
+    Ok(())
+}
+
+#[test]
+fn blocks_are_taken_in_any_number(rt: HostRuntime) -> Result<(), Fail> {
+    let alloc = rt.alloc();
+    for (blocks, steps) in [(0, 1), (1, 6), (2, 11), (50, 251)] {
+        let lines = repeated(alloc, BLOCK, blocks)?;
+        let got = steps_of(alloc, CONNECT, &lines, b"")?;
+        assert_eq!(rt; got, Ok(steps), "{blocks} blocks");
+    }
+    Ok(())
+}
+
+#[test]
+fn a_last_block_may_break_off_after_each_line(rt: HostRuntime) -> Result<(), Fail> {
+    let alloc = rt.alloc();
+    let mut front = Vec::new(alloc);
+    for (line, steps) in [
+        (b"c1 begin\n".as_slice(), 1),
+        (b"c1 read c.a\n", 2),
+        (b"c1 inc c.a 1\n", 3),
+        (b"c1 read c.b\n", 4),
+        (b"c1 commit\n", 5),
+        (b"c1 push\n", 6),
+        (b"c1 refresh\n", 7),
+    ] {
+        front.extend_from_slice(line)?;
+        let first = steps_of(alloc, CONNECT, &front, b"")?;
+        assert_eq!(rt; first, Ok(1 + steps), "{line:?}");
+        let second = steps_of(alloc, CONNECT, BLOCK, &front)?;
+        assert_eq!(rt; second, Ok(6 + steps), "{line:?}");
+    }
     Ok(())
 }
 
@@ -117,13 +164,33 @@ fn other_lines_behind_the_header_are_refused(rt: HostRuntime) -> Result<(), Fail
         b"c1  connect 1\n",
         b"c1\tconnect 1\n",
         b"c1 connect 1 \n",
-        b"c1 connect 1\nc1 connect 1\n",
-        b"c1 connect 1\nc1 begin\nc1 inc c.a 1\nc1 commit\nc1 push\n",
-        b"c1 connect 1\nc1 begin\nc1 inc c.a 1\nc1 commit\nc1 refresh\nc1 push\n",
-        b"c1 connect 1\nc1 begin\nc1 inc c.a 1\nc1 commit\nc1 push\nc1 refresh\nc1 begin\n",
     ] {
         let got = steps_of(alloc, HEAD, lines, b"")?;
         assert_eq!(rt; got, Err(ScriptFault::Refused), "{lines:?}");
+    }
+    Ok(())
+}
+
+#[test]
+fn steps_in_another_order_are_refused(rt: HostRuntime) -> Result<(), Fail> {
+    let alloc = rt.alloc();
+    for lines in [
+        b"c1 connect 1\n".as_slice(),
+        b"c1 read c.a\n",
+        b"c1 commit\n",
+        b"c1 refresh\n",
+        b"c1 begin\nc1 commit\n",
+        b"c1 begin\nc1 begin\n",
+        b"c1 begin\nc1 inc c.a 1\nc1 connect 1\n",
+        b"c1 begin\nc1 inc c.a 1\nc1 push\n",
+        b"c1 begin\nc1 inc c.a 1\nc1 commit\nc1 refresh\n",
+        b"c1 begin\nc1 inc c.a 1\nc1 commit\nc1 begin\n",
+        b"c1 begin\nc1 inc c.a 1\nc1 commit\nc1 push\nc1 push\n",
+    ] {
+        let first = steps_of(alloc, CONNECT, lines, b"")?;
+        assert_eq!(rt; first, Err(ScriptFault::Refused), "{lines:?}");
+        let second = steps_of(alloc, CONNECT, BLOCK, lines)?;
+        assert_eq!(rt; second, Err(ScriptFault::Refused), "{lines:?}");
     }
     Ok(())
 }
@@ -145,15 +212,19 @@ fn other_headers_are_refused(rt: HostRuntime) -> Result<(), Fail> {
 }
 
 #[test]
-fn a_block_has_256_incs_at_most(rt: HostRuntime) -> Result<(), Fail> {
+fn each_block_has_256_incs_at_most(rt: HostRuntime) -> Result<(), Fail> {
     let alloc = rt.alloc();
-    for (incs, want) in [(256, Ok(261)), (257, Err(ScriptFault::Refused))] {
-        let mut body = Vec::new(alloc);
-        for _ in 0..incs {
-            body.extend_from_slice(b"c1 inc c.a 1\n")?;
-        }
-        let got = steps_of(alloc, OPEN, &body, CLOSE)?;
-        assert_eq!(rt; got, want, "{incs} incs");
+    let mut full = repeated(alloc, INC, 256)?;
+    full.extend_from_slice(CLOSE)?;
+    full.extend_from_slice(b"c1 begin\n")?;
+    for (incs, first, second) in [
+        (256, Ok(258), Ok(518)),
+        (257, Err(ScriptFault::Refused), Err(ScriptFault::Refused)),
+    ] {
+        let lines = repeated(alloc, INC, incs)?;
+        assert_eq!(rt; steps_of(alloc, OPEN, &lines, b"")?, first, "{incs} incs");
+        let got = steps_of(alloc, OPEN, &full, &lines)?;
+        assert_eq!(rt; got, second, "{incs} incs in a second block");
     }
     Ok(())
 }

@@ -1,4 +1,6 @@
-use Rattle.std.proofs.Common.{subst, sym}
+use Rattle.std.proofs.Common.{subst, sym, arith}
+use Rattle.std.proofs.lemmas.Grind.{common_steps}
+use Rattle.script_text.proofs.Blocks.{is_shape}
 use Rattle.script_text.proofs.Readings.{HasRead, read_more, line_refused, step_refused}
 use Rattle.script_text.specs.Lines.{lines_of}
 use Rattle.script_text.proofs.script.parse_steps.Goals as goal
@@ -15,3 +17,6 @@ lines-preserved c =
     subst (λ steps. HasRead (lines_of c.args.text.now) c.in-Some-after.next steps (lines_of c.in-Some.more.now))
     (sym c.in_ok-push.ensures.items)
     (read_more (lines_of c.args.text.now) c.lines.shape c.in-Some-after.next c.lines.steps.items c.in-Some.line.now (lines_of c.lines.rest.now) (lines_of c.in-Some.more.now) c.in-Some-read_line.step c.in-Some.ensures.lines read.taken.0 read.taken.1 read.exact c.in-Some-after.ensures.taken c.lines.invariant)
+
+pub returns-clause-taken : goal.returns-clause-taken
+returns-clause-taken c = grind (arith, common_steps, is_shape)

@@ -1,0 +1,101 @@
+-- What a centre serves lies within what it has applied, and what a cache has was kept.
+use Rattle.std.proofs.Common.{◌≡◌, ℕ, zero, suc, ◌+◌, ◌≤◌, Bool, true, false, cond, ◌&&◌, ◌⊎◌, inl, inr, List, [], ◌∷◌, length, take, Option, Some, None, refl, sym, ap, ◌∙◌, arith}
+use Rattle.std.specs.Option.{option_map}
+use Rattle.std.proofs.lemmas.Bool.{and_parts}
+use Rattle.std.proofs.lemmas.Bool.Decides.{Decides-eqb}
+use Rattle.std.proofs.lemmas.Option.{none-some, same_Some}
+use Rattle.std.specs.Cmp.Lexicographic.{pointwise_decides}
+use Rattle.list_core.specs.Members.{In}
+use Rattle.list_core.specs.Firsts.{first_that, without_first, in_front, brought_forward}
+use Rattle.ids_core.specs.declared.object.ObjectId.{ObjectId}
+use Rattle.ids_core.specs.Ids.{same_object}
+use Rattle.ids_core.specs.Same.{same_object-true}
+use Rattle.vv_core.specs.Vectors.{at, Covers, kth_largest}
+use Rattle.vv_core.proofs.Covering.{covers-true, Covers_join, Covers-meet_right}
+use Rattle.tx_core.specs.declared.state.State.{State}
+use Rattle.dc_talk.specs.declared.session.Cached.{Cached}
+use Rattle.dc_talk.specs.declared.trail.Entry.{Entry}
+use Rattle.dc_talk.specs.Records.{vector}
+use Rattle.dc_talk.specs.Trails.{applied, rows, stable}
+use Rattle.dc_talk.specs.Clients.{same_vector, is_entry, cached, kept, promoted}
+use Rattle.run_book.proofs.Lists.{In_take}
+use Rattle.run_book.proofs.Inversions.{SnapBy}
+
+-- ---- a snapshot
+
+-- a centre's stable vector lies within its own
+pub stable_within : (me n k : ℕ) (trail : List Entry) → Covers (vector n (applied n trail)) (stable me n k trail)
+stable_within me n k trail = Covers-meet_right (kth_largest k (rows me n trail)) (vector n (applied n trail))
+
+-- and so does the vector of a snapshot
+pub snap_within : (me n k : ℕ) (trail : List Entry) (client : ℕ) (here w : List ℕ) (own_number top_rank : ℕ) → SnapBy me n k trail client here w own_number top_rank → Covers (vector n (applied n trail)) w
+snap_within me n k trail client here w own_number top_rank snap =
+    let joined = Covers_join (vector n (applied n trail)) here (stable me n k trail) (covers-true (vector n (applied n trail)) here snap.covered) (stable_within me n k trail) in
+    record { by = λ e. omega (arith, joined.by e, ap (λ v. at v e) snap.vector_is) }
+
+-- ---- the first that passes, and the others
+
+-- the first that passes is a member, and passes
+first_that_some : {X : Type 0} (p : X → Bool) (xs : List X) (x : X) → first_that p xs ≡ Some x → In x xs × (p x ≡ true)
+first_that_some p [] x is = absurd (none-some x is)
+first_that_some {X} p (y ∷ xs) x is = go (λ rest. first_that_some p xs x rest) (p y) refl is
+  where
+    go : (first_that p xs ≡ Some x → In x xs × (p x ≡ true)) → (b : Bool) → p y ≡ b → cond b (Some y) (first_that p xs) ≡ Some x → In x (y ∷ xs) × (p x ≡ true)
+    go rest true passes is = (inl (sym (same_Some y x is)), ap p (sym (same_Some y x is)) ∙ passes)
+    go rest false passes is = let r = rest is in (inr r.0, r.1)
+
+-- what is left was there
+In_without_first : {X : Type 0} (p : X → Bool) (xs : List X) (x : X) → In x (without_first p xs) → In x xs
+In_without_first p [] x i = i
+In_without_first {X} p (y ∷ xs) x i = go (λ j. In_without_first p xs x j) (p y) i
+  where
+    go : (In x (without_first p xs) → In x xs) → (b : Bool) → In x (cond b xs (y ∷ without_first p xs)) → In x (y ∷ xs)
+    go rest true i = inr i
+    go rest false (inl same) = inl same
+    go rest false (inr i) = inr (rest i)
+
+-- what is brought forward was there
+In_brought_forward : {X : Type 0} (p : X → Bool) (xs : List X) (x : X) → In x (brought_forward p xs) → In x xs
+In_brought_forward {X} p xs x i = go (first_that p xs) refl i
+  where
+    go : (o : Option X) → first_that p xs ≡ o → In x (in_front o (without_first p xs)) → In x xs
+    go None is i = In_without_first p xs x i
+    go (Some y) is (inl same) = Rattle.std.proofs.Common.subst (λ x. In x xs) (sym same) (first_that_some p xs y is).0
+    go (Some y) is (inr i) = In_without_first p xs x i
+
+-- ---- the cache
+
+-- what a look-up leaves was there
+pub In_promoted : (o : ObjectId) (w : List ℕ) (cache : List Cached) (c : Cached) → In c (promoted o w cache) → In c cache
+In_promoted o w cache c i = In_brought_forward (is_entry o w) cache c i
+
+-- what a new entry leaves is that entry, or was there
+pub In_kept : (capacity : ℕ) (new : Cached) (cache : List Cached) (c : Cached) → In c (kept capacity new cache) → (c ≡ new) ⊎ In c cache
+In_kept capacity new cache c i = go (In_take capacity (new ∷ without_first (λ c. same_object c.object new.object) cache) c i)
+  where
+    go : In c (new ∷ without_first (λ c. same_object c.object new.object) cache) → (c ≡ new) ⊎ In c cache
+    go (inl same) = inl same
+    go (inr j) = inr (In_without_first (λ c. same_object c.object new.object) cache c j)
+
+-- vectors that test equal are one
+pub same_vector-true : (v w : List ℕ) → same_vector v w ≡ true → v ≡ w
+same_vector-true v w is = (pointwise_decides Decides-eqb v w).0 is
+
+-- what a look-up finds is of the object, at the vector
+pub record IsCached (o : ObjectId) (w : List ℕ) (cache : List Cached) (state : State) : Type 0 where
+  pub item : Cached
+  pub there : In item cache
+  pub object : item.object ≡ o
+  pub vector : item.vector ≡ w
+  pub gives : item.state ≡ state
+
+-- what a look-up finds was there
+pub cached_some : (o : ObjectId) (w : List ℕ) (cache : List Cached) (state : State) → cached o w cache ≡ Some state → IsCached o w cache state
+cached_some o w cache state is = go (first_that (is_entry o w) cache) refl is
+  where
+    go : (found : Option Cached) → first_that (is_entry o w) cache ≡ found → option_map (λ (c : Cached). c.state) found ≡ Some state → IsCached o w cache state
+    go None first is = absurd (none-some state is)
+    go (Some c) first is =
+        let f = first_that_some (is_entry o w) cache c first in
+        let parts = and_parts (same_object c.object o) (same_vector c.vector w) f.1 in
+        record { item = c; there = f.0; object = same_object-true c.object o parts.0; vector = same_vector-true c.vector w parts.1; gives = same_Some c.state state is }

@@ -1,0 +1,145 @@
+-- What the log of one client tells by itself: its commits, its numbers and its open transaction.
+use Rattle.std.proofs.Common.{◌≡◌, ℕ, ◌+◌, ◌*◌, ◌≤◌, ◌<◌, Bool, true, false, cond, List, [], ◌∷◌, ◌++◌, length, take, drop, fold, unsigned_abs, Option, Some, None, refl, sym, ap, ◌∙◌, arith}
+use Rattle.std.specs.Prelude.{◌==◌, nat_le, not, is_none, is_some}
+use Rattle.std.proofs.lemmas.Bool.{and_parts, leb-true, leb-false, eqb-true, not-false}
+use Rattle.std.proofs.lemmas.List.{append-nil, append_assoc, drop-drop, drop-append-le, length-append}
+use Rattle.list_core.specs.Choices.{when}
+use Rattle.ids_core.specs.declared.object.ObjectId.{ObjectId}
+use Rattle.ids_core.specs.Ids.{same_object}
+use Rattle.vv_core.specs.Vectors.{Covers, covers}
+use Rattle.vv_core.proofs.Covering.{covers-true}
+use Rattle.tx_core.specs.declared.op.Op.{Op}
+use Rattle.tx_core.specs.declared.op.Op.TheVariants.{Inc as IncOp}
+use Rattle.tx_core.specs.declared.tx.Update.{Update}
+use Rattle.tx_core.specs.declared.tx.Tx.{Tx}
+use Rattle.tx_core.specs.Checks.{is_small}
+use Rattle.tx_core.specs.Counter.{sizes}
+use Rattle.dc_talk.specs.declared.session.Change.{Change}
+use Rattle.dc_talk.specs.declared.session.Refusal.{Refusal}
+use Rattle.dc_talk.specs.declared.session.Refusal.TheVariants.{AlreadyOpen, ClockFull, NotOpen, DeltaTooLarge, TooManyUpdates}
+use Rattle.dc_talk.specs.declared.session.Outcome.{Outcome}
+use Rattle.dc_talk.specs.declared.session.Outcome.TheVariants.{Fine, Number, Refused}
+use Rattle.dc_talk.specs.declared.log.Note.{Note}
+use Rattle.dc_talk.specs.Clients.{Client, new_client, draft_updates}
+use Rattle.dc_talk.specs.Calls.{most_rank, most_updates, op_of, begin_outcome, change_outcome, commit_outcome}
+use Rattle.dc_talk.specs.Rule.{after, can_follow, client_after, commit_in, commits_from, commits_of}
+use Rattle.run_book.specs.Graphs.{delta_of, deltas_of}
+use Rattle.run_book.proofs.Inversions.{last_of, when_some, when_none, is_none_true}
+
+-- ---- the commits of a log
+
+-- the state after the notes
+abbrev state_after : Client → List Note → Client
+state_after s notes = fold (λ s note. after s note.deed) s notes
+
+-- the commits of notes and of those behind them
+pub commits_from-append : (s : Client) (notes later : List Note) → commits_from s (notes ++ later) ≡ commits_from s notes ++ commits_from (state_after s notes) later
+commits_from-append s [] later = refl
+commits_from-append s (note ∷ notes) later =
+    ap (λ l. commit_in s note.deed ++ l) (commits_from-append (after s note.deed) notes later)
+    ∙ sym (append_assoc (commit_in s note.deed) (commits_from (after s note.deed) notes) (commits_from (state_after (after s note.deed) notes) later))
+
+-- the commits with one note more
+pub commits_of_more : (n client capacity : ℕ) (notes : List Note) (note : Note) → commits_of n client capacity (notes ++ note ∷ []) ≡ commits_of n client capacity notes ++ commit_in (client_after n client capacity notes) note.deed
+commits_of_more n client capacity notes note =
+    commits_from-append (new_client n client capacity) notes (note ∷ [])
+    ∙ ap (λ l. commits_of n client capacity notes ++ l) (append-nil (commit_in (client_after n client capacity notes) note.deed))
+
+-- the commits of a prefix are a prefix of the commits
+pub commits_of_prefix : (n client capacity m : ℕ) (notes : List Note) → (later : List Tx) × (commits_of n client capacity notes ≡ commits_of n client capacity (take m notes) ++ later)
+commits_of_prefix n client capacity m notes = (
+  commits_from (client_after n client capacity (take m notes)) (drop m notes),
+  ap (commits_of n client capacity) (sym (Rattle.std.proofs.lemmas.List.take-append-drop m notes)) ∙ commits_from-append (new_client n client capacity) (take m notes) (drop m notes),
+)
+
+-- ---- updates of a moderate size
+
+-- at most so many updates, each with a small delta
+pub record IsModest (updates : List Update) : Type 0 where
+  pub few : length updates ≤ 256
+  pub sized : (o : ObjectId) → sizes (deltas_of o updates) ≤ 1000000000000 * length updates
+
+-- one update more adds at most its own size
+deltas_of-more : (o : ObjectId) (updates : List Update) (u : Update) (most : ℕ) → unsigned_abs (delta_of u.op) ≤ most → sizes (deltas_of o (updates ++ u ∷ [])) ≤ sizes (deltas_of o updates) + most
+deltas_of-more o [] u most small = go (same_object u.object o)
+  where
+    go : (b : Bool) → sizes (cond b (delta_of u.op ∷ []) []) ≤ 0 + most
+    go true = omega (arith, small)
+    go false = omega arith
+deltas_of-more o (v ∷ updates) u most small = go (same_object v.object o) (deltas_of-more o updates u most small)
+  where
+    go : (b : Bool) → sizes (deltas_of o (updates ++ u ∷ [])) ≤ sizes (deltas_of o updates) + most → sizes (cond b (delta_of v.op ∷ deltas_of o (updates ++ u ∷ [])) (deltas_of o (updates ++ u ∷ []))) ≤ sizes (cond b (delta_of v.op ∷ deltas_of o updates) (deltas_of o updates)) + most
+    go true rest = omega (arith, rest)
+    go false rest = rest
+
+pub modest_none : IsModest []
+modest_none = record { few = omega arith; sized = λ o. omega arith }
+
+pub modest_more : (updates : List Update) (u : Update) → IsModest updates → length updates < 256 → unsigned_abs (delta_of u.op) ≤ 1000000000000 → IsModest (updates ++ u ∷ [])
+modest_more updates u modest room small = record {
+  few = omega (arith, length-append updates (u ∷ []), room);
+  sized = λ o. omega (arith, length-append updates (u ∷ []), deltas_of-more o updates u 1000000000000 small, modest.sized o);
+}
+
+-- a small operation has a small delta
+pub small_delta : (op : Op) → is_small op ≡ true → unsigned_abs (delta_of op) ≤ 1000000000000
+small_delta (IncOp delta) small = leb-true (unsigned_abs delta) 1000000000000 small
+
+-- ---- what calls and answers tell
+
+-- what is fine is no refusal
+differs : (test : Bool) (refusal : Refusal) (y : Outcome) → when test (Refused refusal) ≡ Some y → Fine ≡ y → ⊥
+differs test refusal y there same = let e : y ≡ Refused refusal = when_some test (Refused refusal) y there in cc
+
+-- a transaction is begun below the greatest rank
+pub begin_fine : (s : Client) → Fine ≡ begin_outcome s → s.clock < most_rank
+begin_fine s is =
+    let l = last_of (when (is_some s.draft) (Refused AlreadyOpen) ∷ when (nat_le most_rank s.clock) (Refused ClockFull) ∷ []) Fine Fine is (differs _ AlreadyOpen, (differs _ ClockFull, tt)) in
+    leb-false most_rank s.clock (when_none _ _ l.0.1.0)
+
+-- a change that is made has a small delta, and there is room for it
+pub record ChangeFine (s : Client) (change : Change) : Type 0 where
+  pub opened : is_none s.draft ≡ false
+  pub small : is_small (op_of change) ≡ true
+  pub room : length (draft_updates s) < 256
+
+-- what a change tells that is made
+pub change_fine : (s : Client) (change : Change) → Fine ≡ change_outcome s change → ChangeFine s change
+change_fine s change is =
+    let l = last_of (when (is_none s.draft) (Refused NotOpen) ∷ when (not (is_small (op_of change))) (Refused DeltaTooLarge) ∷ when (nat_le most_updates (length (draft_updates s))) (Refused (TooManyUpdates most_updates)) ∷ []) Fine Fine is (differs _ NotOpen, (differs _ DeltaTooLarge, (differs _ (TooManyUpdates most_updates), tt))) in
+    record {
+      opened = when_none _ _ l.0.0;
+      small = not-false _ (when_none _ _ l.0.1.0);
+      room = leb-false most_updates (length (draft_updates s)) (when_none _ _ l.0.1.1.0);
+    }
+
+-- a commit that gets a number has its transaction open
+pub commit_number : (s : Client) (number : ℕ) (draft : Option (List Update)) → Number number ≡ commit_outcome s draft → (updates : List Update) × (draft ≡ Some updates)
+commit_number s number None is = absurd (cc)
+commit_number s number (Some updates) is = (updates, refl)
+
+-- a snapshot that can follow the client's
+pub record CanFollow (s : Client) (vector : List ℕ) (mine top : ℕ) : Type 0 where
+  pub closed : s.draft ≡ None
+  pub width : length vector ≡ length s.vector
+  pub covered : Covers vector s.vector
+  pub ranked : top ≤ most_rank
+  pub grows : s.mine ≤ mine
+  pub made : mine ≤ s.own
+
+-- what the test tells
+pub can_follow-true : (s : Client) (vector : List ℕ) (mine top : ℕ) → can_follow s vector mine top ≡ true → CanFollow s vector mine top
+can_follow-true s vector mine top is =
+    let a = and_parts _ (nat_le mine s.own) is in
+    let b = and_parts _ (nat_le s.mine mine) a.0 in
+    let c = and_parts _ (nat_le top most_rank) b.0 in
+    let d = and_parts _ (covers vector s.vector) c.0 in
+    let e = and_parts (is_none s.draft) (length vector == length s.vector) d.0 in
+    record {
+      closed = is_none_true s.draft e.0;
+      width = eqb-true (length vector) (length s.vector) e.1;
+      covered = covers-true vector s.vector d.1;
+      ranked = leb-true top most_rank c.1;
+      grows = leb-true s.mine mine b.1;
+      made = leb-true mine s.own a.1;
+    }

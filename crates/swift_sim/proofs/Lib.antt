@@ -1,0 +1,8 @@
+mod Pieces
+pub mod Growing
+pub mod Taking
+pub mod Leaving
+pub mod Near
+pub mod Lone
+pub mod PlaysAscend
+pub mod Owing

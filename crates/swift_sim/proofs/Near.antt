@@ -1,0 +1,151 @@
+-- A step of the client asks centre 1 alone, and hears each answer.
+use Rattle.std.proofs.Common.{◌≡◌, ℕ, Bool, true, false, cond, List, [], ◌∷◌, ◌++◌, Option, Some, None, sym, subst, map}
+use Rattle.ids_core.specs.declared.object.ObjectId.{ObjectId}
+use Rattle.tx_core.specs.declared.tx.Tx.{Tx}
+use Rattle.tx_core.specs.declared.tx.Update.{Update}
+use Rattle.dc_talk.specs.declared.ask.Ask.{Ask}
+use Rattle.dc_talk.specs.declared.ask.Ask.TheVariants.{Hello, Refresh as RefreshAsk, Fetch, Commit as CommitAsk}
+use Rattle.dc_talk.specs.declared.say.Say.{Say}
+use Rattle.dc_talk.specs.declared.say.Say.TheVariants.{Welcome, Snap, Object, Known, Stamped}
+use Rattle.dc_talk.specs.declared.session.Link.{Link}
+use Rattle.dc_talk.specs.declared.session.Call.{Call}
+use Rattle.dc_talk.specs.declared.session.Call.TheVariants.{Begin as BeginCall, Change as ChangeCall, Read as ReadCall, Commit as CommitCall}
+use Rattle.dc_talk.specs.declared.session.Change.TheVariants.{Inc as IncChange}
+use Rattle.dc_talk.specs.declared.session.Refusal.TheVariants.{AlreadyOpen, ClockFull, NotOpen, TooManyUpdates, PendingFull}
+use Rattle.dc_talk.specs.declared.session.Outcome.{Outcome}
+use Rattle.dc_talk.specs.declared.session.Outcome.TheVariants.{Fine, Got, Number, Nothing, Refused}
+use Rattle.dc_talk.specs.declared.log.Deed.{Deed}
+use Rattle.dc_talk.specs.declared.log.Deed.TheVariants.{Did, Asked, Told}
+use Rattle.dc_talk.specs.declared.log.Fate.TheVariants.{Heard}
+use Rattle.dc_talk.specs.declared.log.Note.{Note}
+use Rattle.dc_talk.specs.declared.line.StepWord.{StepWord}
+use Rattle.dc_talk.specs.declared.line.StepWord.TheVariants.{Inc as IncWord}
+use Rattle.dc_talk.specs.Clients.{Client}
+use Rattle.dc_talk.specs.Calls.{outcome_of, did}
+use Rattle.dc_talk.specs.Rule.{after, heard, takes, taken, sent_through, next_commit, fetch_of}
+use Rattle.script_text.specs.declared.steps.ClientStep.{ClientStep}
+use Rattle.script_text.specs.declared.steps.ClientStep.TheVariants.{Connect, Begin, Inc, Read, Commit, Push, Refresh}
+use Rattle.script_text.specs.Steps.{IsStep}
+use Rattle.script_text.specs.Deeds.{StepDeeds, FetchesOver, ReadDeeds, ReadsBehind, PushesNext, PushDeeds, RefreshDeeds, after_fetch, reads, begin_told, change_told, read_told, commit_told}
+use Rattle.run_book.specs.Alone.{IsNear, AllNear}
+use Rattle.swift_sim.specs.Playing.{IsNearLink, marked, after_all}
+
+-- each ask of the deeds is of centre 1, and its answer was heard
+abbrev pub AreNear : List Deed → Type 0
+AreNear [] = Unit {0}
+AreNear (deed ∷ deeds) = IsNear deed × AreNear deeds
+
+-- ---- the deeds of a step
+
+begin_near : (client : ℕ) (out : Outcome) → AreNear (begin_told client out)
+begin_near client (Refused AlreadyOpen) = (tt, tt)
+begin_near client (Refused ClockFull) = (tt, tt)
+begin_near client _ = tt
+
+change_near : (client : ℕ) (word : StepWord) (o : ObjectId) (out : Outcome) → AreNear (change_told client word o out)
+change_near client word o (Refused NotOpen) = (tt, tt)
+change_near client word o (Refused (TooManyUpdates limit)) = (tt, tt)
+change_near client word o _ = tt
+
+commit_near : (client : ℕ) (out : Outcome) → AreNear (commit_told client out)
+commit_near client (Number number) = (tt, tt)
+commit_near client Nothing = (tt, tt)
+commit_near client (Refused NotOpen) = (tt, tt)
+commit_near client (Refused (PendingFull limit)) = (tt, tt)
+commit_near client _ = tt
+
+value_near : (client : ℕ) (o : ObjectId) (out : Outcome) → AreNear (read_told client o out)
+value_near client o (Got value) = (tt, tt)
+value_near client o _ = tt
+
+either_near : (test : Bool) (xs ys : List Deed) → AreNear xs → AreNear ys → AreNear (cond test xs ys)
+either_near true xs ys first second = first
+either_near false xs ys first second = second
+
+reads_near : (s : Client) (o : ObjectId) → AreNear (reads s o)
+reads_near s o = (tt, value_near s.client o (outcome_of s (ReadCall o)))
+
+after_fetch_near : (s : Client) (i : ℕ) (o : ObjectId) (say : Say) → AreNear (after_fetch s i o say)
+after_fetch_near s i o say = either_near (takes s i (fetch_of s o) say) _ _ (reads_near (heard s i (fetch_of s o) say) o) (tt, tt)
+
+fetch_near : (s : Client) (l : Option Link) (o : ObjectId) (deeds : List Deed) → IsNearLink l → FetchesOver s l o deeds → AreNear deeds
+fetch_near s None o deeds near are = subst AreNear (sym are) (tt, tt)
+fetch_near s (Some link) o deeds near fetch = subst AreNear (sym fetch.are) (near, after_fetch_near s link.centre o fetch.say)
+
+behind_near : (s : Client) (o : ObjectId) (out : Outcome) (deeds : List Deed) → IsNearLink s.link → ReadsBehind s o out deeds → AreNear deeds
+behind_near s o out deeds near r = subst AreNear (sym r.are) (tt, fetch_near s s.link o r.rest near r.fetch)
+
+read_near : (s : Client) (o : ObjectId) (out : Outcome) (deeds : List Deed) → IsNearLink s.link → ReadDeeds s o out deeds → AreNear deeds
+read_near s o (Got value) deeds near are = subst AreNear (sym are) (reads_near s o)
+read_near s o Fine deeds near r = behind_near s o Fine deeds near r
+read_near s o (Number number) deeds near r = behind_near s o (Number number) deeds near r
+read_near s o Nothing deeds near r = behind_near s o Nothing deeds near r
+read_near s o (Refused refusal) deeds near r = behind_near s o (Refused refusal) deeds near r
+
+next_near : (s : Client) (i : ℕ) (next : Option Tx) (deeds : List Deed) → i ≡ 1 → PushesNext s i next deeds → AreNear deeds
+next_near s i None deeds near are = subst AreNear (sym are) (tt, tt)
+next_near s i (Some tx) deeds near push = subst AreNear (sym push.are) (near, (tt, tt))
+
+push_near : (s : Client) (l : Option Link) (deeds : List Deed) → IsNearLink l → PushDeeds s l deeds → AreNear deeds
+push_near s None deeds near are = subst AreNear (sym are) (tt, tt)
+push_near s (Some link) deeds near push = next_near s link.centre (next_commit s link) deeds near push
+
+refresh_near : (s : Client) (l : Option Link) (draft : Option (List Update)) (deeds : List Deed) → IsNearLink l → RefreshDeeds s l draft deeds → AreNear deeds
+refresh_near s None draft deeds near are = subst AreNear (sym are) (tt, tt)
+refresh_near s (Some link) (Some updates) deeds near are = subst AreNear (sym are) (tt, tt)
+refresh_near s (Some link) None deeds near refresh = subst AreNear (sym refresh.are) (near, (tt, tt))
+
+-- the asks of a step go to centre 1, as the link does
+pub step_near : (s : Client) (step : ClientStep) (deeds : List Deed) → IsStep step → IsNearLink s.link → StepDeeds s step deeds → AreNear deeds
+step_near s (Connect centre) deeds is near hello = subst AreNear (sym hello.are) (is, (tt, tt))
+step_near s Begin deeds is near are = subst AreNear (sym are) (tt, begin_near s.client (outcome_of s BeginCall))
+step_near s (Inc o delta) deeds is near are = subst AreNear (sym are) (tt, change_near s.client IncWord o (outcome_of s (ChangeCall o (IncChange delta))))
+step_near s (Read o) deeds is near read = read_near s o (outcome_of s (ReadCall o)) deeds near read
+step_near s Commit deeds is near are = subst AreNear (sym are) (tt, commit_near s.client (outcome_of s CommitCall))
+step_near s Push deeds is near push = push_near s s.link deeds near push
+step_near s Refresh deeds is near refresh = refresh_near s s.link s.draft deeds near refresh
+
+-- ---- the link
+
+through_near : (number own : ℕ) (l : Option Link) → IsNearLink l → IsNearLink (sent_through number own l)
+through_near number own None near = tt
+through_near number own (Some link) near = near
+
+taken_near : (s : Client) (i : ℕ) (ask : Ask) (say : Say) → i ≡ 1 → IsNearLink s.link → IsNearLink (taken s i ask say).link
+taken_near s i (Hello client need) (Welcome through) here near = here
+taken_near s i (CommitAsk tx) (Stamped stamp) here near = through_near tx.dot.number s.own s.link near
+taken_near s i (CommitAsk tx) (Known through) here near = through_near through s.own s.link near
+taken_near s i (RefreshAsk client need) (Snap vector mine top) here near = near
+taken_near s i (Fetch o need) (Object state) here near = near
+taken_near s i _ _ here near = near
+
+heard_near : (s : Client) (i : ℕ) (ask : Ask) (say : Say) → i ≡ 1 → IsNearLink s.link → IsNearLink (heard s i ask say).link
+heard_near s i ask say here near = go (takes s i ask say)
+  where
+    go : (test : Bool) → IsNearLink (cond test (taken s i ask say) s).link
+    go true = taken_near s i ask say here near
+    go false = near
+
+did_near : (s : Client) (call : Call) (out : Outcome) → IsNearLink s.link → IsNearLink (did s call out).link
+did_near s BeginCall Fine near = near
+did_near s (ChangeCall o change) Fine near = near
+did_near s (ReadCall o) (Got value) near = near
+did_near s CommitCall (Number number) near = near
+did_near s CommitCall Nothing near = near
+did_near s _ _ near = near
+
+after_near : (s : Client) (deed : Deed) → IsNear deed → IsNearLink s.link → IsNearLink (after s deed).link
+after_near s (Did call out) here near = did_near s call out near
+after_near s (Asked i ask (Heard say)) here near = heard_near s i ask say here near
+after_near s _ here near = near
+
+-- the link stays one to centre 1
+pub link_near : (s : Client) (deeds : List Deed) → AreNear deeds → IsNearLink s.link → IsNearLink (after_all s deeds).link
+link_near s [] all near = near
+link_near s (deed ∷ deeds) all near = link_near (after s deed) deeds all.1 (after_near s deed all.0 near)
+
+-- notes of such deeds behind others
+pub notes_near : (notes : List Note) (section step : ℕ) (deeds : List Deed) → AllNear notes → AreNear deeds → AllNear (notes ++ map (marked section step) deeds)
+notes_near [] section step [] old new = tt
+notes_near [] section step (deed ∷ deeds) old new = (new.0, notes_near [] section step deeds tt new.1)
+notes_near (note ∷ notes) section step deeds old new = (old.0, notes_near notes section step deeds old.1 new)

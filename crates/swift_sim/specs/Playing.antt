@@ -1,0 +1,141 @@
+-- One client beside one centre, and how both grow by the client's deeds.
+use Rattle.std.specs.Prelude.{◌≡◌, ℕ, ◌+◌, Bool, true, false, fold, map, List, [], ◌∷◌, ◌++◌, Option, Some, None}
+use Rattle.std.specs.List.{filter_map}
+use Rattle.ids_core.specs.declared.object.ObjectId.{ObjectId}
+use Rattle.dc_talk.specs.declared.ask.Ask.{Ask}
+use Rattle.dc_talk.specs.declared.ask.Ask.TheVariants.{Commit}
+use Rattle.dc_talk.specs.declared.say.Say.{Say}
+use Rattle.dc_talk.specs.declared.session.Call.TheVariants.{Read as ReadCall}
+use Rattle.dc_talk.specs.declared.session.Outcome.{Outcome}
+use Rattle.dc_talk.specs.declared.session.Outcome.TheVariants.{Got}
+use Rattle.dc_talk.specs.declared.log.Fate.TheVariants.{Heard}
+use Rattle.dc_talk.specs.declared.log.Deed.{Deed}
+use Rattle.dc_talk.specs.declared.log.Deed.TheVariants.{Did, Asked, Told}
+use Rattle.dc_talk.specs.declared.log.Note.{Note}
+use Rattle.dc_talk.specs.declared.line.Line.{Line}
+use Rattle.dc_talk.specs.declared.trail.Entry.{Entry}
+use Rattle.dc_talk.specs.Logs.{Logged}
+use Rattle.dc_talk.specs.Clients.{Client, new_client}
+use Rattle.dc_talk.specs.Calls.{outcome_of}
+use Rattle.dc_talk.specs.declared.session.Link.{Link}
+use Rattle.dc_talk.specs.Rule.{after, heard, takes, client_after, Allows, Follows}
+use Rattle.dc_centre.specs.Desk.{Keeps}
+use Rattle.script_text.specs.declared.steps.ClientStep.{ClientStep}
+use Rattle.swift_sim.specs.declared.purpose.Purpose.{Purpose}
+use Rattle.swift_sim.specs.Purposes.{told_after}
+use Rattle.script_text.specs.Deeds.{StepDeeds, FetchesOver, reads}
+use Rattle.run_book.specs.Scripted.{Plays, placed_from}
+use Rattle.run_book.specs.Alone.{entry_of, AllNear}
+
+-- a centre with its trail, a client, and the client's log
+pub record Playing : Type 0 where
+  pub desk : Keeps
+  pub client : Client
+  pub log : Logged
+
+-- a deed as a note of a section and step
+abbrev pub marked : ℕ → ℕ → Deed → Note
+marked section step deed = record { section = section; step = step; deed = deed }
+
+-- the log with more deeds
+abbrev pub noted_all : Logged → List Deed → Logged
+noted_all log deeds = record log { notes = log.notes ++ map (marked log.section log.step) deeds }
+
+-- the line that is told, where there is one
+abbrev pub told_of : Option Line → List Deed
+told_of None = []
+told_of (Some line) = Told line ∷ []
+
+-- the client after deeds
+abbrev pub after_all : Client → List Deed → Client
+after_all s deeds = fold after s deeds
+
+-- each deed of a section and step is one that the session rule allows, in turn
+abbrev pub AllowsAll : ℕ → ℕ → Client → List Note → List Deed → Type 0
+AllowsAll section step s before [] = Unit {0}
+AllowsAll section step s before (deed ∷ deeds) = Allows s before deed × AllowsAll section step (after s deed) (before ++ marked section step deed ∷ []) deeds
+
+-- client, log and trail grow by these deeds
+pub record Grows (old new : Playing) (deeds : List Deed) : Type 0 where
+  pub log : new.log ≡ noted_all old.log deeds
+  pub client : new.client ≡ after_all old.client deeds
+  pub desk : new.desk ≡ record old.desk { entries = old.desk.entries ++ filter_map (entry_of old.log.actor) deeds }
+  pub allowed : AllowsAll old.log.section old.log.step old.client old.log.notes deeds
+
+-- a step of the client: what it leaves is as is defined for the step
+pub record Takes (step : ClientStep) (old new : Playing) : Type 0 where
+  pub deeds : List Deed
+  pub are : StepDeeds old.client step deeds
+  pub grows : Grows old new deeds
+
+-- whether a read has its value
+abbrev pub is_got : Outcome → Bool
+is_got (Got value) = true
+is_got _ = false
+
+-- a read call with its line
+pub record TriesRead (o : ObjectId) (old new : Playing) (got : Bool) : Type 0 where
+  pub grows : Grows old new (reads old.client o)
+  pub is : got ≡ is_got (outcome_of old.client (ReadCall o))
+
+-- the player once an ask of centre i was answered so and heard
+abbrev pub after_exchange : Playing → ℕ → Ask → Say → Playing
+after_exchange p i ask say = record {
+  desk = record p.desk { entries = p.desk.entries ++ record { caller = p.log.actor; ask = ask; say = say } ∷ [] };
+  client = heard p.client i ask say;
+  log = noted_all p.log (Asked i ask (Heard say) ∷ []);
+}
+
+-- an ask of centre i for a purpose, answered, heard, and its line told
+pub record Exchanged (purpose : Purpose) (i : ℕ) (ask : Ask) (old new : Playing) (took : Bool) : Type 0 where
+  pub say : Say
+  pub after : new ≡ record (after_exchange old i ask say) { log = noted_all (after_exchange old i ask say).log (told_after purpose old.client.client i (takes old.client i ask say) say) }
+  pub is : took ≡ takes old.client i ask say
+
+-- the same as growth, for an ask that the session makes then
+pub record Exchanges (purpose : Purpose) (i : ℕ) (ask : Ask) (old new : Playing) (took : Bool) : Type 0 where
+  pub say : Say
+  pub grows : Grows old new (Asked i ask (Heard say) ∷ told_after purpose old.client.client i (takes old.client i ask say) say)
+  pub is : took ≡ takes old.client i ask say
+
+-- a fetch for a read, and the read
+pub record FetchesFor (o : ObjectId) (old new : Playing) : Type 0 where
+  pub deeds : List Deed
+  pub are : FetchesOver old.client old.client.link o deeds
+  pub grows : Grows old new deeds
+
+-- the number of the transaction that an ask commits
+abbrev pub number_in : Ask → ℕ
+number_in (Commit tx) = tx.dot.number
+number_in _ = 0
+
+-- a client beside centre 1 of n, both at first
+abbrev pub new_playing : ℕ → ℕ → ℕ → ℕ → ℕ → Playing
+new_playing client cache n k limit = record {
+  desk = record { me = 1; n = n; k = k; limit = limit; entries = [] };
+  client = new_client n client cache;
+  log = record { actor = client + 1; section = 0; step = 0; notes = [] };
+}
+
+-- the player with its log at a section, of which it takes the only step
+abbrev pub at_section : Playing → ℕ → Playing
+at_section p section = record p { log = record p.log { section = section; step = 1 } }
+
+-- there is no link, or one to centre 1
+abbrev pub IsNearLink : Option Link → Type 0
+IsNearLink None = Unit {0}
+IsNearLink (Some link) = link.centre ≡ 1
+
+-- client 1 took these steps beside the only centre, each in a section of its own
+pub record HasTaken (limit capacity : ℕ) (steps : List ClientStep) (p : Playing) : Type 0 where
+  pub me : p.desk.me ≡ 1
+  pub n : p.desk.n ≡ 1
+  pub k : p.desk.k ≡ 1
+  pub limit_is : p.desk.limit ≡ limit
+  pub actor : p.log.actor ≡ 2
+  pub client : p.client ≡ client_after 1 1 capacity p.log.notes
+  pub linked : IsNearLink p.client.link
+  pub entries : p.desk.entries ≡ filter_map (λ note. entry_of 2 note.deed) p.log.notes
+  pub follows : Follows 1 1 capacity p.log.notes
+  pub plays : Plays (new_client 1 1 capacity) (placed_from 1 steps) p.log.notes
+  pub near : AllNear p.log.notes

@@ -1,0 +1,185 @@
+// The lines of steps, by how the session and the centre answered.
+ghost use Rattle.std.specs.Prelude.{◌≡◌, IfOk};
+ghost use Rattle.script_text.specs.Deeds.{hello_line, begin_told, change_told, read_told, commit_told, fetch_line, push_end, refresh_line};
+ghost use Rattle.swift_sim.specs.Playing.{told_of};
+
+use dc_talk::{Line, Miss, Outcome, PushEnd, Refusal, Say, StepWord};
+use ids_core::{NoMemory, ObjectId};
+use vv_core::Lack;
+
+/// The line of a connect that was answered so.
+pub fn connect_line(client: u32, centre: u8, say: &Say) -> Line
+    ensures { result ≡ hello_line client centre say.now }
+{
+    match say {
+        Say::Welcome { .. } => Line::At { client, centre },
+        Say::Lacks {
+            centre: of,
+            need,
+            have,
+        } => Line::Refused {
+            client,
+            centre,
+            lack: Lack {
+                centre: *of,
+                need: *need,
+                have: *have,
+            },
+        },
+        _ => Line::ConnectMissed {
+            client,
+            centre,
+            miss: Miss::Misfit,
+        },
+    }
+}
+
+/// The line of a begin that ended so, where it has one.
+pub fn begin_line(client: u32, outcome: &Outcome) -> Option<Line>
+    ensures { told_of result ≡ begin_told client outcome.now }
+{
+    match outcome {
+        Outcome::Refused(Refusal::AlreadyOpen) => Some(Line::BeginOpen { client }),
+        Outcome::Refused(Refusal::ClockFull) => Some(Line::BeginClock { client }),
+        _ => None,
+    }
+}
+
+/// The line of a change that ended so, where it has one.
+pub fn change_line(
+    client: u32,
+    word: StepWord,
+    object: &ObjectId,
+    outcome: &Outcome,
+) -> Option<Line>
+    ensures { told_of result ≡ change_told client word object.now outcome.now }
+{
+    match outcome {
+        Outcome::Refused(Refusal::NotOpen) => Some(Line::Closed {
+            client,
+            word,
+            object: *object,
+        }),
+        Outcome::Refused(Refusal::TooManyUpdates { .. }) => Some(Line::ManyUpdates {
+            client,
+            word,
+            object: *object,
+        }),
+        _ => None,
+    }
+}
+
+/// The line of a read that ended so, where it has a value.
+pub fn read_line(
+    client: u32,
+    object: &ObjectId,
+    outcome: &Outcome,
+) -> Result<Option<Line>, NoMemory>
+    ensures { IfOk result (λ line. told_of line ≡ read_told client object.now outcome.now) }
+{
+    match outcome {
+        Outcome::Got(value) => Ok(Some(Line::ReadValue {
+            client,
+            object: *object,
+            value: value.clone()?,
+        })),
+        _ => Ok(None),
+    }
+}
+
+/// The line of a commit that ended so, where it has one.
+pub fn commit_line(client: u32, outcome: &Outcome) -> Option<Line>
+    ensures { told_of result ≡ commit_told client outcome.now }
+{
+    match outcome {
+        Outcome::Number(number) => Some(Line::CommitNumber {
+            client,
+            number: *number,
+        }),
+        Outcome::Nothing => Some(Line::CommitNone { client }),
+        Outcome::Refused(Refusal::NotOpen) => Some(Line::CommitClosed { client }),
+        Outcome::Refused(Refusal::PendingFull { .. }) => Some(Line::CommitPending { client }),
+        _ => None,
+    }
+}
+
+/// The line of a fetch that gave no state.
+pub fn missed_fetch(client: u32, word: StepWord, object: &ObjectId, say: &Say) -> Line
+    ensures { result ≡ fetch_line client word object.now say.now }
+{
+    let object = *object;
+    match say {
+        Say::Lacks { centre, need, have } => Line::FetchLacks {
+            client,
+            word,
+            object,
+            lack: Lack {
+                centre: *centre,
+                need: *need,
+                have: *have,
+            },
+        },
+        Say::Object { .. } => Line::FetchIgnored {
+            client,
+            word,
+            object,
+        },
+        _ => Line::FetchMissed {
+            client,
+            word,
+            object,
+            miss: Miss::Misfit,
+        },
+    }
+}
+
+/// How a push that was answered so ended.
+pub fn end_of_push(say: &Say) -> PushEnd
+    ensures { result ≡ push_end say.now }
+{
+    match say {
+        Say::Stamped { stamp } => PushEnd::Stamped { stamp: *stamp },
+        Say::Known { through } => PushEnd::Known { through: *through },
+        Say::Full { limit } => PushEnd::Full { limit: *limit },
+        Say::OutOfOrder { have } => PushEnd::Order { have: *have },
+        Say::Lacks { centre, need, have } => PushEnd::Lacks {
+            lack: Lack {
+                centre: *centre,
+                need: *need,
+                have: *have,
+            },
+        },
+        _ => PushEnd::Missed { miss: Miss::Misfit },
+    }
+}
+
+/// The line of a refresh that was answered so, by whether the session took the answer.
+pub fn refreshed_line(client: u32, took: bool, say: &Say) -> Line
+    ensures { result ≡ refresh_line client took say.now }
+{
+    match say {
+        Say::Snap { vector, mine, .. } => {
+            if took {
+                Line::Sees {
+                    client,
+                    vector: *vector,
+                    mine: *mine,
+                }
+            } else {
+                Line::RefreshIgnored { client }
+            }
+        }
+        Say::Lacks { centre, need, have } => Line::RefreshLacks {
+            client,
+            lack: Lack {
+                centre: *centre,
+                need: *need,
+                have: *have,
+            },
+        },
+        _ => Line::RefreshMissed {
+            client,
+            miss: Miss::Misfit,
+        },
+    }
+}

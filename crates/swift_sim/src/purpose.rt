@@ -1,0 +1,43 @@
+// What a client asks a centre for.
+ghost use Rattle.std.specs.Prelude.{◌≡◌};
+
+use crate::lines::{connect_line, end_of_push, missed_fetch, refreshed_line};
+use dc_talk::{Line, Say, StepWord};
+use ids_core::ObjectId;
+
+/// Why a client asks a centre: for which step, and about what.
+#[derive(Clone, Copy, Debug)]
+pub enum Purpose {
+    Connect,
+    Fetch { object: ObjectId },
+    Push { number: u64 },
+    Refresh,
+}
+
+impl Purpose {
+    ghost use Rattle.swift_sim.specs.Playing.{told_of};
+    ghost use Rattle.swift_sim.specs.Purposes.{told_after};
+
+    /// The line that comes of the answer, by whether the session took it; none where a state was
+    /// fetched, since the read goes on then.
+    pub fn line(self, client: u32, centre: u8, took: bool, say: &Say) -> Option<Line>
+        ensures { told_of result ≡ told_after self client centre took say.now }
+    {
+        match self {
+            Purpose::Connect => Some(connect_line(client, centre, say)),
+            Purpose::Fetch { object } => {
+                if took {
+                    None
+                } else {
+                    Some(missed_fetch(client, StepWord::Read, &object, say))
+                }
+            }
+            Purpose::Push { number } => Some(Line::Push {
+                client,
+                number,
+                end: end_of_push(say),
+            }),
+            Purpose::Refresh => Some(refreshed_line(client, took, say)),
+        }
+    }
+}

@@ -1,0 +1,168 @@
+// The top call.
+ghost use Rattle.std.specs.Prelude.{◌≡◌, ◌≢◌, ◌⊎◌, ◌↔◌, Err, IfOk, IfSome, IsTrue, None, codes};
+ghost use Rattle.io_edge.specs.Streams.{HasRisen};
+ghost use Rattle.run_book.specs.Graphs.{IsCausal, FirstSums};
+ghost use Rattle.swift_sim.specs.Runs.{EndsSo, IsSomeScript, IsStatus, Owes, OwesFor, RefusedInput, RefusedWords, Serves, WroteFront, WroteShort, empty_book, serial_words, texts, usage_text};
+
+use crate::engine::{Owed, owed_for};
+use crate::stream::{ReadFault, read_input, write_all};
+use ids_core::NoMemory;
+use io_edge::{Gate, Sink, Source, WriteFault};
+use run_book::Book;
+use std::alloc::Global;
+
+/// How a run ended.
+#[derive(Drop)]
+pub struct Ended {
+    /// 0 where a script was played, 2 for words of no form, 3 for an input that is no script, 4 after
+    /// a failed read, 5 after a failed write, and 6 for want of memory.
+    pub status: u8,
+    /// What the run left, or an empty book.
+    pub book: Book,
+}
+
+fn is_serial_word(word: &str) -> bool
+    ensures { IsTrue result ↔ (word.now ≡ codes "serial") }
+{
+    word == "serial"
+}
+
+// Whether the words play a script on one thread.
+fn is_serial(words: &[String]) -> bool
+    ensures { IsTrue result ↔ (texts words.now ≡ serial_words) }
+{
+    match words {
+        [word] => is_serial_word(word.as_str()),
+        _ => false,
+    }
+}
+
+// What is owed for words of no form.
+fn usage(alloc: Global) -> Result<Owed, NoMemory>
+    ensures status { IfOk result (λ owed. owed.status ≡ 2) }
+    ensures text { IfOk result (λ owed. owed.text.items ≡ usage_text) }
+    ensures book { IfOk result (λ owed. owed.book ≡ empty_book) }
+{
+    Ok(Owed {
+        status: 2,
+        text: Vec::from_slice(
+            alloc,
+            b"usage: swift_sim run|serial [--trail] or make|load NUM\n",
+        )?,
+        book: Book::new(alloc, 1, 1),
+    })
+}
+
+// Reads an input, and what is owed for it.
+fn owed_of<S: Source>(alloc: Global, source: &mut S) -> Result<Owed, ReadFault>
+    ensures owed { IfOk result (λ owed. OwesFor (S.left source.old) owed.status owed.text.items owed.book) }
+    ensures failed { result ≡ Err ReadFault.Failed → HasRisen (S.faults source.old) (S.faults source.new) }
+    ensures quiet { result ≢ Err ReadFault.Failed → S.faults source.new ≡ S.faults source.old }
+{
+    let input = read_input(alloc, source)?;
+    let owed = owed_for(alloc, &input)?;
+    Ok(owed)
+}
+
+// What is owed for the words and the source, from which nothing is read for words of no form.
+fn owed_to<S: Source>(alloc: Global, words: &[String], source: &mut S) -> Result<Owed, ReadFault>
+    ensures owed { IfOk result (λ owed. Owes (texts words.now) (S.left source.old) owed.status owed.text.items owed.book) }
+    ensures form { result ≡ Err ReadFault.Failed → texts words.now ≡ serial_words }
+    ensures failed { result ≡ Err ReadFault.Failed → HasRisen (S.faults source.old) (S.faults source.new) }
+    ensures quiet { result ≢ Err ReadFault.Failed → S.faults source.new ≡ S.faults source.old }
+{
+    if is_serial(words) {
+        let owed = owed_of(alloc, source)?;
+        Ok(owed)
+    } else {
+        let owed = usage(alloc)?;
+        Ok(owed)
+    }
+}
+
+// The end with a status and an empty book.
+fn ended_empty(alloc: Global, status: u8) -> Ended
+    ensures status { result.status ≡ status }
+    ensures book { result.book ≡ empty_book }
+{
+    Ended {
+        status,
+        book: Book::new(alloc, 1, 1),
+    }
+}
+
+// Runs the words, by what is owed for them.
+fn run<S: Source, W: Sink>(alloc: Global, words: &[String], source: &mut S, sink: &mut W) -> Ended
+    ensures ends { EndsSo (texts words.now) (S.left source.old) (W.taken sink.old) (W.taken sink.new) result.status result.book }
+    ensures read { result.status ≡ 4 → HasRisen (S.faults source.old) (S.faults source.new) }
+    ensures write { result.status ≡ 5 → HasRisen (W.faults sink.old) (W.faults sink.new) }
+    ensures read_quiet { result.status ≢ 4 → S.faults source.new ≡ S.faults source.old }
+    ensures write_quiet { result.status ≢ 5 → W.faults sink.new ≡ W.faults sink.old }
+{
+    match owed_to(alloc, words, source) {
+        Ok(owed) => match write_all(sink, &owed.text) {
+            Ok(()) => Ended {
+                status: owed.status,
+                book: owed.book,
+            },
+            Err(WriteFault::Failed) => Ended {
+                status: 5,
+                book: owed.book,
+            },
+            Err(WriteFault::NoMemory) => ended_empty(alloc, 6),
+        },
+        Err(ReadFault::Failed) => ended_empty(alloc, 4),
+        Err(ReadFault::NoMemory) => ended_empty(alloc, 6),
+    }
+}
+
+/// Plays the script that the source has where the words are `serial`, and writes the text of the run
+/// to the sink: the values read and the answers of the steps. The statuses are those of [`Ended`].
+/// After the first read or write that fails no other is made. The gate is for runs with threads.
+pub fn swift_main<S: Source, W: Sink, G: Gate>(
+    alloc: Global,
+    words: &[String],
+    source: &mut S,
+    sink: &mut W,
+    _gate: &G,
+) -> Ended
+    // There are no other statuses.
+    ensures statuses { IsStatus result.status }
+
+    // 0: all that the source had is a script that was played, the book is one of its run, and the
+    // sink took the text of that book.
+    ensures success { result.status ≡ 0 → Serves (texts words.now) (S.left source.old) (W.taken sink.old) (W.taken sink.new) result.book }
+
+    // Each value read is that of its counter over a causally closed set of transactions and the open
+    // updates, and the set holds those of the session's earlier reads.
+    ensures causal { result.status ≡ 0 → IsCausal result.book 1 1024 }
+
+    // Before the first commit each value read is the sum of the open transaction's deltas.
+    ensures read_values { result.status ≡ 0 → FirstSums result.book 1 1024 }
+
+    // 2: words of no form. 3: an input that is no script.
+    ensures words { result.status ≡ 2 → RefusedWords (texts words.now) (W.taken sink.old) (W.taken sink.new) result.book }
+    ensures refused { result.status ≡ 3 → RefusedInput (texts words.now) (S.left source.old) (W.taken sink.old) (W.taken sink.new) result.book }
+
+    // A script is played where no read and no write failed, or memory ran out.
+    ensures completeness { texts words.now ≡ serial_words → S.left source.old ≢ None → IfSome (S.left source.old) IsSomeScript
+        → (HasRisen (S.faults source.old) (S.faults source.new) → ⊥) → (HasRisen (W.faults sink.old) (W.faults sink.new) → ⊥)
+        → (result.status ≡ 0) ⊎ (result.status ≡ 6) }
+
+    // 4: a read failed, and nothing was written.
+    ensures read_fault { result.status ≡ 4 → (texts words.now ≡ serial_words) × HasRisen (S.faults source.old) (S.faults source.new) }
+    ensures failed_read { result.status ≡ 4 → (W.taken sink.new ≡ W.taken sink.old) × (result.book ≡ empty_book) }
+
+    // 5: a write failed, and the sink took a front of what is owed; the book is that of the run.
+    ensures write_fault { result.status ≡ 5 → HasRisen (W.faults sink.old) (W.faults sink.new) }
+    ensures failed_write { result.status ≡ 5 → WroteFront (texts words.now) (S.left source.old) (W.taken sink.old) (W.taken sink.new) result.book }
+
+    // 6: want of memory, after nothing or a front of what is owed.
+    ensures no_memory { result.status ≡ 6 → WroteShort (texts words.now) (S.left source.old) (W.taken sink.old) (W.taken sink.new) × (result.book ≡ empty_book) }
+
+    // At every other status the counts of faults stand as they were.
+    ensures read_quiet { result.status ≢ 4 → S.faults source.new ≡ S.faults source.old }
+    ensures write_quiet { result.status ≢ 5 → W.faults sink.new ≡ W.faults sink.old }
+{
+    run(alloc, words, source, sink)
+}
