@@ -1,25 +1,22 @@
 -- How a client with its log and the centre's trail grows, deed by deed.
-use Rattle.std.proofs.Common.{◌≡◌, ℕ, Bool, true, false, cond, List, [], ◌∷◌, ◌++◌, Option, Some, None, inl, refl, sym, ap, ◌∙◌, subst, append_assoc, map}
-use Rattle.std.specs.Prelude.{fold}
+use Rattle.std.proofs.Common.{◌≡◌, ℕ, Bool, true, false, List, [], ◌∷◌, ◌++◌, Option, Some, None, inl, refl, sym, ap, ◌∙◌, subst, append_assoc, map}
 use Rattle.std.specs.List.{filter_map}
 use Rattle.std.proofs.lemmas.List.{map-append, append-nil}
 use Rattle.std.proofs.lemmas.List.Elements.{filter_map-append}
 use Rattle.std.proofs.lemmas.List.Sums.{fold-append}
-use Rattle.ids_core.specs.declared.object.ObjectId.{ObjectId}
 use Rattle.dc_talk.specs.declared.ask.Ask.{Ask}
 use Rattle.dc_talk.specs.declared.say.Say.{Say}
 use Rattle.dc_talk.specs.declared.session.Call.{Call}
 use Rattle.dc_talk.specs.declared.session.Outcome.{Outcome}
 use Rattle.dc_talk.specs.declared.log.Fate.TheVariants.{Heard}
 use Rattle.dc_talk.specs.declared.log.Deed.{Deed}
-use Rattle.dc_talk.specs.declared.log.Deed.TheVariants.{Did, Asked, Told}
+use Rattle.dc_talk.specs.declared.log.Deed.TheVariants.{Did, Asked}
 use Rattle.dc_talk.specs.declared.log.Note.{Note}
 use Rattle.dc_talk.specs.declared.line.Line.{Line}
-use Rattle.dc_talk.specs.declared.trail.Entry.{Entry}
 use Rattle.dc_talk.specs.Logs.{Logged}
 use Rattle.dc_talk.specs.Clients.{Client}
-use Rattle.dc_talk.specs.Calls.{Ends, outcome_of, did}
-use Rattle.dc_talk.specs.Rule.{after, heard, takes, Allows, Gives}
+use Rattle.dc_talk.specs.Calls.{Ends, outcome_of}
+use Rattle.dc_talk.specs.Rule.{after, takes, Gives}
 use Rattle.dc_talk.specs.declared.line.Line.TheVariants as line
 use Rattle.dc_talk.specs.declared.line.StepWord.TheVariants.{Read as ReadWord}
 use Rattle.script_text.specs.Deeds.{hello_line, fetch_line, push_end, refresh_line}

@@ -1,9 +1,7 @@
 -- What each step leaves is what is defined for it.
-use Rattle.std.proofs.Common.{◌≡◌, ◌≢◌, ℕ, Bool, true, false, cond, List, [], ◌∷◌, ◌++◌, Option, Some, None, Result, Ok, Err, refl, sym, ap, ◌∙◌, subst}
+use Rattle.std.proofs.Common.{◌≡◌, ℕ, Bool, true, false, List, [], ◌∷◌, ◌++◌, Option, Some, None, Ok, Err, refl, sym, ap, ◌∙◌, subst}
 use Rattle.std.specs.Prelude.{is_some}
 use Rattle.ids_core.specs.declared.object.ObjectId.{ObjectId}
-use Rattle.tx_core.specs.declared.tx.Tx.{Tx}
-use Rattle.tx_core.specs.declared.tx.Update.{Update}
 use Rattle.dc_talk.specs.declared.ask.Ask.{Ask}
 use Rattle.dc_talk.specs.declared.say.Say.{Say}
 use Rattle.dc_talk.specs.declared.ask.Ask.TheVariants.{Commit as CommitAsk}
@@ -21,16 +19,15 @@ use Rattle.dc_talk.specs.declared.line.Line.TheVariants as line
 use Rattle.dc_talk.specs.declared.line.StepWord.TheVariants.{Read as ReadWord}
 use Rattle.dc_talk.specs.Clients.{Client}
 use Rattle.dc_talk.specs.Calls.{outcome_of}
-use Rattle.dc_talk.specs.Rule.{after, takes, heard, hello_of, refresh_of, fetch_of, next_commit}
+use Rattle.dc_talk.specs.Rule.{after, takes, heard, hello_of, refresh_of, fetch_of}
 use Rattle.client_session.specs.SessionAnswers.{refresh_ask, fetch_ask, commit_ask}
-use Rattle.script_text.specs.declared.steps.ClientStep.TheVariants.{Connect, Begin, Inc, Read, Commit, Push, Refresh}
-use Rattle.script_text.specs.Deeds.{PushDeeds, PushesNext, RefreshDeeds, FetchesOver, ReadDeeds, reads, read_told, after_fetch, fetch_line}
-use Rattle.swift_sim.specs.declared.purpose.Purpose.{Purpose}
+use Rattle.script_text.specs.declared.steps.ClientStep.TheVariants.{Connect, Read, Push, Refresh}
+use Rattle.script_text.specs.Deeds.{PushDeeds, PushesNext, RefreshDeeds, FetchesOver, ReadDeeds, reads, read_told, after_fetch}
 use Rattle.swift_sim.specs.declared.purpose.Purpose.TheVariants as purpose
 use Rattle.swift_sim.specs.Purposes.{told_after}
 use Rattle.swift_sim.specs.Playing.{Playing, Grows, Takes, TriesRead, FetchesFor, Exchanges, noted_all, after_all, told_of, is_got, number_in}
 use Rattle.swift_sim.proofs.Growing.{grows_then, grows_told}
-use Rattle.swift_sim.proofs.Taking.{PushAsks, push_asks, PushIdle, push_idle, push_refused, FetchAsks, fetch_asks, fetch_refused, RefreshAsks, refresh_asks, RefreshShut, refresh_shut}
+use Rattle.swift_sim.proofs.Taking.{push_asks, push_idle, push_refused, FetchAsks, fetch_asks, fetch_refused, refresh_asks, refresh_shut}
 
 -- a line that is told
 told_grows : (p q : Playing) (l : Line) → q ≡ record p { log = noted_all p.log (told_of (Some l)) } → Grows p q (Told l ∷ [])

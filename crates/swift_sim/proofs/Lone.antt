@@ -1,6 +1,6 @@
 -- What the client took before holds with one step more.
-use Rattle.std.proofs.Common.{◌≡◌, ℕ, zero, suc, ◌≤◌, ◌+◌, List, [], ◌∷◌, ◌++◌, Option, Some, None, refl, sym, ap, ◌∙◌, subst, append_assoc, map, length, arith}
-use Rattle.std.specs.Prelude.{fold, All, ◌<◌, take, get_or}
+use Rattle.std.proofs.Common.{◌≡◌, ℕ, suc, ◌+◌, List, [], ◌∷◌, ◌++◌, refl, sym, ap, ◌∙◌, subst, append_assoc, map, length, arith}
+use Rattle.std.specs.Prelude.{All, ◌<◌, take, get_or}
 use Rattle.std.specs.List.{filter_map, cons_option}
 use Rattle.std.proofs.lemmas.List.{append-nil, length-take}
 use Rattle.std.proofs.lemmas.List.Elements.{All-nil, All-cons, filter_map-append}
@@ -20,7 +20,7 @@ use Rattle.script_text.specs.Steps.{IsStep}
 use Rattle.script_text.specs.Deeds.{StepDeeds}
 use Rattle.run_book.specs.Scripted.{Placed, placed_from, Plays, IsAt, after_notes}
 use Rattle.run_book.specs.Alone.{entry_of, AllNear}
-use Rattle.swift_sim.specs.Playing.{Playing, Grows, Takes, AllowsAll, HasTaken, IsNearLink, marked, noted_all, after_all, at_section, new_playing}
+use Rattle.swift_sim.specs.Playing.{Playing, Grows, Takes, AllowsAll, HasTaken, IsNearLink, marked, after_all, at_section, new_playing}
 use Rattle.swift_sim.proofs.Near.{AreNear, step_near, link_near, notes_near}
 
 -- ---- the log

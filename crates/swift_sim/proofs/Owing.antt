@@ -1,5 +1,5 @@
 -- What is owed for a script that was played, and how a run ends.
-use Rattle.std.proofs.Common.{◌≡◌, ◌≢◌, ◌⊎◌, inl, inr, ◌↔◌, Bool, true, false, IsTrue, ◌++◌, ℕ, ◌+◌, ◌≤◌, List, [], ◌∷◌, Option, Some, None, IfSome, length, refl, sym, ap, ◌∙◌, subst, arith}
+use Rattle.std.proofs.Common.{◌≡◌, ◌≢◌, ◌⊎◌, inl, inr, ◌↔◌, Bool, true, false, IsTrue, ◌++◌, ℕ, ◌+◌, List, [], ◌∷◌, Option, Some, None, IfSome, length, refl, sym, ap, ◌∙◌, subst, arith}
 use Rattle.std.specs.Prelude.{All}
 use Rattle.std.proofs.lemmas.List.{append-nil}
 use Rattle.std.proofs.lemmas.List.Elements.{All-nil, All-cons}
@@ -15,7 +15,6 @@ use Rattle.script_text.proofs.LongTexts.{passes_more}
 use Rattle.io_edge.specs.Streams.{puts_back}
 use Rattle.run_book.specs.declared.book.Book.{Book}
 use Rattle.run_book.specs.Fit.{FitsWith}
-use Rattle.run_book.specs.Scripted.{HasSteps}
 use Rattle.run_book.specs.Graphs.{IsCausal, FirstSums}
 use Rattle.run_book.specs.Alone.{IsAlone, IsBookOfOne, idle_log}
 use Rattle.run_book.proofs.AloneFits.{alone_fits}
@@ -24,7 +23,7 @@ use Rattle.run_book.proofs.OneClientReads.{one_client_causal, one_client_first}
 use Rattle.print_text.specs.Text.{text_of, notes_text, IsSilent}
 use Rattle.print_text.proofs.Texts.{text_one_client}
 use Rattle.swift_sim.specs.Playing.{Playing, HasTaken}
-use Rattle.swift_sim.specs.Runs.{IsLoneRun, PlaysInput, IsRunOf, IsBelievable, EndsSo, IsSomeScript, IsNoScript, Meets, OwesFor, Owes, serial_words}
+use Rattle.swift_sim.specs.Runs.{IsNothing, IsLoneRun, PlaysInput, EndsSo, IsSomeScript, IsNoScript, Meets, OwesFor, Owes, serial_words}
 use Rattle.swift_sim.proofs.PlaysAscend.{plays_ascend}
 
 -- logs of workers without notes
@@ -132,3 +131,8 @@ owes_for old new bytes past status text book parts limits whole (inr refuses) = 
   input = subst (λ left. IfSome left IsNoScript) (sym parts) (none_left bytes past new refuses.is limits whole);
   refuses = refuses;
 })
+
+-- where the bytes that were read are played, nothing is left
+pub end_met : (new : Option (List ℕ)) (bytes : List ℕ) (past : Bool) (status : ℕ) (text : List ℕ) (book : Book) → (IsTrue past ↔ PassesLimits bytes) → (past ≡ false → IfSome new (λ rest. rest ≡ [])) → Meets bytes status text book → status ≡ 0 → IfSome new IsNothing
+end_met new bytes past status text book limits whole (inl plays) zero = whole_of bytes past new plays.is.limits limits whole
+end_met new bytes past status text book limits whole (inr refuses) zero = absurd (omega (arith, zero, refuses.status_is))

@@ -10,10 +10,9 @@ use Rattle.dc_talk.specs.declared.session.Outcome.{Outcome}
 use Rattle.dc_talk.specs.declared.session.Outcome.TheVariants.{Got}
 use Rattle.dc_talk.specs.declared.log.Fate.TheVariants.{Heard}
 use Rattle.dc_talk.specs.declared.log.Deed.{Deed}
-use Rattle.dc_talk.specs.declared.log.Deed.TheVariants.{Did, Asked, Told}
+use Rattle.dc_talk.specs.declared.log.Deed.TheVariants.{Asked, Told}
 use Rattle.dc_talk.specs.declared.log.Note.{Note}
 use Rattle.dc_talk.specs.declared.line.Line.{Line}
-use Rattle.dc_talk.specs.declared.trail.Entry.{Entry}
 use Rattle.dc_talk.specs.Logs.{Logged}
 use Rattle.dc_talk.specs.Clients.{Client, new_client}
 use Rattle.dc_talk.specs.Calls.{outcome_of}

@@ -1,5 +1,5 @@
 -- What is owed to a sink for words and an input, and how a run ends.
-use Rattle.std.specs.Prelude.{◌≡◌, ◌≢◌, ◌⊎◌, ℕ, ◌+◌, ◌*◌, List, [], ◌∷◌, Option, IfSome, map, codes}
+use Rattle.std.specs.Prelude.{◌≡◌, ◌≢◌, ◌⊎◌, ℕ, List, [], ◌∷◌, Option, IfSome, map, codes}
 use Rattle.std.specs.String.{string_bytes}
 use Rattle.std.specs.Global.{Global}
 use Rattle.std.specs.Prelude.{String}
@@ -159,6 +159,10 @@ pub record RefusedWords (words : List (List ℕ)) (old new : Option (List ℕ)) 
 -- the statuses of an end
 abbrev pub IsStatus : ℕ → Type 0
 IsStatus status = (status ≡ 0) ⊎ ((status ≡ 2) ⊎ ((status ≡ 3) ⊎ ((status ≡ 4) ⊎ ((status ≡ 5) ⊎ (status ≡ 6)))))
+
+-- no bytes
+abbrev pub IsNothing : List ℕ → Type 0
+IsNothing bytes = bytes ≡ []
 
 -- the bytes are a script
 abbrev pub IsSomeScript : List ℕ → Type 0

@@ -2,7 +2,7 @@
 ghost use Rattle.std.specs.Prelude.{◌≡◌, ◌≢◌, ◌⊎◌, ◌↔◌, Err, IfOk, IfSome, IsTrue, None, codes};
 ghost use Rattle.io_edge.specs.Streams.{HasRisen};
 ghost use Rattle.run_book.specs.Graphs.{IsCausal, FirstSums};
-ghost use Rattle.swift_sim.specs.Runs.{EndsSo, IsSomeScript, IsStatus, Owes, OwesFor, RefusedInput, RefusedWords, Serves, WroteFront, WroteShort, empty_book, serial_words, texts, usage_text};
+ghost use Rattle.swift_sim.specs.Runs.{EndsSo, IsNothing, IsSomeScript, IsStatus, Owes, OwesFor, RefusedInput, RefusedWords, Serves, WroteFront, WroteShort, empty_book, serial_words, texts, usage_text};
 
 use crate::engine::{Owed, owed_for};
 use crate::stream::{ReadFault, read_input, write_all};
@@ -56,6 +56,7 @@ fn usage(alloc: Global) -> Result<Owed, NoMemory>
 // Reads an input, and what is owed for it.
 fn owed_of<S: Source>(alloc: Global, source: &mut S) -> Result<Owed, ReadFault>
     ensures owed { IfOk result (λ owed. OwesFor (S.left source.old) owed.status owed.text.items owed.book) }
+    ensures end { IfOk result (λ owed. owed.status ≡ 0 → IfSome (S.left source.new) IsNothing) }
     ensures failed { result ≡ Err ReadFault.Failed → HasRisen (S.faults source.old) (S.faults source.new) }
     ensures quiet { result ≢ Err ReadFault.Failed → S.faults source.new ≡ S.faults source.old }
 {
@@ -67,6 +68,7 @@ fn owed_of<S: Source>(alloc: Global, source: &mut S) -> Result<Owed, ReadFault>
 // What is owed for the words and the source, from which nothing is read for words of no form.
 fn owed_to<S: Source>(alloc: Global, words: &[String], source: &mut S) -> Result<Owed, ReadFault>
     ensures owed { IfOk result (λ owed. Owes (texts words.now) (S.left source.old) owed.status owed.text.items owed.book) }
+    ensures end { IfOk result (λ owed. owed.status ≡ 0 → IfSome (S.left source.new) IsNothing) }
     ensures form { result ≡ Err ReadFault.Failed → texts words.now ≡ serial_words }
     ensures failed { result ≡ Err ReadFault.Failed → HasRisen (S.faults source.old) (S.faults source.new) }
     ensures quiet { result ≢ Err ReadFault.Failed → S.faults source.new ≡ S.faults source.old }
@@ -94,6 +96,7 @@ fn ended_empty(alloc: Global, status: u8) -> Ended
 // Runs the words, by what is owed for them.
 fn run<S: Source, W: Sink>(alloc: Global, words: &[String], source: &mut S, sink: &mut W) -> Ended
     ensures ends { EndsSo (texts words.now) (S.left source.old) (W.taken sink.old) (W.taken sink.new) result.status result.book }
+    ensures end { result.status ≡ 0 → IfSome (S.left source.new) IsNothing }
     ensures read { result.status ≡ 4 → HasRisen (S.faults source.old) (S.faults source.new) }
     ensures write { result.status ≡ 5 → HasRisen (W.faults sink.old) (W.faults sink.new) }
     ensures read_quiet { result.status ≢ 4 → S.faults source.new ≡ S.faults source.old }
@@ -132,6 +135,8 @@ pub fn swift_main<S: Source, W: Sink, G: Gate>(
     // 0: all that the source had is a script that was played, the book is one of its run, and the
     // sink took the text of that book.
     ensures success { result.status ≡ 0 → Serves (texts words.now) (S.left source.old) (W.taken sink.old) (W.taken sink.new) result.book }
+
+    ensures read_to_end { result.status ≡ 0 → IfSome (S.left source.new) IsNothing }
 
     // Each value read is that of its counter over a causally closed set of transactions and the open
     // updates, and the set holds those of the session's earlier reads.

@@ -1,4 +1,4 @@
-use Rattle.std.proofs.Common.{◌≡◌, ℕ, ap, ◌∙◌}
+use Rattle.std.proofs.Common.{◌≡◌, ap, ◌∙◌}
 use Rattle.dc_talk.specs.declared.session.Call.TheVariants.{Commit as CommitCall}
 use Rattle.script_text.specs.Deeds.{commit_told}
 use Rattle.swift_sim.specs.Playing.{Playing}

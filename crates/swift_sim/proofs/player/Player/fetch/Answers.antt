@@ -1,4 +1,4 @@
-use Rattle.std.proofs.Common.{◌≡◌, ap, sym, ◌∙◌, Ok, Err, None}
+use Rattle.std.proofs.Common.{◌≡◌, ap, sym, ◌∙◌, Ok, Err}
 use Rattle.client_session.specs.SessionAnswers.{fetch_ask}
 use Rattle.swift_sim.specs.Playing.{Playing}
 use Rattle.swift_sim.proofs.Leaving.{fetch_read, fetch_unlinked}

@@ -1,4 +1,4 @@
-use Rattle.swift_sim.proofs.Leaving.{read_got, read_fetched}
+use Rattle.swift_sim.proofs.Leaving.{read_fetched}
 use Rattle.swift_sim.proofs.player.Player.read.Goals as goal
 
 pub returns : goal.returns

@@ -1,4 +1,4 @@
-use Rattle.std.proofs.Common.{◌≡◌, ap, sym, ◌∙◌, Ok, Err, None}
+use Rattle.std.proofs.Common.{◌≡◌, ap, sym, ◌∙◌, Err, None}
 use Rattle.client_session.specs.SessionAnswers.{refresh_ask}
 use Rattle.swift_sim.specs.Playing.{Playing}
 use Rattle.swift_sim.proofs.Leaving.{refresh_unlinked, refresh_open}

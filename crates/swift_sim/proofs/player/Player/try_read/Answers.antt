@@ -1,8 +1,6 @@
-use Rattle.std.proofs.Common.{◌≡◌, ℕ, ap, sym, subst, ◌∙◌, List}
-use Rattle.std.specs.Prelude.{is_some}
+use Rattle.std.proofs.Common.{◌≡◌, ap, subst, ◌∙◌, List}
 use Rattle.dc_talk.specs.declared.session.Call.TheVariants.{Read as ReadCall}
 use Rattle.dc_talk.specs.declared.log.Deed.{Deed}
-use Rattle.dc_talk.specs.Calls.{outcome_of}
 use Rattle.script_text.specs.Deeds.{read_told}
 use Rattle.swift_sim.specs.Playing.{Playing, Grows, is_got}
 use Rattle.swift_sim.proofs.Growing.{call_told}
