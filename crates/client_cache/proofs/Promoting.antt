@@ -5,7 +5,7 @@ use Rattle.ids_core.specs.declared.object.ObjectId.{ObjectId}
 use Rattle.dc_talk.specs.declared.session.Cached.{Cached}
 use Rattle.dc_talk.specs.Clients.{is_entry, cached, promoted}
 use Rattle.list_core.specs.Firsts.{first_that}
-use Rattle.client_cache.proofs.Places.{brought_forward-absent}
+use Rattle.list_core.proofs.Places.{brought_forward-absent}
 
 absent : {X Y : Type 0} (f : X → Y) (o : Option X) → option_map f o ≡ None → o ≡ None
 absent f None is = refl

@@ -1,13 +1,14 @@
 // The states of objects that a client keeps, a plain list.
-ghost use Rattle.std.specs.Prelude.{◌≡◌, ◌≤◌, ◌<◌, [], ◌∷◌, length, vec_len, position, remove, slice_get, IfOk, IfSome, OnOk, OnErr};
+ghost use Rattle.std.specs.Prelude.{◌≡◌, ◌≤◌, ◌<◌, [], ◌∷◌, length, vec_len, position, slice_get, IfOk, IfSome, OnOk, OnErr};
 ghost use Rattle.std.specs.Bool.{OnTrue, OnFalse};
 ghost use Rattle.std.specs.Option.{option_map};
-ghost use Rattle.list_core.specs.Firsts.{in_front, without_first};
+ghost use Rattle.list_core.specs.Firsts.{without_first};
 ghost use Rattle.ids_core.specs.Ids.{same_object};
 ghost use Rattle.dc_talk.specs.Clients.{is_entry, cached, promoted};
 
 use dc_talk::Cached;
 use ids_core::{NoMemory, ObjectId};
+use list_core::bring_forward;
 use std::alloc::Global;
 use std::marker::Model;
 use tx_core::State;
@@ -128,84 +129,4 @@ fn object_place(entries: &[Cached], object: &ObjectId) -> Option<usize>
     ensures inside { IfSome result (λ place. place < length entries.now) }
 {
     entries.iter().position(|entry| entry.object == *object)
-}
-
-// Puts the entry at a place before all others.
-fn bring_forward(entries: &mut Vec<Cached>, place: usize)
-    requires { place < vec_len entries.old }
-    ensures items { entries.new.items ≡ in_front (slice_get entries.old.items place) (remove entries.old.items place) }
-    ensures len { vec_len entries.new ≡ vec_len entries.old }
-{
-    turn(entries.as_mut_slice(), place);
-}
-
-// The same over a slice.
-fn turn(entries: &mut [Cached], place: usize)
-    requires { place < length entries.old }
-    ensures { entries.new ≡ in_front (slice_get entries.old place) (remove entries.old place) }
-{
-    entries[..=place].rotate_right(1);
-}
-
-#[cfg(test)]
-mod tests {
-    use super::*;
-    use ids_core::{Dot, Mark, Name, OpId, Sort};
-    use std::test::Fail;
-    use tx_core::{Op, Value};
-    use vv_core::Stamp;
-
-    fn counter(name: &str) -> Result<ObjectId, Fail> {
-        Ok(ObjectId {
-            sort: Sort::Counter,
-            name: Name::read(name.as_bytes())?,
-        })
-    }
-
-    // A counter's state after one delta.
-    fn state_of(alloc: Global, delta: i64) -> Result<State, Fail> {
-        let mut state = State::empty(alloc, Sort::Counter)?;
-        let dot = Dot {
-            client: 1,
-            number: 1,
-        };
-        let id = OpId { dot, place: 0 };
-        state.fold(&Mark { rank: 1, id }, &Op::Inc { delta })?;
-        Ok(state)
-    }
-
-    fn read(
-        alloc: Global,
-        cache: &mut Cache,
-        object: &ObjectId,
-        at: &Vector,
-    ) -> Result<Option<Value>, Fail> {
-        match cache.find(object, at) {
-            None => Ok(None),
-            Some(state) => Ok(Some(state.value(alloc)?)),
-        }
-    }
-
-    #[test]
-    fn the_least_recently_used_falls_out(rt: HostRuntime) -> Result<(), Fail> {
-        let alloc = rt.alloc();
-        let at = Vector::zero(1);
-        let (a, b, c) = (counter("a")?, counter("b")?, counter("c")?);
-        let mut cache = Cache::new(alloc, 2)?;
-        cache.keep(&a, &at, state_of(alloc, 1)?)?;
-        cache.keep(&b, &at, state_of(alloc, 2)?)?;
-        assert_eq!(rt; read(alloc, &mut cache, &a, &at)?, Some(Value::Number(1)));
-        cache.keep(&c, &at, state_of(alloc, 3)?)?;
-        assert_eq!(rt; read(alloc, &mut cache, &b, &at)?, None);
-        assert_eq!(rt; read(alloc, &mut cache, &a, &at)?, Some(Value::Number(1)));
-        assert_eq!(rt; read(alloc, &mut cache, &c, &at)?, Some(Value::Number(3)));
-
-        // A newer state stands in place of the older one.
-        let next = Vector::zero(1).raise(&Stamp { centre: 1, seq: 1 });
-        cache.keep(&a, &next, state_of(alloc, 4)?)?;
-        assert_eq!(rt; read(alloc, &mut cache, &a, &at)?, None);
-        assert_eq!(rt; read(alloc, &mut cache, &a, &next)?, Some(Value::Number(4)));
-        assert_eq!(rt; read(alloc, &mut cache, &c, &at)?, Some(Value::Number(3)));
-        Ok(())
-    }
 }

@@ -62,32 +62,3 @@ impl Desk {
         self.trail
     }
 }
-
-#[cfg(test)]
-mod tests {
-    use super::*;
-    use std::test::Fail;
-    use vv_core::Vector;
-
-    #[test]
-    fn the_trail_has_each_ask_with_its_answer(rt: HostRuntime) -> Result<(), Fail> {
-        let alloc = rt.alloc();
-        let client = 1;
-        let mut desk = Desk::new(alloc, 1, 1, 1, 1)?;
-        let need = Vector::zero(1);
-        let say = desk.ask(alloc, 2, Ask::Hello { client, need })?;
-        assert!(rt; matches!(&say, Say::Welcome { through: 0 }));
-        let at = Vector::zero(2);
-        let say = desk.ask(alloc, 5, Ask::Refresh { client, at })?;
-        assert!(rt; matches!(&say, Say::Misfit));
-        let trail = desk.into_trail();
-        let entries = trail.as_slice();
-        assert_eq!(rt; entries.len(), 2);
-        assert_eq!(rt; (entries[0].caller, entries[1].caller), (2, 5));
-        assert!(rt; matches!(&entries[0].ask, Ask::Hello { client: 1, .. }));
-        assert!(rt; matches!(&entries[0].say, Say::Welcome { through: 0 }));
-        assert!(rt; matches!(&entries[1].ask, Ask::Refresh { client: 1, .. }));
-        assert!(rt; matches!(&entries[1].say, Say::Misfit));
-        Ok(())
-    }
-}

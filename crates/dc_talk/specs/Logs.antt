@@ -1,5 +1,5 @@
 -- What a log and a trail are seen as.
-use Rattle.std.specs.Prelude.{ℕ, List, [], ◌∷◌, ◌++◌}
+use Rattle.std.specs.Prelude.{◌≤◌, ℕ, List, [], ◌∷◌, ◌++◌}
 use Rattle.dc_talk.specs.declared.log.Deed.{Deed}
 use Rattle.dc_talk.specs.declared.log.Note.{Note}
 use Rattle.dc_talk.specs.declared.trail.Entry.{Entry}
@@ -19,3 +19,8 @@ noted log deed = record log { notes = log.notes ++ record { section = log.sectio
 pub record Kept : Type 0 where
   pub entries : List Entry
   pub spare : ℕ
+
+-- the sections of the notes never fall, the first is at least one number and the last at most another
+abbrev pub Ascend : ℕ → ℕ → List Note → Type 0
+Ascend first last [] = Unit {0}
+Ascend first last (note ∷ notes) = (first ≤ note.section) × (note.section ≤ last) × Ascend note.section last notes

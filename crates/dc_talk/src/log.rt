@@ -111,27 +111,3 @@ impl Log {
         self.notes.as_slice()
     }
 }
-
-#[cfg(test)]
-mod tests {
-    use super::*;
-    use std::test::Fail;
-
-    #[test]
-    fn notes_have_the_section_and_step_of_their_deed(rt: HostRuntime) -> Result<(), Fail> {
-        let mut log = Log::new(rt.alloc(), 2);
-        assert_eq!(rt; log.actor(), 2);
-        assert_eq!(rt; log.as_slice().len(), 0);
-        for (section, step) in [(1, 5), (3, 1)] {
-            log.set(section, step);
-            log.push(Deed::Told(Line::CommitNone { client: 1 }))?;
-        }
-        assert_eq!(rt; log.actor(), 2);
-        let notes = log.as_slice();
-        assert_eq!(rt; notes.len(), 2);
-        assert_eq!(rt; (notes[0].section, notes[0].step), (1, 5));
-        assert_eq!(rt; (notes[1].section, notes[1].step), (3, 1));
-        assert!(rt; matches!(&notes[1].deed, Deed::Told(Line::CommitNone { client: 1 })));
-        Ok(())
-    }
-}

@@ -66,25 +66,3 @@ impl Say {
         Ok(self.clone()?)
     }
 }
-
-#[cfg(test)]
-mod tests {
-    use super::*;
-    use std::test::Fail;
-    use tx_core::{CounterState, Value};
-
-    #[test]
-    fn a_state_is_copied_with_its_answer(rt: HostRuntime) -> Result<(), Fail> {
-        let mut sum = CounterState::empty();
-        sum.fold(5);
-        let state = State::Counter(sum);
-        let say = Say::Object { state };
-        match say.copy()? {
-            Say::Object { state } => {
-                assert_eq!(rt; state.value(rt.alloc())?, Value::Number(5));
-            }
-            _ => assert!(rt; false, "another answer"),
-        }
-        Ok(())
-    }
-}

@@ -83,32 +83,3 @@ impl Trail {
         Ok(())
     }
 }
-
-#[cfg(test)]
-mod tests {
-    use super::*;
-    use std::test::Fail;
-    use vv_core::Vector;
-
-    #[test]
-    fn entries_stand_in_order(rt: HostRuntime) -> Result<(), Fail> {
-        let mut trail = Trail::new(rt.alloc());
-        assert_eq!(rt; trail.len(), 0);
-        assert!(rt; trail.get(0).is_none());
-        trail.room()?;
-        for (caller, client) in [(4, 3), (2, 1)] {
-            let need = Vector::zero(1);
-            let ask = Ask::Hello { client, need };
-            trail.push(caller, ask, Say::Misfit)?;
-        }
-        assert_eq!(rt; trail.len(), 2);
-        assert!(rt; matches!(trail.get(0), Some(entry) if entry.caller == 4));
-        assert!(rt; matches!(trail.get(1), Some(entry) if entry.caller == 2));
-        assert!(rt; trail.get(2).is_none());
-        let entries = trail.as_slice();
-        assert_eq!(rt; entries.len(), 2);
-        assert!(rt; matches!(&entries[1].ask, Ask::Hello { client: 1, .. }));
-        assert!(rt; matches!(&entries[1].say, Say::Misfit));
-        Ok(())
-    }
-}

@@ -1,4 +1,6 @@
+pub mod Ascending
 pub mod Ids
+pub mod Kinds
 pub mod Name
 pub mod Orders
 pub mod Padded

@@ -1,10 +1,11 @@
--- The orders of dots, identifiers and marks.
-use Rattle.std.specs.Prelude.{◌≡◌, refl}
+-- The orders of dots, identifiers, marks and names.
+use Rattle.std.specs.Prelude.{◌≡◌, ℕ, List, refl}
 use Rattle.std.specs.Ordering.{nat_cmp, on, then_cmp, ordering_then}
 use Rattle.std.specs.declared.cmp.Ordering.{Ordering}
 use Rattle.std.specs.declared.cmp.Ordering.TheVariants.{Less, Equal, Greater}
 use Rattle.std.specs.Cmp.{IsTotalOrder, nat_cmp_total}
-use Rattle.std.specs.FinMap.{IsAntisymmetric, nat_cmp-IsAntisymmetric}
+use Rattle.std.specs.Cmp.Lexicographic.{slice_cmp, nat_list_cmp_total}
+use Rattle.std.specs.FinMap.{IsAntisymmetric, nat_cmp-IsAntisymmetric, slice_cmp-IsAntisymmetric}
 use Rattle.std.proofs.lemmas.Cmp.{then_total, on_total}
 use Rattle.ids_core.specs.declared.ids.Dot.{Dot}
 use Rattle.ids_core.specs.declared.ids.OpId.{OpId}
@@ -21,6 +22,10 @@ id_cmp = then_cmp (on (λ i. i.dot) dot_cmp) (on (λ i. i.place) nat_cmp)
 -- by rank, then identifier
 abbrev pub mark_cmp : Mark → Mark → Ordering
 mark_cmp = then_cmp (on (λ m. m.rank) nat_cmp) (on (λ m. m.id) id_cmp)
+
+-- by the bytes, from the first on
+abbrev pub name_cmp : List ℕ → List ℕ → Ordering
+name_cmp = slice_cmp nat_cmp
 
 pub dot_cmp_total : IsTotalOrder dot_cmp
 dot_cmp_total = then_total (on_total (λ d. d.client) nat_cmp_total) (on_total (λ d. d.number) nat_cmp_total)
@@ -51,3 +56,9 @@ pub mark_cmp_same : IsAntisymmetric mark_cmp
 mark_cmp_same x y e =
     let b = both_equal (nat_cmp x.rank y.rank) (id_cmp x.id y.id) e in
     λ i. record { rank = nat_cmp-IsAntisymmetric x.rank y.rank b.0 i; id = id_cmp_same x.id y.id b.1 i }
+
+pub name_cmp_total : IsTotalOrder name_cmp
+name_cmp_total = nat_list_cmp_total
+
+pub name_cmp_same : IsAntisymmetric name_cmp
+name_cmp_same = slice_cmp-IsAntisymmetric nat_cmp-IsAntisymmetric

@@ -55,33 +55,3 @@ pub fn mark_order(a: &Mark, b: &Mark) -> Ordering
 {
     a.cmp(b)
 }
-
-#[cfg(test)]
-mod tests {
-    use super::*;
-
-    fn mark(rank: u64, client: u32, number: u64, place: u16) -> Mark {
-        let dot = Dot { client, number };
-        let id = OpId { dot, place };
-        Mark { rank, id }
-    }
-
-    #[test]
-    fn orders_by_rank_then_client_then_number_then_place(rt: HostRuntime) {
-        let marks = [
-            mark(1, 9, 9, 9),
-            mark(2, 1, 9, 9),
-            mark(2, 2, 1, 9),
-            mark(2, 2, 2, 1),
-            mark(2, 2, 2, 3),
-        ];
-        for (i, low) in marks.iter().enumerate() {
-            for (j, high) in marks.iter().enumerate() {
-                assert_eq!(rt; mark_order(low, high), i.cmp(&j), "at {i} and {j}");
-                if low.rank == high.rank {
-                    assert_eq!(rt; id_order(&low.id, &high.id), i.cmp(&j), "at {i} and {j}");
-                }
-            }
-        }
-    }
-}

@@ -1,14 +1,19 @@
 // Names, kept inline.
 ghost use Rattle.std.specs.Prelude.{◌≡◌, ◌↔◌, IfOk, IsErr, IsTrue};
+ghost use Rattle.std.specs.Cmp.{IsTotalOrder};
+ghost use Rattle.std.specs.FinMap.{IsAntisymmetric};
 ghost use Rattle.ids_core.specs.Name.{IsName, IsNameByte};
+ghost use Rattle.ids_core.specs.Orders.{name_cmp};
 
+use std::cmp::Ordering;
 use std::marker::Model;
 
 /// The bytes are no name.
 #[derive(Clone, Copy, Debug, PartialEq, Eq)]
 pub struct BadName;
 
-/// A name, seen as the list of its bytes: 1 to 32 out of `a` to `z`, `0` to `9` and `_`.
+/// A name, seen as the list of its bytes: 1 to 32 out of `a` to `z`, `0` to `9` and `_`. Names are
+/// ordered by their bytes.
 #[derive(Clone, Copy, Debug)]
 pub struct Name {
     // The name, with 0 in all places behind it.
@@ -80,6 +85,40 @@ impl Eq for Name {
     ghost laws = { Prim.search (comparing, rules) };
 }
 
+impl Ord for Name {
+    ghost use Rattle.std.proofs.Common.{rules};
+    ghost use Rattle.std.specs.Cmp.Rules.{comparing};
+    ghost use Rattle.ids_core.specs.Orders.{name_cmp};
+
+    ghost cmp = { name_cmp };
+
+    ghost total = { Prim.search (comparing, rules) };
+
+    ghost matches_partial_cmp = { Prim.search (comparing, rules) };
+
+    ghost matches_eq = { Prim.search (comparing, rules) };
+
+    fn cmp(&self, other: &Name) -> Ordering {
+        self.as_slice().cmp(other.as_slice())
+    }
+}
+
+impl PartialOrd for Name {
+    ghost use Rattle.std.proofs.Common.{rules};
+    ghost use Rattle.std.specs.Cmp.{partial_order_from_own_ties};
+    ghost use Rattle.std.specs.Cmp.Rules.{comparing};
+    ghost use Rattle.std.specs.Ordering.{as_partial_cmp};
+    ghost use Rattle.ids_core.specs.Orders.{name_cmp};
+
+    ghost partial_cmp = { as_partial_cmp name_cmp };
+
+    ghost laws = { partial_order_from_own_ties (Prim.search (comparing, rules)) (Prim.search (comparing, rules)) };
+
+    fn partial_cmp(&self, other: &Name) -> Option<Ordering> {
+        Some(self.cmp(other))
+    }
+}
+
 fn is_name(bytes: &[u8]) -> bool
     ensures { IsTrue result ↔ IsName bytes.now }
 {
@@ -92,20 +131,8 @@ fn is_name_byte(byte: u8) -> bool
     byte.is_ascii_lowercase() || byte.is_ascii_digit() || byte == b'_'
 }
 
-#[cfg(test)]
-mod tests {
-    use super::*;
-    use std::test::Fail;
-
-    #[test]
-    fn reads_names_alone(rt: HostRuntime) -> Result<(), Fail> {
-        for text in ["a", "z9_", "abcdefghijklmnopqrstuvwxyz_01234"] {
-            let name = Name::read(text.as_bytes())?;
-            assert_eq!(rt; name.as_slice(), text.as_bytes(), "at {text}");
-        }
-        for text in ["", "A", "a-b", "a b", "abcdefghijklmnopqrstuvwxyz_012345"] {
-            assert_eq!(rt; Name::read(text.as_bytes()), Err(BadName), "at {text}");
-        }
-        Ok(())
-    }
-}
+/// The order of names is total, and what is equal in it is the same.
+pub fn law_name_order()
+    ensures total { IsTotalOrder name_cmp }
+    ensures same { IsAntisymmetric name_cmp }
+{}

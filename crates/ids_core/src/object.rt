@@ -34,25 +34,3 @@ impl Eq for ObjectId {
 
     ghost laws = { same_object_equivalence };
 }
-
-#[cfg(test)]
-mod tests {
-    use super::*;
-    use std::test::Fail;
-
-    #[test]
-    fn objects_differ_by_name(rt: HostRuntime) -> Result<(), Fail> {
-        let sort = Sort::Counter;
-        let a = ObjectId {
-            sort,
-            name: Name::read(b"a")?,
-        };
-        let ab = ObjectId {
-            sort,
-            name: Name::read(b"ab")?,
-        };
-        assert_eq!(rt; a, a);
-        assert_ne!(rt; a, ab);
-        Ok(())
-    }
-}

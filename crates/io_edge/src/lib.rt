@@ -7,8 +7,6 @@ mod sink;
 mod source;
 mod std_streams;
 mod steady;
-#[cfg(test)]
-mod tests;
 
 pub use gate::{FreeGate, Gate};
 pub use memory::{MemorySink, MemorySource};

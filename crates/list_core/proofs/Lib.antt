@@ -1,2 +1,4 @@
 pub mod Moments
 pub mod Members
+pub mod Permutations
+pub mod Places

@@ -2,3 +2,4 @@ pub mod Moments
 pub mod Choices
 pub mod Firsts
 pub mod Members
+pub mod Permutations

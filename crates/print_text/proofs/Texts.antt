@@ -8,8 +8,8 @@ use Rattle.std.proofs.lemmas.List.Elements.{All-head, All-tail, All-nil}
 use Rattle.vv_core.specs.Vectors.{most}
 use Rattle.dc_talk.specs.declared.log.Deed.{Deed}
 use Rattle.dc_talk.specs.declared.log.Note.{Note}
-use Rattle.dc_talk.specs.Logs.{Logged, noted}
-use Rattle.print_text.specs.Text.{vector_text, later_text, told_text, notes_text, notes_in, section_text, last_section, text_of, IsSilent, Ascend}
+use Rattle.dc_talk.specs.Logs.{Logged, Ascend}
+use Rattle.print_text.specs.Text.{vector_text, later_text, told_text, notes_text, notes_in, section_text, last_section, text_of, IsSilent}
 
 -- a vector is its first entry and the later ones, each behind a comma
 vector_parts : (first : ℕ) (rest : List ℕ) → vector_text (first ∷ rest) ≡ decimal first ++ flat_map later_text rest
@@ -29,20 +29,6 @@ vector_written old mid new vector some first later =
     ∙ ap (λ written. written ++ flat_map later_text (take (length vector - 1) (drop 1 vector))) first
     ∙ append_assoc old (decimal (get_or vector 0 0)) _
     ∙ ap (λ written. old ++ written) (vector_first vector some)
-
--- the sections stay within a greater number
-pub ascend_higher : (first last higher : ℕ) (notes : List Note) → last ≤ higher → Ascend first last notes → Ascend first higher notes
-ascend_higher first last higher [] le h = tt
-ascend_higher first last higher (note ∷ notes) le h = (h.0, omega arith, ascend_higher note.section last higher notes le h.2)
-
--- one more note, of the greatest section that there may be
-pub ascend_append : (first : ℕ) (notes : List Note) (note : Note) → first ≤ note.section → Ascend first note.section notes → Ascend first note.section (notes ++ note ∷ [])
-ascend_append first [] note le h = (le, omega arith, tt)
-ascend_append first (other ∷ notes) note le h = (h.0, h.1, ascend_append other.section notes note h.1 h.2)
-
--- a log that notes a deed at the section that it is at
-pub ascend_noted : (first : ℕ) (log : Logged) (deed : Deed) → first ≤ log.section → Ascend first log.section log.notes → Ascend first log.section (noted log deed).notes
-ascend_noted first log deed le h = ascend_append first log.notes (record { section = log.section; step = log.step; deed = deed }) le h
 
 -- the sections are within the greatest of them
 ascend_most : (first last higher : ℕ) (notes : List Note) → most (map (λ note. note.section) notes) ≤ higher → Ascend first last notes → Ascend first higher notes

@@ -139,8 +139,3 @@ text_of logs = flat_map (λ section. flat_map (λ log. section_text section log.
 -- a log without notes
 abbrev pub IsSilent : Logged → Type 0
 IsSilent log = log.notes ≡ []
-
--- the sections of the notes never fall, the first is at least one number and the last at most another
-abbrev pub Ascend : ℕ → ℕ → List Note → Type 0
-Ascend first last [] = Unit {0}
-Ascend first last (note ∷ notes) = (first ≤ note.section) × (note.section ≤ last) × Ascend note.section last notes

@@ -15,10 +15,12 @@ use Rattle.dc_talk.specs.declared.log.Deed.{Deed}
 use Rattle.dc_talk.specs.declared.log.Deed.TheVariants.{Did, Asked, Told}
 use Rattle.dc_talk.specs.declared.log.Note.{Note}
 use Rattle.dc_talk.specs.declared.trail.Entry.{Entry}
+use Rattle.dc_talk.specs.Logs.{Logged}
 use Rattle.dc_talk.specs.Clients.{Client, settled}
 use Rattle.dc_talk.specs.Rule.{Sends, Allows, Follows, client_after, commits_of}
 use Rattle.run_book.specs.Parts.{exchange, exchanged_in, exchanged, entries_by}
-use Rattle.run_book.specs.Alone.{entry_of, IsNear, AllNear}
+use Rattle.run_book.specs.declared.book.Book.{Book}
+use Rattle.run_book.specs.Alone.{entry_of, IsNear, AllNear, idle_log, IsBookOfOne}
 use Rattle.run_book.proofs.Lists.{get_In}
 use Rattle.run_book.proofs.Numbered.{numbered_In}
 use Rattle.run_book.proofs.Held.{Held, dot_at, held_after}
@@ -75,7 +77,7 @@ near_ask i ask (Heard say) near = record { centre = near; say = say; heard = ref
 near_ask i ask _ near = absurd near
 
 -- each deed is near
-near_at : (notes : List Note) (m : ℕ) (note : Note) → AllNear notes → slice_get notes m ≡ Some note → IsNear note.deed
+pub near_at : (notes : List Note) (m : ℕ) (note : Note) → AllNear notes → slice_get notes m ≡ Some note → IsNear note.deed
 near_at [] m note near there = absurd (none-some note there)
 near_at (x ∷ notes) zero note near there = subst (λ (note : Note). IsNear note.deed) (same_Some x note there) near.0
 near_at (x ∷ notes) (suc m) note near there = near_at notes m note near.1 there
@@ -123,3 +125,13 @@ own_commit n client capacity notes m note i tx fate follows near there is =
     (λ second. absurd (heard_no_copy fate heard.say second.say heard.heard second.unheard))
     copy)
     allowed
+
+-- ---- the book
+
+-- the book of one centre and one client, spelled out
+abbrev pub book_of_one : Logged → List Entry → Book
+book_of_one log trail = record { n = 1; k = 1; trails = trail ∷ []; logs = idle_log 1 ∷ (log ∷ (idle_log 3 ∷ (idle_log 4 ∷ (idle_log 5 ∷ (idle_log 6 ∷ []))))) }
+
+-- each such book is that one
+pub is_book_of_one : (b : Book) (log : Logged) (trail : List Entry) → IsBookOfOne b log trail → b ≡ book_of_one log trail
+is_book_of_one b log trail is = λ x. record { n = is.n x; k = is.k x; trails = is.trails x; logs = is.logs x }

@@ -15,23 +15,11 @@ use Rattle.run_book.specs.declared.book.Book.{Book}
 use Rattle.run_book.specs.Parts.{trail_of, no_log, log_of, notes_of, entries_by, exchanged, IsClient}
 use Rattle.run_book.specs.Fit.{InForm, IsOwnCommit, FitsWith}
 use Rattle.run_book.specs.Alone.{IsAlone, idle_log, IsBookOfOne}
-use Rattle.run_book.proofs.Alone.{made, made_caller, made_other, made_exchanged, asked_near, IsOf, own_commit}
+use Rattle.run_book.proofs.Alone.{made, made_caller, made_other, made_exchanged, asked_near, IsOf, own_commit, book_of_one, is_book_of_one}
 
 -- the logs of the centre's workers
 abbrev idle : List Logged
 idle = idle_log 3 ∷ (idle_log 4 ∷ (idle_log 5 ∷ (idle_log 6 ∷ [])))
-
--- the book of one log and one trail
-abbrev book_of : Logged → List Entry → Book
-book_of log trail = record { n = 1; k = 1; trails = trail ∷ []; logs = idle_log 1 ∷ (log ∷ idle) }
-
--- a book of one is that book
-book_is : (b : Book) (log : Logged) (trail : List Entry) → IsBookOfOne b log trail → b ≡ book_of log trail
-book_is b log trail one =
-    ap (λ (n : ℕ). let c : Book = record { n = n; k = b.k; trails = b.trails; logs = b.logs } in c) one.n
-    ∙ (ap (λ (k : ℕ). let c : Book = record { n = 1; k = k; trails = b.trails; logs = b.logs } in c) one.k
-    ∙ (ap (λ (trails : List (List Entry)). let c : Book = record { n = 1; k = 1; trails = trails; logs = b.logs } in c) one.trails
-    ∙ ap (λ (logs : List Logged). let c : Book = record { n = 1; k = 1; trails = trail ∷ []; logs = logs } in c) one.logs))
 
 -- the workers noted nothing
 idle_notes : (a : ℕ) → (slice_index_or idle a no_log).notes ≡ []
@@ -52,7 +40,7 @@ idle_actor (suc (suc (suc (suc a)))) high = absurd (omega (arith, high))
 module _ (log : Logged) (trail : List Entry) where
   -- the book
   abbrev book : Book
-  book = book_of log trail
+  book = book_of_one log trail
 
   -- each actor has its log
   actor_at : log.actor ≡ 2 → (a : ℕ) → 1 ≤ a → a ≤ 6 → (log_of book a).actor ≡ a
@@ -138,4 +126,4 @@ module _ (log : Logged) (trail : List Entry) where
 
 -- what one client alone leaves beside one centre fits
 pub alone_fits : (limit capacity : ℕ) (steps : List ClientStep) (log : Logged) (trail : List Entry) (b : Book) → 1 ≤ limit → limit ≤ 1000000 → 1 ≤ capacity → IsAlone limit capacity steps log.notes trail → IsBookOfOne b log trail → FitsWith b 1 limit capacity
-alone_fits limit capacity steps log trail b low high some alone one = subst (λ b. FitsWith b 1 limit capacity) (sym (book_is b log trail one)) (book_fits log trail limit capacity steps one.actor alone low high some)
+alone_fits limit capacity steps log trail b low high some alone one = subst (λ b. FitsWith b 1 limit capacity) (sym (is_book_of_one b log trail one)) (book_fits log trail limit capacity steps one.actor alone low high some)

@@ -12,41 +12,37 @@ use Rattle.dc_talk.specs.declared.log.Deed.{Deed}
 use Rattle.dc_talk.specs.declared.log.Deed.TheVariants.{Did, Asked, Told}
 use Rattle.dc_talk.specs.declared.log.Note.{Note}
 use Rattle.dc_talk.specs.declared.trail.Entry.{Entry}
-use Rattle.dc_talk.specs.Logs.{Logged}
+use Rattle.dc_talk.specs.Logs.{Logged, Ascend}
 use Rattle.dc_talk.specs.Clients.{Client, new_client}
 use Rattle.script_text.specs.declared.script.Script.{Script}
 use Rattle.script_text.specs.declared.steps.ClientStep.{ClientStep}
 use Rattle.run_book.specs.declared.book.Book.{Book}
 use Rattle.run_book.specs.Parts.{trail_of, notes_of, exchanged_in, reached, entries_by, entry_by}
 use Rattle.run_book.specs.Scripted.{Plays, placed_from, steps_of, IsAt, after_notes, turn, ComesBefore, TwoEntries, HasSteps}
-use Rattle.run_book.specs.Alone.{entry_of, IsNear, AllNear, IsAlone, idle_log, IsBookOfOne}
+use Rattle.run_book.specs.Alone.{IsNear, IsAlone, IsBookOfOne}
+use Rattle.run_book.proofs.Alone.{made_caller, near_at, book_of_one, is_book_of_one}
 
 -- ---- the sections of the notes of steps
 
--- the sections of the notes never fall, the first is at least one number and the last at most another
-abbrev pub Rises : ℕ → ℕ → List Note → Type 0
-Rises first last [] = Unit {0}
-Rises first last (note ∷ notes) = (first ≤ note.section) × (note.section ≤ last) × Rises note.section last notes
-
 -- from a lower number too
-rises_lower : (lower first last : ℕ) (notes : List Note) → lower ≤ first → Rises first last notes → Rises lower last notes
-rises_lower lower first last [] low all = tt
-rises_lower lower first last (note ∷ notes) low all = (omega (arith, low, all.0), all.1, all.2)
+ascend_lower : (lower first last : ℕ) (notes : List Note) → lower ≤ first → Ascend first last notes → Ascend lower last notes
+ascend_lower lower first last [] low all = tt
+ascend_lower lower first last (note ∷ notes) low all = (omega (arith, low, all.0), all.1, all.2)
 
 -- notes of one section, and behind them those of later ones
-rises_behind : (section step last : ℕ) (mine later : List Note) → section ≤ last → All (IsAt section step) mine → Rises (section + 1) last later → Rises section last (mine ++ later)
-rises_behind section step last [] later high here all = rises_lower section (section + 1) last later (omega arith) all
-rises_behind section step last (note ∷ mine) later high here all =
+ascend_behind : (section step last : ℕ) (mine later : List Note) → section ≤ last → All (IsAt section step) mine → Ascend (section + 1) last later → Ascend section last (mine ++ later)
+ascend_behind section step last [] later high here all = ascend_lower section (section + 1) last later (omega arith) all
+ascend_behind section step last (note ∷ mine) later high here all =
     let is = All-head (IsAt section step) note mine here in
-    let rest = rises_behind section step last mine later high (All-tail (IsAt section step) note mine here) all in
-    (omega (arith, is.section_is), omega (arith, is.section_is, high), subst (λ first. Rises first last (mine ++ later)) (sym is.section_is) rest)
+    let rest = ascend_behind section step last mine later high (All-tail (IsAt section step) note mine here) all in
+    (omega (arith, is.section_is), omega (arith, is.section_is, high), subst (λ first. Ascend first last (mine ++ later)) (sym is.section_is) rest)
 
 -- the notes of steps, each a section of its own
-pub plays_rise : (s : Client) (first last : ℕ) (steps : List ClientStep) (notes : List Note) → first + length steps ≤ last + 1 → Plays s (placed_from first steps) notes → Rises first last notes
-plays_rise s first last [] notes high plays = subst (λ notes. Rises first last notes) (sym plays) tt
-plays_rise s first last (does ∷ steps) notes high plays =
-    let rest = plays_rise (after_notes s plays.0) (first + 1) last steps plays.1 (omega (arith, high)) plays.5 in
-    subst (λ notes. Rises first last notes) (sym plays.2) (rises_behind first 1 last plays.0 plays.1 (omega (arith, high)) plays.3 rest)
+pub plays_ascend : (s : Client) (first last : ℕ) (steps : List ClientStep) (notes : List Note) → first + length steps ≤ last + 1 → Plays s (placed_from first steps) notes → Ascend first last notes
+plays_ascend s first last [] notes high plays = subst (λ notes. Ascend first last notes) (sym plays) tt
+plays_ascend s first last (does ∷ steps) notes high plays =
+    let rest = plays_ascend (after_notes s plays.0) (first + 1) last steps plays.1 (omega (arith, high)) plays.5 in
+    subst (λ notes. Ascend first last notes) (sym plays.2) (ascend_behind first 1 last plays.0 plays.1 (omega (arith, high)) plays.3 rest)
 
 -- each of them is of step 1
 plays_first : (s : Client) (first : ℕ) (steps : List ClientStep) (notes : List Note) → Plays s (placed_from first steps) notes → All (λ (note : Note). note.step ≡ 1) notes
@@ -59,43 +55,33 @@ plays_first s first (does ∷ steps) notes plays =
     (plays_first (after_notes s plays.0) (first + 1) steps plays.1 plays.5))
 
 -- the notes that pass a test
-rises_filter : (test : Note → Bool) (first last : ℕ) (notes : List Note) → Rises first last notes → Rises first last (filter test notes)
-rises_filter test first last [] all = tt
-rises_filter test first last (note ∷ notes) all = go (test note) (rises_filter test note.section last notes all.2)
+ascend_filter : (test : Note → Bool) (first last : ℕ) (notes : List Note) → Ascend first last notes → Ascend first last (filter test notes)
+ascend_filter test first last [] all = tt
+ascend_filter test first last (note ∷ notes) all = go (test note) (ascend_filter test note.section last notes all.2)
   where
-    go : (b : Bool) → Rises note.section last (filter test notes) → Rises first last (cond b (note ∷ filter test notes) (filter test notes))
+    go : (b : Bool) → Ascend note.section last (filter test notes) → Ascend first last (cond b (note ∷ filter test notes) (filter test notes))
     go true rest = (all.0, all.1, rest)
-    go false rest = rises_lower first note.section last (filter test notes) all.0 rest
+    go false rest = ascend_lower first note.section last (filter test notes) all.0 rest
 
 -- the section of the note at a place
-rises_low : (first last : ℕ) (notes : List Note) (p : ℕ) (note : Note) → Rises first last notes → slice_get notes p ≡ Some note → first ≤ note.section
-rises_low first last [] p note all there = absurd (none-some note there)
-rises_low first last (other ∷ notes) zero note all there = omega (arith, all.0, ap (λ (n : Note). n.section) (same_Some other note there))
-rises_low first last (other ∷ notes) (suc p) note all there = omega (arith, all.0, rises_low other.section last notes p note all.2 there)
+ascend_low : (first last : ℕ) (notes : List Note) (p : ℕ) (note : Note) → Ascend first last notes → slice_get notes p ≡ Some note → first ≤ note.section
+ascend_low first last [] p note all there = absurd (none-some note there)
+ascend_low first last (other ∷ notes) zero note all there = omega (arith, all.0, ap (λ (n : Note). n.section) (same_Some other note there))
+ascend_low first last (other ∷ notes) (suc p) note all there = omega (arith, all.0, ascend_low other.section last notes p note all.2 there)
 
 -- the sections at two places
-rises_at : (first last : ℕ) (notes : List Note) (p q : ℕ) (note later : Note) → Rises first last notes → p ≤ q → slice_get notes p ≡ Some note → slice_get notes q ≡ Some later → note.section ≤ later.section
-rises_at first last [] p q note later all le there later_there = absurd (none-some note there)
-rises_at first last (other ∷ notes) zero zero note later all le there later_there = omega (arith, ap (λ (n : Note). n.section) (same_Some other note there), ap (λ (n : Note). n.section) (same_Some other later later_there))
-rises_at first last (other ∷ notes) zero (suc q) note later all le there later_there = omega (arith, ap (λ (n : Note). n.section) (same_Some other note there), rises_low other.section last notes q later all.2 later_there)
-rises_at first last (other ∷ notes) (suc p) zero note later all le there later_there = absurd (omega (arith, le))
-rises_at first last (other ∷ notes) (suc p) (suc q) note later all le there later_there = rises_at other.section last notes p q note later all.2 (omega (arith, le)) there later_there
+ascend_at : (first last : ℕ) (notes : List Note) (p q : ℕ) (note later : Note) → Ascend first last notes → p ≤ q → slice_get notes p ≡ Some note → slice_get notes q ≡ Some later → note.section ≤ later.section
+ascend_at first last [] p q note later all le there later_there = absurd (none-some note there)
+ascend_at first last (other ∷ notes) zero zero note later all le there later_there = omega (arith, ap (λ (n : Note). n.section) (same_Some other note there), ap (λ (n : Note). n.section) (same_Some other later later_there))
+ascend_at first last (other ∷ notes) zero (suc q) note later all le there later_there = omega (arith, ap (λ (n : Note). n.section) (same_Some other note there), ascend_low other.section last notes q later all.2 later_there)
+ascend_at first last (other ∷ notes) (suc p) zero note later all le there later_there = absurd (omega (arith, le))
+ascend_at first last (other ∷ notes) (suc p) (suc q) note later all le there later_there = ascend_at other.section last notes p q note later all.2 (omega (arith, le)) there later_there
 
 -- ---- places
 
 -- what holds of each element holds of the one at a place
 all_get : {X : Type 0} (P : X → Type 0) (xs : List X) (p : ℕ) (x : X) → All P xs → slice_get xs p ≡ Some x → P x
 all_get P xs p x all there = subst P (get_or_from_slice_get xs p x x there) (all p x (slice_get_within xs p x there))
-
--- what holds of all that a filter gives holds of the one at a place
-given : {X Y : Type 0} (f : X → Option Y) (P : Y → Type 0) → ((x : X) (y : Y) → f x ≡ Some y → P y) → (xs : List X) (p : ℕ) (y : Y) → slice_get (filter_map f xs) p ≡ Some y → P y
-given f P gives [] p y there = absurd (none-some y there)
-given {X} {Y} f P gives (x ∷ xs) p y there = go (λ q r. given f P gives xs q y r) (f x) refl p there
-  where
-    go : ((q : ℕ) → slice_get (filter_map f xs) q ≡ Some y → P y) → (o : Option Y) → f x ≡ o → (p : ℕ) → slice_get (cons_option o (filter_map f xs)) p ≡ Some y → P y
-    go rest None is p there = rest p there
-    go rest (Some z) is zero there = gives x y (is ∙ there)
-    go rest (Some z) is (suc p) there = rest p there
 
 -- a longer prefix gives no less
 prefix_gives : {X Y : Type 0} (f : X → Option Y) (xs : List X) (p q : ℕ) → p ≤ q → length (filter_map f (take p xs)) ≤ length (filter_map f (take q xs))
@@ -110,12 +96,6 @@ prefix_gives {X} {Y} f (x ∷ xs) (suc p) (suc q) le = go (f x) (filter_map f (t
 
 -- ---- the deeds
 
--- the deed of the note at a place
-near_at : (notes : List Note) (m : ℕ) (note : Note) → AllNear notes → slice_get notes m ≡ Some note → IsNear note.deed
-near_at [] m note near there = absurd (none-some note there)
-near_at (other ∷ notes) zero note near there = subst (λ (n : Note). IsNear n.deed) (same_Some other note there) near.0
-near_at (other ∷ notes) (suc m) note near there = near_at notes m note near.1 there
-
 -- its ask and its answer were not lost
 near_heard : (i : ℕ) (ask : Ask) (fate : Fate) → IsNear (Asked i ask fate) → (fate ≢ AskLost) × ((say : Say) → fate ≢ ReplyLost say)
 near_heard i ask AskLost near = absurd near
@@ -123,24 +103,7 @@ near_heard i ask (ReplyLost say) near = absurd near
 near_heard i ask (Heard say) near = (λ e. cc, λ told e. cc)
 near_heard i ask (Unheard say) near = absurd near
 
--- an entry that a deed of an actor made is of that caller
-made_by : (actor : ℕ) (deed : Deed) (entry : Entry) → entry_of actor deed ≡ Some entry → entry.caller ≡ actor
-made_by actor (Did call outcome) entry is = absurd (none-some entry is)
-made_by actor (Told line) entry is = absurd (none-some entry is)
-made_by actor (Asked i ask AskLost) entry is = absurd (none-some entry is)
-made_by actor (Asked i ask (ReplyLost say)) entry is = absurd (none-some entry is)
-made_by actor (Asked i ask (Unheard say)) entry is = absurd (none-some entry is)
-made_by actor (Asked i ask (Heard say)) entry is = sym (ap (λ (e : Entry). e.caller) (same_Some (record { caller = actor; ask = ask; say = say }) entry is))
-
 -- ---- the book
-
--- the book of one centre and one client, spelled out
-abbrev pub book_of_one : Logged → List Entry → Book
-book_of_one log trail = record { n = 1; k = 1; trails = trail ∷ []; logs = idle_log 1 ∷ (log ∷ (idle_log 3 ∷ (idle_log 4 ∷ (idle_log 5 ∷ (idle_log 6 ∷ []))))) }
-
--- each such book is that one
-pub is_book_of_one : (b : Book) (log : Logged) (trail : List Entry) → IsBookOfOne b log trail → b ≡ book_of_one log trail
-is_book_of_one b log trail is = λ x. record { n = is.n x; k = is.k x; trails = is.trails x; logs = is.logs x }
 
 -- the client alone has notes
 pub only_notes : (log : Logged) (trail : List Entry) (a : ℕ) → (a ≡ 2) ⊎ (notes_of (book_of_one log trail) a ≡ [])
@@ -171,13 +134,13 @@ module _ (limit capacity : ℕ) (steps : List ClientStep) (log : Logged) (trail 
       here : i ≡ 1 → (i ≡ 1) × (entry.caller ≡ 2)
       here is = (
         is,
-        given (λ (note : Note). entry_of 2 note.deed) (λ (e : Entry). e.caller ≡ 2) (λ note e made. made_by 2 note.deed e made) log.notes p entry
+        made_caller 2 log.notes p entry
             (subst (λ es. slice_get es p ≡ Some entry) alone.entries (subst (λ i. slice_get (trail_of book i) p ≡ Some entry) is there)),
       )
 
-  -- the notes of the asks that reached the centre rise, and are of step 1
-  reached_rise : Rises 1 (1 + length steps) (reached 1 log.notes)
-  reached_rise = rises_filter (λ (note : Note). is_some (exchanged_in 1 note.deed)) 1 (1 + length steps) log.notes (plays_rise (new_client 1 1 capacity) 1 (1 + length steps) steps log.notes (omega arith) alone.plays)
+  -- the notes of the asks that reached the centre ascend, and are of step 1
+  reached_ascend : Ascend 1 (1 + length steps) (reached 1 log.notes)
+  reached_ascend = ascend_filter (λ (note : Note). is_some (exchanged_in 1 note.deed)) 1 (1 + length steps) log.notes (plays_ascend (new_client 1 1 capacity) 1 (1 + length steps) steps log.notes (omega arith) alone.plays)
 
   reached_first : All (λ (note : Note). note.step ≡ 1) (reached 1 log.notes)
   reached_first = All-filter (λ (note : Note). is_some (exchanged_in 1 note.deed)) (λ (note : Note). note.step ≡ 1) log.notes (plays_first (new_client 1 1 capacity) 1 steps log.notes alone.plays)
@@ -198,7 +161,7 @@ module _ (limit capacity : ℕ) (steps : List ClientStep) (log : Logged) (trail 
       let home = entry_home i two.place entry two.there in
       let later_home = entry_home i two.later_place later_entry two.later_there in
       let before = two.before in
-      rises_at 1 (1 + length steps) (reached 1 log.notes) (place_of two.place) (place_of two.later_place) note later_note reached_rise
+      ascend_at 1 (1 + length steps) (reached 1 log.notes) (place_of two.place) (place_of two.later_place) note later_note reached_ascend
       (prefix_gives (entry_by 2) trail two.place two.later_place (omega (arith, before)))
       (note_at i two.place entry note home.0 home.1 two.noted)
       (note_at i two.later_place later_entry later_note later_home.0 later_home.1 two.later_noted)

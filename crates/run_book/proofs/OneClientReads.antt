@@ -8,11 +8,11 @@ use Rattle.list_core.specs.Members.{In}
 use Rattle.list_core.proofs.Members.{filter-agree}
 use Rattle.ids_core.specs.declared.ids.Dot.{Dot}
 use Rattle.ids_core.specs.declared.object.ObjectId.{ObjectId}
+use Rattle.obj_counter.specs.Counter.{total}
 use Rattle.tx_core.specs.declared.tx.Tx.{Tx}
 use Rattle.tx_core.specs.declared.state.State.{State}
 use Rattle.tx_core.specs.declared.state.Value.{Value}
 use Rattle.tx_core.specs.declared.state.Value.TheVariants.{Number}
-use Rattle.tx_core.specs.Counter.{total}
 use Rattle.tx_core.specs.States.{empty_of, fold_of, value_of}
 use Rattle.dc_talk.specs.declared.session.Outcome.TheVariants.{Got}
 use Rattle.dc_talk.specs.Records.{has}

@@ -8,12 +8,12 @@ use Rattle.ids_core.specs.declared.object.ObjectId.{ObjectId}
 use Rattle.ids_core.specs.Ids.{same_object}
 use Rattle.vv_core.specs.Vectors.{Covers, covers}
 use Rattle.vv_core.proofs.Covering.{covers-true}
+use Rattle.obj_counter.specs.Counter.{sizes}
 use Rattle.tx_core.specs.declared.op.Op.{Op}
 use Rattle.tx_core.specs.declared.op.Op.TheVariants.{Inc as IncOp}
 use Rattle.tx_core.specs.declared.tx.Update.{Update}
 use Rattle.tx_core.specs.declared.tx.Tx.{Tx}
 use Rattle.tx_core.specs.Checks.{is_small}
-use Rattle.tx_core.specs.Counter.{sizes}
 use Rattle.dc_talk.specs.declared.session.Change.{Change}
 use Rattle.dc_talk.specs.declared.session.Refusal.{Refusal}
 use Rattle.dc_talk.specs.declared.session.Refusal.TheVariants.{AlreadyOpen, ClockFull, NotOpen, DeltaTooLarge, TooManyUpdates}

@@ -10,15 +10,15 @@ use Rattle.ids_core.specs.declared.object.Sort.{Sort}
 use Rattle.ids_core.specs.declared.object.Sort.TheVariants as sort
 use Rattle.ids_core.specs.declared.object.ObjectId.{ObjectId}
 use Rattle.ids_core.specs.Ids.{same_object}
+use Rattle.obj_counter.specs.Counter.{added, total, sizes}
+use Rattle.obj_counter.proofs.Totals.{fold-added_exact}
 use Rattle.tx_core.specs.declared.op.Op.{Op}
 use Rattle.tx_core.specs.declared.op.Op.TheVariants.{Inc}
 use Rattle.tx_core.specs.declared.tx.Update.{Update}
 use Rattle.tx_core.specs.declared.tx.Tx.{Tx}
 use Rattle.tx_core.specs.declared.state.State.{State}
 use Rattle.tx_core.specs.declared.state.State.TheVariants.{Counter}
-use Rattle.tx_core.specs.Counter.{added, total, sizes}
 use Rattle.tx_core.specs.States.{empty_of, step, fold_of}
-use Rattle.tx_core.proofs.Totals.{fold-added_exact}
 use Rattle.dc_talk.specs.Objects.{mark, ops_from, ops_of}
 use Rattle.dc_talk.specs.Clients.{Client, next_dot, draft_updates, view}
 use Rattle.run_book.specs.Graphs.{delta_of, deltas_of}

@@ -7,6 +7,7 @@ use Rattle.ids_core.specs.declared.ids.Dot.{Dot}
 use Rattle.ids_core.specs.declared.object.ObjectId.{ObjectId}
 use Rattle.ids_core.specs.Ids.{same_object}
 use Rattle.vv_core.specs.Vectors.{at, centres}
+use Rattle.obj_counter.specs.Counter.{total}
 use Rattle.tx_core.specs.declared.op.Op.{Op}
 use Rattle.tx_core.specs.declared.op.Op.TheVariants.{Inc}
 use Rattle.tx_core.specs.declared.tx.Update.{Update}
@@ -14,7 +15,6 @@ use Rattle.tx_core.specs.declared.tx.Tx.{Tx}
 use Rattle.tx_core.specs.declared.tx.Record.{Record}
 use Rattle.tx_core.specs.declared.state.Value.{Value}
 use Rattle.tx_core.specs.declared.state.Value.TheVariants.{Number}
-use Rattle.tx_core.specs.Counter.{total}
 use Rattle.dc_talk.specs.declared.session.Call.TheVariants.{Read}
 use Rattle.dc_talk.specs.declared.session.Outcome.TheVariants.{Got}
 use Rattle.dc_talk.specs.declared.log.Deed.TheVariants.{Did}

@@ -135,33 +135,3 @@ impl Logs {
         self.items.as_slice()
     }
 }
-
-#[cfg(test)]
-mod tests {
-    use super::*;
-    use std::test::Fail;
-
-    #[test]
-    fn a_book_grows_by_trails_and_logs(rt: HostRuntime) -> Result<(), Fail> {
-        let mut book = Book::new(rt.alloc(), 2, 1);
-        book.trails.push(Trail::new(rt.alloc()))?;
-        book.trails.push(Trail::new(rt.alloc()))?;
-        book.logs.push(Log::new(rt.alloc(), 1))?;
-        assert_eq!(rt; book.n, 2);
-        assert_eq!(rt; book.k, 1);
-        assert_eq!(rt; book.trails.as_slice().len(), 2);
-        assert_eq!(rt; book.logs.as_slice().len(), 1);
-        Ok(())
-    }
-
-    #[test]
-    fn trails_and_logs_of_vectors(rt: HostRuntime) -> Result<(), Fail> {
-        let mut trails = Vec::new(rt.alloc());
-        trails.push(Trail::new(rt.alloc()))?;
-        let mut logs = Vec::new(rt.alloc());
-        logs.push(Log::new(rt.alloc(), 1))?;
-        assert_eq!(rt; Trails::from_vec(trails).as_slice().len(), 1);
-        assert_eq!(rt; Logs::from_vec(logs).as_slice().len(), 1);
-        Ok(())
-    }
-}

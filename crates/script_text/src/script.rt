@@ -123,6 +123,3 @@ fn parse_steps(alloc: Global, text: &[u8]) -> Result<Steps, ScriptFault>
     }
     Ok(Steps::from_vec(steps))
 }
-
-#[cfg(test)]
-mod tests;

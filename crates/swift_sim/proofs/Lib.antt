@@ -4,5 +4,4 @@ pub mod Taking
 pub mod Leaving
 pub mod Near
 pub mod Lone
-pub mod PlaysAscend
 pub mod Owing

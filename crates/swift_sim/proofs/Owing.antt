@@ -18,13 +18,12 @@ use Rattle.run_book.specs.Fit.{FitsWith}
 use Rattle.run_book.specs.Graphs.{IsCausal, FirstSums}
 use Rattle.run_book.specs.Alone.{IsAlone, IsBookOfOne, idle_log}
 use Rattle.run_book.proofs.AloneFits.{alone_fits}
-use Rattle.run_book.proofs.AloneSteps.{alone_scripted}
+use Rattle.run_book.proofs.AloneSteps.{alone_scripted, plays_ascend}
 use Rattle.run_book.proofs.OneClientReads.{one_client_causal, one_client_first}
 use Rattle.print_text.specs.Text.{text_of, notes_text, IsSilent}
 use Rattle.print_text.proofs.Texts.{text_one_client}
 use Rattle.swift_sim.specs.Playing.{Playing, HasTaken}
 use Rattle.swift_sim.specs.Runs.{IsNothing, IsLoneRun, PlaysInput, EndsSo, IsSomeScript, IsNoScript, Meets, OwesFor, Owes, serial_words}
-use Rattle.swift_sim.proofs.PlaysAscend.{plays_ascend}
 
 -- logs of workers without notes
 idle_all : All IsSilent (idle_log 3 ∷ idle_log 4 ∷ idle_log 5 ∷ idle_log 6 ∷ [])
@@ -39,7 +38,7 @@ lone_text : (steps : List ClientStep) (limit capacity : ℕ) (log : Logged) (tra
 lone_text steps limit capacity log trail book alone one =
     ap text_of one.logs
     ∙ text_one_client (1 + length steps) (idle_log 1) log (idle_log 3 ∷ idle_log 4 ∷ idle_log 5 ∷ idle_log 6 ∷ []) refl idle_all
-    (plays_ascend (new_client 1 1 capacity) 1 steps log.notes (omega arith) alone.plays)
+    (plays_ascend (new_client 1 1 capacity) 1 (1 + length steps) steps log.notes (omega arith) alone.plays)
 
 -- the trail is a history with the settings of the run
 history_of : (limit capacity : ℕ) (steps : List ClientStep) (p : Playing) (trail : List Entry) → HasTaken limit capacity steps p → History p.desk.me p.desk.n p.desk.k p.desk.limit trail → History 1 1 1 limit trail

@@ -10,6 +10,7 @@ use Rattle.std.proofs.lemmas.Int.{ints}
 use Rattle.std.proofs.Math.Dec.{eqb-suc-zero}
 use Rattle.std.proofs.lemmas.Iterator.Adapters.{position_from-zero}
 use Rattle.std.proofs.lemmas.List.Elements.{All-head, All-tail, All-cons}
+use Rattle.list_core.specs.Choices.{when, first_of}
 use Rattle.tx_core.specs.declared.op.Op.{Op}
 use Rattle.tx_core.specs.declared.op.Op.TheVariants.{Inc}
 use Rattle.tx_core.specs.declared.tx.Update.{Update}
@@ -18,14 +19,14 @@ use Rattle.tx_core.specs.declared.check.TxFault.{TxFault}
 use Rattle.tx_core.specs.declared.check.TxFault.TheVariants.{NoUpdates, TooManyUpdates, BadDot, BadRank, WrongWidth, BadSnap, DeltaTooLarge}
 use Rattle.tx_core.specs.Checks.{is_within, is_dot, is_small, snap_fault, update_fault, updates_fault, fault_of, HasSmallDelta, IsFit}
 
--- a row was passed over
-passed : (test : Bool) (fault : TxFault) (rest : Option TxFault) → cond test (Some fault) rest ≡ None → (test ≡ false) × (rest ≡ None)
-passed true fault rest h = cc
-passed false fault rest h = (refl, h)
+-- a choice that is not there
+passed : (test : Bool) (fault : TxFault) (rest : List (Option (Option TxFault))) (last : Option TxFault) → first_of (when test (Some fault) ∷ rest) last ≡ None → (test ≡ false) × (first_of rest last ≡ None)
+passed true fault rest last h = cc
+passed false fault rest last h = (refl, h)
 
-passes : (test : Bool) (fault : TxFault) (rest : Option TxFault) → test ≡ false → rest ≡ None → cond test (Some fault) rest ≡ None
-passes true fault rest t h = cc
-passes false fault rest t h = h
+passes : (test : Bool) (fault : TxFault) (rest : List (Option (Option TxFault))) (last : Option TxFault) → test ≡ false → first_of rest last ≡ None → first_of (when test (Some fault) ∷ rest) last ≡ None
+passes true fault rest last t h = cc
+passes false fault rest last t h = h
 
 both_none : (a b : Option TxFault) → option_or a b ≡ None → (a ≡ None) × (b ≡ None)
 both_none None b h = (refl, h)
@@ -104,11 +105,11 @@ none-updates_fault place (update ∷ updates) h =
 
 pub fault_of-none : (n : ℕ) (tx : Tx) → fault_of n tx ≡ None → IsFit n tx
 fault_of-none n tx h =
-    let some = passed (length tx.updates == 0) NoUpdates _ h in
-    let few = passed (nat_lt 256 (length tx.updates)) (TooManyUpdates (length tx.updates)) _ some.1 in
-    let dot = passed (not (is_dot tx.dot)) BadDot _ few.1 in
-    let rank = passed (not (is_within 1 (2 ^ 62) tx.rank)) BadRank _ dot.1 in
-    let width = passed (not (length tx.snap == n)) (WrongWidth (length tx.snap)) _ rank.1 in
+    let some = passed (length tx.updates == 0) NoUpdates _ _ h in
+    let few = passed (nat_lt 256 (length tx.updates)) (TooManyUpdates (length tx.updates)) _ _ some.1 in
+    let dot = passed (not (is_dot tx.dot)) BadDot _ _ few.1 in
+    let rank = passed (not (is_within 1 (2 ^ 62) tx.rank)) BadRank _ _ dot.1 in
+    let width = passed (not (length tx.snap == n)) (WrongWidth (length tx.snap)) _ _ rank.1 in
     let rest = both_none (snap_fault tx.snap) (updates_fault 0 tx.updates) width.1 in
     let parts = and_parts (is_within 1 1024 tx.dot.client) (is_within 1 (2 ^ 62) tx.dot.number) (true_of (is_dot tx.dot) dot.0) in
     let none : length tx.updates ≢ 0 = λ e. false≢true (sym some.0 ∙ (Decides-eqb (length tx.updates) 0).1 e) in
@@ -131,9 +132,9 @@ none-fault_of n tx fit =
     let dot = and_from (is_within 1 1024 tx.dot.client) (is_within 1 (2 ^ 62) tx.dot.number) client number in
     let rank = (is_within-Decides 1 (2 ^ 62) tx.rank).1 fit.rank in
     let width = (Decides-eqb (length tx.snap) n).1 fit.width in
-    passes (length tx.updates == 0) NoUpdates _ some
-    (passes (nat_lt 256 (length tx.updates)) (TooManyUpdates (length tx.updates)) _ (false-nat_lt 256 (length tx.updates) fit.few)
-    (passes (not (is_dot tx.dot)) BadDot _ (false_of (is_dot tx.dot) dot)
-    (passes (not (is_within 1 (2 ^ 62) tx.rank)) BadRank _ (false_of (is_within 1 (2 ^ 62) tx.rank) rank)
-    (passes (not (length tx.snap == n)) (WrongWidth (length tx.snap)) _ (false_of (length tx.snap == n) width)
+    passes (length tx.updates == 0) NoUpdates _ _ some
+    (passes (nat_lt 256 (length tx.updates)) (TooManyUpdates (length tx.updates)) _ _ (false-nat_lt 256 (length tx.updates) fit.few)
+    (passes (not (is_dot tx.dot)) BadDot _ _ (false_of (is_dot tx.dot) dot)
+    (passes (not (is_within 1 (2 ^ 62) tx.rank)) BadRank _ _ (false_of (is_within 1 (2 ^ 62) tx.rank) rank)
+    (passes (not (length tx.snap == n)) (WrongWidth (length tx.snap)) _ _ (false_of (length tx.snap == n) width)
     (none_of_both (snap_fault tx.snap) (updates_fault 0 tx.updates) (none-snap_fault tx.snap fit.snap) (none-updates_fault 0 tx.updates fit.deltas))))))

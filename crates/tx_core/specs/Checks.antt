@@ -1,6 +1,7 @@
 -- Which transactions are fit, and what is wrong with the others.
 use Rattle.std.specs.Prelude.{◌≡◌, ◌≤◌, ◌==◌, ◌&&◌, ◌+◌, ◌^◌, ℕ, neg_ℤ, pos, ◌≤ℤ◌, Bool, not, nat_le, nat_lt, unsigned_abs, if◌then◌else◌, Option, Some, None, List, [], ◌∷◌, length, position, All}
 use Rattle.std.specs.Option.{option_or, option_map}
+use Rattle.list_core.specs.Choices.{when, first_of}
 use Rattle.ids_core.specs.declared.ids.Dot.{Dot}
 use Rattle.tx_core.specs.declared.op.Op.{Op}
 use Rattle.tx_core.specs.declared.op.Op.TheVariants.{Inc}
@@ -8,11 +9,6 @@ use Rattle.tx_core.specs.declared.tx.Update.{Update}
 use Rattle.tx_core.specs.declared.tx.Tx.{Tx}
 use Rattle.tx_core.specs.declared.check.TxFault.{TxFault}
 use Rattle.tx_core.specs.declared.check.TxFault.TheVariants.{NoUpdates, TooManyUpdates, BadDot, BadRank, WrongWidth, BadSnap, DeltaTooLarge}
-
--- the value beside the first test that holds, and the other value where none does
-abbrev pub first_of : {X : Type 0} → List (Bool × X) → X → X
-first_of [] other = other
-first_of (row ∷ rows) other = if row.0 then row.1 else first_of rows other
 
 -- from low to high, both included
 abbrev pub is_within : ℕ → ℕ → ℕ → Bool
@@ -43,11 +39,11 @@ updates_fault place (update ∷ updates) = option_or (update_fault place update)
 abbrev pub fault_of : ℕ → Tx → Option TxFault
 fault_of n tx =
     first_of (
-    (length tx.updates == 0, Some NoUpdates)
-    ∷ (nat_lt 256 (length tx.updates), Some (TooManyUpdates (length tx.updates)))
-    ∷ (not (is_dot tx.dot), Some BadDot)
-    ∷ (not (is_within 1 (2 ^ 62) tx.rank), Some BadRank)
-    ∷ (not (length tx.snap == n), Some (WrongWidth (length tx.snap)))
+    when (length tx.updates == 0) (Some NoUpdates)
+    ∷ when (nat_lt 256 (length tx.updates)) (Some (TooManyUpdates (length tx.updates)))
+    ∷ when (not (is_dot tx.dot)) (Some BadDot)
+    ∷ when (not (is_within 1 (2 ^ 62) tx.rank)) (Some BadRank)
+    ∷ when (not (length tx.snap == n)) (Some (WrongWidth (length tx.snap)))
     ∷ [])
     (option_or (snap_fault tx.snap) (updates_fault 0 tx.updates))
 

@@ -3,7 +3,7 @@ use Rattle.std.specs.Prelude.{Bool, true, pos, List, fold}
 use Rattle.ids_core.specs.declared.ids.Mark.{Mark}
 use Rattle.ids_core.specs.declared.object.Sort.{Sort}
 use Rattle.ids_core.specs.declared.object.Sort.TheVariants as sort
-use Rattle.tx_core.specs.Counter.{added}
+use Rattle.obj_counter.specs.Counter as counter
 use Rattle.tx_core.specs.declared.op.Op.{Op}
 use Rattle.tx_core.specs.declared.op.Op.TheVariants.{Inc}
 use Rattle.tx_core.specs.declared.state.State.{State}
@@ -25,7 +25,7 @@ is_of (Counter s) (Inc delta) = true
 
 -- the state after an operation
 abbrev pub step : State → Mark → Op → State
-step (Counter s) mark (Inc delta) = Counter (added s delta)
+step (Counter s) mark (Inc delta) = Counter (counter.step s (mark, record { delta = delta }))
 
 -- the state after marked operations, in their order
 abbrev pub fold_of : State → List (Mark × Op) → State

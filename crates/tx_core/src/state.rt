@@ -2,9 +2,9 @@
 ghost use Rattle.std.specs.Prelude.{◌≡◌, IfOk, OnOk, OnErr, IsTrue};
 ghost use Rattle.tx_core.specs.States.{empty_of, is_of, step, value_of, sort_of};
 
-use crate::counter::CounterState;
 use crate::op::Op;
-use ids_core::{Mark, NoMemory, Sort};
+use ids_core::{Kind, Mark, NoMemory, Sort};
+use obj_counter::{CounterOp, CounterState};
 use std::alloc::{AllocError, Global};
 
 /// The state of an object.
@@ -23,11 +23,11 @@ pub enum Value {
 
 impl State {
     /// The state of an object of that kind before any operation.
-    pub fn empty(_alloc: Global, sort: Sort) -> Result<State, NoMemory>
+    pub fn empty(alloc: Global, sort: Sort) -> Result<State, NoMemory>
         ensures { IfOk result (λ state. state ≡ empty_of sort) }
     {
         match sort {
-            Sort::Counter => Ok(State::Counter(CounterState::empty())),
+            Sort::Counter => Ok(State::Counter(CounterState::empty(alloc)?)),
         }
     }
 
@@ -39,10 +39,9 @@ impl State {
     {
         match self {
             State::Counter(sum) => match op {
-                Op::Inc { delta } => sum.fold(*delta),
+                Op::Inc { delta } => CounterState::fold(sum, mark, &CounterOp { delta: *delta }),
             },
         }
-        Ok(())
     }
 
     /// What a read gives.
@@ -88,29 +87,5 @@ impl Clone for Value {
         match self {
             Value::Number(number) => Ok(Value::Number(*number)),
         }
-    }
-}
-
-#[cfg(test)]
-mod tests {
-    use super::*;
-    use ids_core::{Dot, OpId};
-    use std::test::Fail;
-
-    #[test]
-    fn a_counter_adds_its_deltas(rt: HostRuntime) -> Result<(), Fail> {
-        let alloc = rt.alloc();
-        let mut state = State::empty(alloc, Sort::Counter)?;
-        let client = 1;
-        let number = 1;
-        let dot = Dot { client, number };
-        for (place, delta) in [(0, 5), (1, -7), (2, 4)] {
-            let id = OpId { dot, place };
-            state.fold(&Mark { rank: 1, id }, &Op::Inc { delta })?;
-        }
-        let copy = state.copy()?;
-        assert_eq!(rt; copy.sort(), Sort::Counter);
-        assert_eq!(rt; copy.value(alloc)?, Value::Number(2));
-        Ok(())
     }
 }

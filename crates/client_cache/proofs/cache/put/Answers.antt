@@ -1,5 +1,5 @@
 use Rattle.std.proofs.Common.{sym, ap, ◌∙◌, ◌∷◌}
-use Rattle.client_cache.proofs.Places.{without_first-none, without_first-found, front-set}
+use Rattle.list_core.proofs.Places.{without_first-none, without_first-found, front-set}
 use Rattle.std.specs.Prelude.{slice_set}
 use Rattle.client_cache.proofs.cache.put.Goals as goal
 

@@ -1,0 +1,21 @@
+// Books.
+use dc_talk::{Log, Trail};
+use run_book::{Book, Logs, Trails, law_one_client};
+use std::test::Fail;
+
+#[test]
+fn a_book_has_its_trails_and_logs(rt: HostRuntime) -> Result<(), Fail> {
+    let alloc = rt.alloc();
+    law_one_client();
+    let mut book = Book::new(alloc, 2, 1);
+    book.trails.push(Trail::new(alloc))?;
+    book.logs.push(Log::new(alloc, 1))?;
+    assert_eq!(rt; (book.n, book.k), (2, 1));
+    assert_eq!(rt; book.trails.as_slice().len(), 1);
+    assert_eq!(rt; book.logs.as_slice().len(), 1);
+    let trails = vec![in alloc; Trail::new(alloc)]?;
+    let logs = vec![in alloc; Log::new(alloc, 1)]?;
+    assert_eq!(rt; Trails::from_vec(trails).as_slice().len(), 1);
+    assert_eq!(rt; Logs::from_vec(logs).as_slice().len(), 1);
+    Ok(())
+}

@@ -1,0 +1,119 @@
+// A cache, and a session with its centre's answers.
+use crate::samples::counter;
+use client_cache::Cache;
+use client_session::{Heard, Session};
+use dc_talk::{Ask, Change, Refusal, Say};
+use ids_core::{Dot, Mark, ObjectId, OpId, Sort};
+use std::alloc::Global;
+use std::test::Fail;
+use tx_core::{Op, State, Value};
+use vv_core::{Stamp, Vector};
+
+// A counter's state after one delta.
+fn state_of(alloc: Global, delta: i64) -> Result<State, Fail> {
+    let mut state = State::empty(alloc, Sort::Counter)?;
+    let client = 1;
+    let number = 1;
+    let dot = Dot { client, number };
+    let id = OpId { dot, place: 0 };
+    state.fold(&Mark { rank: 1, id }, &Op::Inc { delta })?;
+    Ok(state)
+}
+
+fn found(
+    alloc: Global,
+    cache: &mut Cache,
+    object: &ObjectId,
+    at: &Vector,
+) -> Result<Option<Value>, Fail> {
+    match cache.find(object, at) {
+        None => Ok(None),
+        Some(state) => Ok(Some(state.value(alloc)?)),
+    }
+}
+
+#[test]
+fn the_least_recently_used_falls_out(rt: HostRuntime) -> Result<(), Fail> {
+    let alloc = rt.alloc();
+    let at = Vector::zero(1);
+    let (a, b, c) = (counter("a")?, counter("b")?, counter("c")?);
+    let mut cache = Cache::new(alloc, 2)?;
+    cache.keep(&a, &at, state_of(alloc, 1)?)?;
+    cache.keep(&b, &at, state_of(alloc, 2)?)?;
+    assert_eq!(rt; found(alloc, &mut cache, &a, &at)?, Some(Value::Number(1)));
+    cache.keep(&c, &at, state_of(alloc, 3)?)?;
+    assert_eq!(rt; found(alloc, &mut cache, &b, &at)?, None);
+
+    // A newer state stands in place of the older one.
+    let next = Vector::zero(1).raise(&Stamp { centre: 1, seq: 1 });
+    cache.keep(&a, &next, state_of(alloc, 4)?)?;
+    assert_eq!(rt; found(alloc, &mut cache, &a, &at)?, None);
+    assert_eq!(rt;
+        found(alloc, &mut cache, &a, &next)?,
+        Some(Value::Number(4))
+    );
+    assert_eq!(rt; found(alloc, &mut cache, &c, &at)?, Some(Value::Number(3)));
+    Ok(())
+}
+
+// A session of client 1 among one centre, which heard that the centre has nothing of it.
+fn connected(alloc: Global) -> Result<Session, Fail> {
+    let mut session = Session::new(alloc, 1, 1, 2)?;
+    let hello = session.ask_hello();
+    session.hear(1, &hello, &Say::Welcome { through: 0 })?;
+    Ok(session)
+}
+
+#[test]
+fn an_update_is_read_and_committed(rt: HostRuntime) -> Result<(), Fail> {
+    let alloc = rt.alloc();
+    let object = counter("a")?;
+    let mut session = connected(alloc)?;
+    assert_eq!(rt; session.client(), 1);
+    session.begin(alloc)?;
+    session.update(&object, &Change::Inc { delta: 5 })?;
+    let miss = Refusal::NeedsFetch { object };
+    assert_eq!(rt; session.read(alloc, &object), Err(miss));
+    let (centre, fetch) = session.ask_fetch(&object)?;
+    assert_eq!(rt; centre, 1);
+    let say = Say::Object {
+        state: state_of(alloc, 2)?,
+    };
+    assert_eq!(rt; session.hear(1, &fetch, &say)?, Heard::Took);
+    assert_eq!(rt; session.read(alloc, &object)?, Value::Number(7));
+    assert_eq!(rt; session.commit()?, Some(1));
+    assert_eq!(rt; session.read(alloc, &object)?, Value::Number(7));
+    Ok(())
+}
+
+#[test]
+fn a_commit_reaches_the_centre_and_comes_back(rt: HostRuntime) -> Result<(), Fail> {
+    let alloc = rt.alloc();
+    let object = counter("a")?;
+    let mut session = connected(alloc)?;
+    session.begin(alloc)?;
+    session.update(&object, &Change::Inc { delta: 5 })?;
+    session.commit()?;
+    let Some((_, push)) = session.ask_commit()? else {
+        return Err(Fail::from("no commit"));
+    };
+    assert!(rt; matches!(&push, Ask::Commit { tx } if tx.rank == 1 && tx.dot.number == 1));
+    let stamp = Stamp { centre: 1, seq: 1 };
+    let stamped = Say::Stamped { stamp };
+    assert_eq!(rt; session.hear(1, &push, &stamped)?, Heard::Took);
+    assert!(rt; session.ask_commit()?.is_none());
+
+    let (_, refresh) = session.ask_refresh()?;
+    let vector = Vector::zero(1).raise(&stamp);
+    let say = Say::Snap {
+        vector,
+        mine: 1,
+        top: 1 << 62,
+    };
+    assert_eq!(rt; session.facts().pending, 1);
+    assert_eq!(rt; session.hear(1, &refresh, &say)?, Heard::Took);
+    let facts = session.facts();
+    assert_eq!(rt; (facts.vector, facts.mine, facts.pending), (vector, 1, 0));
+    assert_eq!(rt; session.begin(alloc), Err(Refusal::ClockFull));
+    Ok(())
+}

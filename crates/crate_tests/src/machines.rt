@@ -1,0 +1,68 @@
+// A gate as a machine, kept by generic code.
+ghost use Rattle.hist_lock.specs.History.{IsKept};
+
+use hist_lock::{Kept, Machine};
+use ids_core::NoMemory;
+use std::test::Fail;
+
+// It lets the first so many guests in.
+#[derive(Drop)]
+struct Gate {
+    most: u64,
+    inside: u64,
+}
+
+impl Machine for Gate {
+    type Ask = u32;
+
+    type Say = bool;
+
+    type Settings = u64;
+
+    ghost use Rattle.std.specs.Prelude.{◌≡◌, length, min, nat_lt};
+
+    ghost settings = { λ gate. gate.most };
+
+    ghost reply = { λ most log guest. nat_lt (length log) most };
+
+    ghost stands = { λ gate log. gate.inside ≡ min (length log) gate.most };
+
+    fn step(&mut self, _guest: &u32) -> Result<(bool, bool), NoMemory> {
+        let open = self.inside < self.most;
+        if open {
+            self.inside += 1;
+        }
+        Ok((open, open))
+    }
+
+    fn copy_ask(guest: &u32) -> Result<u32, NoMemory> {
+        Ok(*guest)
+    }
+}
+
+// Whatever the machine is, it stays kept over two asks.
+fn ask_both<M: Machine>(
+    kept: &mut Kept<M>,
+    first: &M::Ask,
+    second: &M::Ask,
+) -> Result<(M::Say, M::Say), NoMemory>
+    requires { IsKept M.reply M.stands M.settings kept.old.machine kept.old.trail.entries }
+    ensures { IsKept M.reply M.stands M.settings kept.new.machine kept.new.trail.entries }
+{
+    let one = kept.answer(4, first)?;
+    let other = kept.answer(9, second)?;
+    Ok((one, other))
+}
+
+#[test]
+fn a_gate_lets_so_many_in(rt: HostRuntime) -> Result<(), Fail> {
+    let mut kept = Kept::new(rt.alloc(), Gate { most: 1, inside: 0 });
+    assert_eq!(rt; kept.trail.len(), 0);
+    assert!(rt; kept.trail.get(0).is_none());
+    assert_eq!(rt; ask_both(&mut kept, &70, &71)?, (true, false));
+    assert_eq!(rt; kept.trail.len(), 2);
+    assert!(rt; matches!(kept.trail.get(0), Some((4, 70, true))));
+    assert!(rt; matches!(kept.trail.get(1), Some((9, 71, false))));
+    assert!(rt; kept.trail.get(2).is_none());
+    Ok(())
+}

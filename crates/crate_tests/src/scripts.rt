@@ -1,0 +1,244 @@
+// Scripts that are taken, and others.
+use script_text::{ClientStep, Input, ScriptFault, parse};
+use std::alloc::Global;
+use std::test::Fail;
+
+const HEAD: &[u8] = b"centres 1 k 1\nclients 1\n";
+
+const CONNECT: &[u8] = b"centres 1 k 1\nclients 1\nc1 connect 1\n";
+
+const OPEN: &[u8] = b"centres 1 k 1\nclients 1\nc1 connect 1\nc1 begin\n";
+
+const CLOSE: &[u8] = b"c1 commit\nc1 push\nc1 refresh\n";
+
+const INC: &[u8] = b"c1 inc c.a 1\n";
+
+const BLOCK: &[u8] = b"c1 begin\nc1 inc c.a 1\nc1 commit\nc1 push\nc1 refresh\n";
+
+// How many steps the three parts are together, or the fault.
+fn steps_of(
+    alloc: Global,
+    head: &[u8],
+    body: &[u8],
+    tail: &[u8],
+) -> Result<Result<usize, ScriptFault>, Fail> {
+    let mut bytes = head.to_vec(alloc)?;
+    bytes.extend_from_slice(body)?;
+    bytes.extend_from_slice(tail)?;
+    let input = Input::of(bytes);
+    match parse(alloc, &input) {
+        Ok(script) => Ok(Ok(script.steps.len())),
+        Err(fault) => Ok(Err(fault)),
+    }
+}
+
+// The text, so many times.
+fn repeated(alloc: Global, text: &[u8], times: usize) -> Result<Vec<u8>, Fail> {
+    let mut bytes = Vec::new(alloc);
+    for _ in 0..times {
+        bytes.extend_from_slice(text)?;
+    }
+    Ok(bytes)
+}
+
+#[test]
+fn a_whole_block_is_taken(rt: HostRuntime) -> Result<(), Fail> {
+    let alloc = rt.alloc();
+    let text =
+        b"centres 1 k 1\nclients 1\nc1 connect 1\nc1 begin\nc1 read c.b\nc1 inc c.a_9 -5\nc1 commit\nc1 push\nc1 refresh";
+    let input = Input::of(text.to_vec(alloc)?);
+    let script = parse(alloc, &input)?;
+    assert_eq!(rt; (script.n, script.k, script.clients), (1, 1, 1));
+    assert_eq!(rt; (script.cache, script.limit), (1_024, 1_000_000));
+    match script.steps.as_slice() {
+        [
+            ClientStep::Connect { centre },
+            ClientStep::Begin,
+            ClientStep::Read { object: read },
+            ClientStep::Inc { object, delta },
+            ClientStep::Commit,
+            ClientStep::Push,
+            ClientStep::Refresh,
+        ] => {
+            assert_eq!(rt; *centre, 1);
+            assert_eq!(rt; read.name.as_slice(), b"b".as_slice());
+            assert_eq!(rt; object.name.as_slice(), b"a_9".as_slice());
+            assert_eq!(rt; *delta, -5);
+        }
+        _ => assert!(rt; false, "other steps"),
+    }
+    Ok(())
+}
+
+#[test]
+fn a_script_without_a_block_is_taken(rt: HostRuntime) -> Result<(), Fail> {
+    let alloc = rt.alloc();
+    assert_eq!(rt; steps_of(alloc, HEAD, b"", b"")?, Ok(0));
+    assert_eq!(rt;
+        steps_of(alloc, b"centres 1 k 1\nclients 1", b"", b"")?,
+        Ok(0)
+    );
+    Ok(())
+}
+
+#[test]
+fn blocks_are_taken_in_any_number(rt: HostRuntime) -> Result<(), Fail> {
+    let alloc = rt.alloc();
+    for (blocks, steps) in [(0, 1), (1, 6), (2, 11), (50, 251)] {
+        let lines = repeated(alloc, BLOCK, blocks)?;
+        let got = steps_of(alloc, CONNECT, &lines, b"")?;
+        assert_eq!(rt; got, Ok(steps), "{blocks} blocks");
+    }
+    Ok(())
+}
+
+#[test]
+fn a_last_block_may_break_off_after_each_line(rt: HostRuntime) -> Result<(), Fail> {
+    let alloc = rt.alloc();
+    let mut front = Vec::new(alloc);
+    for (line, steps) in [
+        (b"c1 begin\n".as_slice(), 1),
+        (b"c1 read c.a\n", 2),
+        (b"c1 inc c.a 1\n", 3),
+        (b"c1 read c.b\n", 4),
+        (b"c1 commit\n", 5),
+        (b"c1 push\n", 6),
+        (b"c1 refresh\n", 7),
+    ] {
+        front.extend_from_slice(line)?;
+        let first = steps_of(alloc, CONNECT, &front, b"")?;
+        assert_eq!(rt; first, Ok(1 + steps), "{line:?}");
+        let second = steps_of(alloc, CONNECT, BLOCK, &front)?;
+        assert_eq!(rt; second, Ok(6 + steps), "{line:?}");
+    }
+    Ok(())
+}
+
+#[test]
+fn incs_are_taken_in_their_range(rt: HostRuntime) -> Result<(), Fail> {
+    let alloc = rt.alloc();
+    for line in [
+        b"c1 inc c.a 0\n".as_slice(),
+        b"c1 inc c.a 1000000000000\n",
+        b"c1 inc c.a -1000000000000\n",
+        b"c1 inc c.abcdefghijklmnopqrstuvwxyz_01234 1\n",
+    ] {
+        assert_eq!(rt; steps_of(alloc, OPEN, line, CLOSE)?, Ok(6), "{line:?}");
+    }
+    Ok(())
+}
+
+#[test]
+fn other_lines_of_a_block_are_refused(rt: HostRuntime) -> Result<(), Fail> {
+    let alloc = rt.alloc();
+    for line in [
+        b"".as_slice(),
+        b"c1 read c.a\n",
+        b"c1 inc c.a -0\n",
+        b"c1 inc c.a 01\n",
+        b"c1 inc c.a +1\n",
+        b"c1 inc c.a 1000000000001\n",
+        b"c1 inc c.a  1\n",
+        b"c1 inc c.a\n",
+        b"c1 inc c.A 1\n",
+        b"c1 inc c. 1\n",
+        b"c1 inc s.a 1\n",
+        b"c1 inc c.abcdefghijklmnopqrstuvwxyz_012345 1\n",
+    ] {
+        let got = steps_of(alloc, OPEN, line, CLOSE)?;
+        assert_eq!(rt; got, Err(ScriptFault::Refused), "{line:?}");
+    }
+    Ok(())
+}
+
+#[test]
+fn other_lines_behind_the_header_are_refused(rt: HostRuntime) -> Result<(), Fail> {
+    let alloc = rt.alloc();
+    for lines in [
+        b"\n".as_slice(),
+        b"# none\n",
+        b"c1 begin\n",
+        b"c1 connect 2\n",
+        b"c1 connect 1\r\n",
+        b"c1  connect 1\n",
+        b"c1\tconnect 1\n",
+        b"c1 connect 1 \n",
+    ] {
+        let got = steps_of(alloc, HEAD, lines, b"")?;
+        assert_eq!(rt; got, Err(ScriptFault::Refused), "{lines:?}");
+    }
+    Ok(())
+}
+
+#[test]
+fn steps_in_another_order_are_refused(rt: HostRuntime) -> Result<(), Fail> {
+    let alloc = rt.alloc();
+    for lines in [
+        b"c1 connect 1\n".as_slice(),
+        b"c1 read c.a\n",
+        b"c1 commit\n",
+        b"c1 refresh\n",
+        b"c1 begin\nc1 commit\n",
+        b"c1 begin\nc1 begin\n",
+        b"c1 begin\nc1 inc c.a 1\nc1 connect 1\n",
+        b"c1 begin\nc1 inc c.a 1\nc1 push\n",
+        b"c1 begin\nc1 inc c.a 1\nc1 commit\nc1 refresh\n",
+        b"c1 begin\nc1 inc c.a 1\nc1 commit\nc1 begin\n",
+        b"c1 begin\nc1 inc c.a 1\nc1 commit\nc1 push\nc1 push\n",
+    ] {
+        let first = steps_of(alloc, CONNECT, lines, b"")?;
+        assert_eq!(rt; first, Err(ScriptFault::Refused), "{lines:?}");
+        let second = steps_of(alloc, CONNECT, BLOCK, lines)?;
+        assert_eq!(rt; second, Err(ScriptFault::Refused), "{lines:?}");
+    }
+    Ok(())
+}
+
+#[test]
+fn other_headers_are_refused(rt: HostRuntime) -> Result<(), Fail> {
+    let alloc = rt.alloc();
+    for head in [
+        b"".as_slice(),
+        b"centres 1 k 1\n",
+        b"centres 2 k 1\nclients 1\n",
+        b"Centres 1 k 1\nclients 1\n",
+        b"clients 1\ncentres 1 k 1\n",
+    ] {
+        let got = steps_of(alloc, head, b"", b"")?;
+        assert_eq!(rt; got, Err(ScriptFault::Refused), "{head:?}");
+    }
+    Ok(())
+}
+
+#[test]
+fn each_block_has_256_incs_at_most(rt: HostRuntime) -> Result<(), Fail> {
+    let alloc = rt.alloc();
+    let mut full = repeated(alloc, INC, 256)?;
+    full.extend_from_slice(CLOSE)?;
+    full.extend_from_slice(b"c1 begin\n")?;
+    for (incs, first, second) in [
+        (256, Ok(258), Ok(518)),
+        (257, Err(ScriptFault::Refused), Err(ScriptFault::Refused)),
+    ] {
+        let lines = repeated(alloc, INC, incs)?;
+        assert_eq!(rt; steps_of(alloc, OPEN, &lines, b"")?, first, "{incs} incs");
+        let got = steps_of(alloc, OPEN, &full, &lines)?;
+        assert_eq!(rt; got, second, "{incs} incs in a second block");
+    }
+    Ok(())
+}
+
+#[test]
+fn a_script_has_200_000_lines_at_most(rt: HostRuntime) -> Result<(), Fail> {
+    let alloc = rt.alloc();
+    for (reads, want) in [(199_992, Ok(199_998)), (199_993, Err(ScriptFault::Refused))] {
+        let mut body = Vec::new(alloc);
+        body.extend_from_slice(b"c1 inc c.a 1\n")?;
+        for _ in 0..reads {
+            body.extend_from_slice(b"c1 read c.a\n")?;
+        }
+        let got = steps_of(alloc, OPEN, &body, CLOSE)?;
+        assert_eq!(rt; got, want, "{reads} reads");
+    }
+    Ok(())
+}

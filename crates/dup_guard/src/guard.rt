@@ -1,0 +1,110 @@
+// The duplicate filter of a centre.
+ghost use Rattle.std.specs.Prelude.{◌≡◌, ◌≢◌, ◌≤◌, ◌+◌, ◌↔◌, ℕ, IsTrue, IsNone, IfOk, Some, None};
+ghost use Rattle.dup_guard.specs.Notes.{last_at, number_of, stamp_of};
+
+use ids_core::{Dot, NoMemory};
+use std::alloc::Global;
+use std::marker::Model;
+use vv_core::Stamp;
+
+// How many clients there are, counted from 1.
+const CLIENTS: usize = 1024;
+
+// What was last noted of a client: the number, 0 for none, and the stamp that was first noted with it.
+#[derive(Clone, Copy)]
+struct Last {
+    number: u64,
+    stamp: Stamp,
+}
+
+/// A filter of duplicates, seen as the list of what was last noted of the clients 1 to 1,024. A client's
+/// transactions are noted in the order of their numbers, each once; so one that comes again is told by its
+/// number, and found by the stamp that it was first noted with. (Zawirski and others, Middleware 2015.)
+#[derive(Drop)]
+pub struct Guard {
+    lasts: Vec<Last>,
+}
+
+impl Model for Guard {
+    ghost use Rattle.std.specs.Prelude.{◌≡◌, List, length};
+    ghost use Rattle.dup_guard.specs.declared.guard.Last.{Last};
+
+    ghost Value = { List Last };
+
+    ghost view = { λ g. g.lasts.items };
+
+    ghost invariant = { λ g. length g.lasts.items ≡ 1024 };
+}
+
+impl Guard {
+    /// A guard with nothing noted. It makes the places of all clients, so that no later call takes memory.
+    pub fn new(alloc: Global) -> Result<Guard, NoMemory>
+        ensures numbers { IfOk result (λ guard. (client : ℕ) → number_of guard client ≡ 0) }
+        ensures stamps { IfOk result (λ guard. (client : ℕ) → stamp_of guard client ≡ None) }
+    {
+        let nothing = Last {
+            number: 0,
+            stamp: Stamp { centre: 0, seq: 0 },
+        };
+        let lasts = vec![in alloc; nothing; CLIENTS]?;
+        Ok(Guard { lasts })
+    }
+
+    /// The number last noted of a client; 0 where none was.
+    pub fn through(&self, client: u32) -> u64
+        ensures { result ≡ number_of self.now client }
+    {
+        match last_of(&self.lasts, client) {
+            Some(last) => last.number,
+            None => 0,
+        }
+    }
+
+    /// The stamp first noted with the number last noted of a client; none exactly where none was.
+    pub fn first_stamp(&self, client: u32) -> Option<Stamp>
+        ensures stamp { result ≡ stamp_of self.now client }
+        ensures none { IsNone result ↔ (number_of self.now client ≡ 0) }
+    {
+        match last_of(&self.lasts, client) {
+            Some(last) => {
+                if last.number == 0 {
+                    None
+                } else {
+                    Some(last.stamp)
+                }
+            }
+            None => None,
+        }
+    }
+
+    /// Whether a dot's number is at most the one last noted of its client.
+    pub fn seen(&self, dot: &Dot) -> bool
+        ensures { IsTrue result ↔ (dot.now.number ≤ number_of self.now dot.now.client) }
+    {
+        dot.number <= self.through(dot.client)
+    }
+
+    /// Notes the next number of a client, 1 to 1,024, with its stamp.
+    pub fn note(&mut self, dot: &Dot, stamp: &Stamp)
+        requires client { (1 ≤ dot.now.client) × (dot.now.client ≤ 1024) }
+        requires next { dot.now.number ≡ number_of self.old dot.now.client + 1 }
+        ensures number { number_of self.new dot.now.client ≡ dot.now.number }
+        ensures stamp { stamp_of self.new dot.now.client ≡ Some stamp.now }
+        ensures others { (client : ℕ) → client ≢ dot.now.client → (number_of self.new client ≡ number_of self.old client) × (stamp_of self.new client ≡ stamp_of self.old client) }
+    {
+        self.lasts[(dot.client - 1) as usize] = Last {
+            number: dot.number,
+            stamp: *stamp,
+        };
+    }
+}
+
+// What was last noted of a client, where it has a place.
+fn last_of(lasts: &[Last], client: u32) -> Option<Last>
+    ensures { result ≡ last_at lasts.now client }
+{
+    if client == 0 {
+        return None;
+    }
+    lasts.get((client - 1) as usize).copied()
+}

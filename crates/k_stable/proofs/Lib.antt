@@ -1,0 +1,4 @@
+pub mod Rows
+pub mod Least
+pub mod Learning
+pub mod Sound

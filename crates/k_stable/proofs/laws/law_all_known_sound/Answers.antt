@@ -1,0 +1,5 @@
+use Rattle.k_stable.proofs.Sound.{all_known_sound}
+use Rattle.k_stable.proofs.laws.law_all_known_sound.Goals as goal
+
+pub returns : goal.returns
+returns c = all_known_sound

@@ -1,0 +1,6 @@
+//! The add-wins set, whose operations may be taken in in any order.
+#![tactic(auto)]
+
+mod set;
+
+pub use set::{SetOp, SetState, law_live};

@@ -1,0 +1,13 @@
+pub mod Sparse
+pub mod Kept
+pub mod Places
+pub mod Fitting
+pub mod Alive
+pub mod Folded
+pub mod Commutes
+pub mod Entries
+pub mod Listed
+pub mod Shown
+pub mod Fronts
+pub mod Finds
+pub mod Unseen

@@ -1,0 +1,7 @@
+use Rattle.std.proofs.Common.{◌≡◌, ◌++◌}
+use Rattle.tally_core.specs.Live.{live_in}
+use Rattle.tally_core.proofs.Fronts.{front, from_name}
+use Rattle.tally_core.proofs.live.live_from.Given as goal
+
+abbrev pub invariant-loop-place : goal.invariant-loop-place
+invariant-loop-place g l = l.list.items ++ live_in (front l.name l.place-iterator) ≡ live_in (front l.name (from_name l.name l.fn.cells.entries))

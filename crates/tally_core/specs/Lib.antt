@@ -1,0 +1,7 @@
+pub mod Places
+pub mod Sparse
+pub mod Cells
+pub mod Room
+pub mod Live
+pub mod Changes
+pub mod Sees

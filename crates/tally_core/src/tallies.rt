@@ -1,0 +1,111 @@
+// The tallies of all names.
+ghost use Rattle.std.specs.Prelude.{◌≡◌, ◌↔◌, ℕ, List, IfOk, OnOk, OnErr};
+ghost use Rattle.std.specs.FinMap as map;
+ghost use Rattle.std.specs.List.Sorted.{IsStrictlySortedBy};
+ghost use Rattle.list_core.specs.Members.{In};
+ghost use Rattle.ids_core.specs.Orders.{name_cmp};
+ghost use Rattle.tally_core.specs.Cells.{changed};
+ghost use Rattle.tally_core.specs.Live.{live_ids, live_names, kept_at, IsLiveName};
+
+use crate::live::{kept_from, live_from, names_in};
+use crate::place::{Cell, Place};
+use crate::room::{clear_room, make_room};
+use crate::turn::turn_all;
+use ids_core::{Name, NoMemory, OpId, Tags};
+use std::alloc::Global;
+use std::collections::BTreeMap;
+use std::marker::Model;
+
+/// For each name and identifier a tally: plus one for the add of the identifier, minus one for each
+/// list of seen identifiers that holds it (the observed-remove set of Shapiro and others, INRIA
+/// RR-7506, 2011, with tallies, so that a remove may come before the add that it saw). A tally of 0
+/// is not there. Where a tally is 1 or more, the identifier is live, and what its add keeps is there.
+#[derive(Debug, Drop)]
+pub struct Tallies<P: Copy> {
+    cells: BTreeMap<Place, Cell<P>>,
+}
+
+impl<P: Copy> Model for Tallies<P> {
+    ghost use Rattle.std.specs.FinMap as map;
+    ghost use Rattle.tally_core.specs.Places.{place_cmp, place_code};
+    ghost use Rattle.tally_core.specs.declared.place.Cell.{Cell};
+    ghost use Rattle.tally_core.specs.Cells.{cell_code, seen};
+
+    ghost Value = { map.FinMap place_cmp (Cell P) };
+
+    ghost coded = { map.code place_code (cell_code P.code) };
+
+    ghost view = { λ t. seen t.cells.entries };
+}
+
+impl<P: Copy> Tallies<P> {
+    /// No tally.
+    pub fn new(alloc: Global) -> Self
+        ensures { result ≡ map.empty }
+    {
+        Tallies {
+            cells: BTreeMap::new(alloc),
+        }
+    }
+
+    /// The same tallies again.
+    pub fn copy(&self) -> Result<Self, NoMemory>
+        ensures { IfOk result (λ copy. copy ≡ self.now) }
+    {
+        Ok(Tallies {
+            cells: self.cells.clone()?,
+        })
+    }
+
+    /// Under the name, one more for the identifier if something is added, which then keeps what is
+    /// given, and one less for each identifier of `over`. A tally that would pass an end of `i64`
+    /// is want of memory too. An `Err` leaves the tallies as they were. Time: logarithmic in the
+    /// number of tallies for each identifier that is named, plus what insertions move.
+    pub fn change(
+        &mut self,
+        name: &Name,
+        id: &OpId,
+        add: Option<P>,
+        over: &Tags,
+    ) -> Result<(), NoMemory>
+        ensures ok { OnOk result (self.new ≡ changed self.old name.now id.now add over.now) }
+        ensures err { OnErr result (self.new ≡ self.old) }
+    {
+        let over = over.as_slice();
+        let room = make_room(&mut self.cells, name, id, add.is_some(), over);
+        if room.is_ok() {
+            turn_all(&mut self.cells, name, id, add, over);
+        }
+        clear_room(&mut self.cells, name, id, over);
+        room
+    }
+}
+
+impl<P: Copy> Tallies<P> {
+    /// The live identifiers of a name.
+    pub fn live(&self, alloc: Global, name: &Name) -> Result<Tags, NoMemory>
+        ensures { IfOk result (λ tags. tags ≡ live_ids self.now name.now) }
+    {
+        match Tags::of(live_from(alloc, &self.cells, name)?) {
+            Ok(tags) => Ok(tags),
+            Err(_) => unreachable!(),
+        }
+    }
+
+    /// The live identifiers of a name in their order, each with what its add keeps.
+    pub fn kept(&self, alloc: Global, name: &Name) -> Result<Vec<(OpId, P)>, NoMemory>
+        ensures { IfOk result (λ list. list.items ≡ kept_at self.now name.now) }
+    {
+        kept_from(alloc, &self.cells, name)
+    }
+
+    /// The names with a live identifier, ascending.
+    pub fn names(&self, alloc: Global) -> Result<Vec<Name>, NoMemory>
+        ensures names { IfOk result (λ list. list.items ≡ live_names self.now) }
+        ensures ascending { IfOk result (λ list. IsStrictlySortedBy name_cmp list.items) }
+        ensures exact { IfOk result (λ list. (name : List ℕ) → In name list.items ↔ IsLiveName self.now name) }
+    {
+        let list = names_in(alloc, &self.cells)?;
+        Ok(list)
+    }
+}

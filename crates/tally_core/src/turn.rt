@@ -1,0 +1,79 @@
+// Tallies changed in place, where a cell stands for each.
+ghost use Rattle.std.specs.Prelude.{◌≡◌, Some, None, fold, is_some, option_map, true, false};
+ghost use Rattle.std.specs.Ordering.{eq_by_cmp};
+ghost use Rattle.std.specs.BTreeMap.{get};
+ghost use Rattle.ids_core.specs.Ascending.{IsAscending};
+ghost use Rattle.tally_core.specs.declared.place.Place as the_place;
+ghost use Rattle.tally_core.specs.Places.{place_cmp, place};
+ghost use Rattle.tally_core.specs.Cells.{seen, turn, turned, changed, lowers, cell};
+ghost use Rattle.tally_core.specs.Room.{Fits, CanLower, is_within};
+
+use crate::place::{Cell, Place};
+use ids_core::{Name, OpId};
+use std::collections::BTreeMap;
+
+// The changes of one operation.
+pub(crate) fn turn_all<P: Copy>(
+    cells: &mut BTreeMap<Place, Cell<P>>,
+    name: &Name,
+    id: &OpId,
+    add: Option<P>,
+    over: &[OpId],
+)
+    requires ascending { IsAscending over.now }
+    requires lowers { CanLower cells.old name.now over.now }
+    requires raises { is_some add ≡ true → Fits true cells.old (place name.now id.now) }
+    ensures { seen cells.new.entries ≡ changed (seen cells.old.entries) name.now id.now add over.now }
+{
+    if let Some(kept) = add {
+        turn(cells, name, id, Some(kept));
+    }
+    lower_all(cells, name, over);
+}
+
+// One less for each identifier.
+fn lower_all<P: Copy>(cells: &mut BTreeMap<Place, Cell<P>>, name: &Name, over: &[OpId])
+    requires ascending { IsAscending over.now }
+    requires room { CanLower cells.old name.now over.now }
+    ensures { seen cells.new.entries ≡ fold turn (seen cells.old.entries) (lowers name.now over.now) }
+{
+    for id in over {
+        turn(cells, name, id, None);
+    }
+}
+
+// One more, of an add that keeps something, or one less.
+fn turn<P: Copy>(cells: &mut BTreeMap<Place, Cell<P>>, name: &Name, id: &OpId, add: Option<P>)
+    requires { Fits (is_some add) cells.old (place name.now id.now) }
+    ensures view { seen cells.new.entries ≡ turn (seen cells.old.entries) (place name.now id.now, add) }
+    ensures stands { get place_cmp cells.new (place name.now id.now) ≡ option_map (turned add) (get place_cmp cells.old (place name.now id.now)) }
+    ensures apart { (p : the_place.Place) → eq_by_cmp place_cmp (place name.now id.now) p ≡ false → get place_cmp cells.new p ≡ get place_cmp cells.old p }
+{
+    let place = Place {
+        name: *name,
+        id: *id,
+    };
+    match cells.get_mut(&place) {
+        Some(cell) => *cell = turned(*cell, add),
+        None => unreachable!(),
+    }
+}
+
+fn turned<P: Copy>(cell: Cell<P>, add: Option<P>) -> Cell<P>
+    requires { is_within (is_some add) cell.count ≡ true }
+    ensures { result ≡ turned add cell }
+{
+    match add {
+        Some(kept) => make_cell(cell.count + 1, Some(kept)),
+        None => make_cell(cell.count - 1, cell.kept),
+    }
+}
+
+fn make_cell<P: Copy>(count: i64, kept: Option<P>) -> Cell<P>
+    ensures { result ≡ cell count kept }
+{
+    Cell {
+        count,
+        kept: if count > 0 { kept } else { None },
+    }
+}
