@@ -1,7 +1,7 @@
 #!/bin/sh
 # Times the program of crates/set_bench: so many distinct words added and all but the first removed
 # again, and one word added so many times, all of its adds live. Prints the rows of the tables in
-# docs/benchmarks.md. Each time is the least of three runs. The status is 1 where a doubling takes
+# docs/benchmarks.md. Each time is the least of nine runs. The status is 1 where a doubling takes
 # more than 2.4 times as long, or the program gives a wrong end.
 #   bench/sets.sh             times crates/set_bench/out/set_bench
 #   SET_BENCH=FILE bench/sets.sh     times another program
@@ -23,10 +23,10 @@ run() {
     echo $(((to - from) / 1000))
 }
 
-# least FORM COUNT LEFT: the least time of three runs.
+# least FORM COUNT LEFT: the least time of nine runs.
 least() {
     best=
-    for _ in 1 2 3; do
+    for _ in 1 2 3 4 5 6 7 8 9; do
         took=$(run "$1" "$2" "$3") || return 1
         if [ -z "$best" ] || [ "$took" -lt "$best" ]; then
             best=$took
@@ -67,6 +67,6 @@ table() {
 }
 
 status=0
-table words 12500 25000 50000 100000
-table tags 2048 4096 8192
+table words 50000 100000
+table tags 4096 8192
 exit "$status"
