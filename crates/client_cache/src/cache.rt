@@ -23,9 +23,14 @@ pub struct Cache {
 }
 
 impl Model for Cache {
+    ghost use Rattle.std.specs.Coded.{codes};
+    ghost use Rattle.obj_set.specs.Sets.{set_code};
+    ghost use Rattle.obj_map.specs.Maps.{map_code};
     ghost use Rattle.client_cache.specs.Caches.{Entries, IsCache};
 
     ghost Value = { Entries };
+
+    ghost coded = { Prim.hlevel (codes, set_code, map_code) };
 
     ghost view = { λ c. record { entries = c.entries.items; capacity = c.capacity } };
 

@@ -1,11 +1,12 @@
 -- What holds of every session holds after a newer snapshot.
 use Rattle.std.proofs.Common.{◌≡◌, ◌≤◌, ℕ, ◌+◌, ◌-◌, max, true, List, length, drop, Option, Some, None, arith}
-use Rattle.std.specs.Prelude.{is_none, IfSome, nat_le, ◌==◌}
+use Rattle.std.specs.Prelude.{is_none, IfSome, All, nat_le, ◌==◌}
 use Rattle.std.proofs.lemmas.Bool.{and_parts, leb-true}
 use Rattle.std.proofs.lemmas.List.{length-drop}
 use Rattle.std.proofs.lemmas.List.Elements.{All-drop}
 use Rattle.vv_core.specs.Vectors.{covers}
 use Rattle.tx_core.specs.declared.tx.Update.{Update}
+use Rattle.tx_core.specs.Checks.{IsFitUpdate}
 use Rattle.dc_talk.specs.Clients.{Client}
 use Rattle.dc_talk.specs.Calls.{most_rank, most_updates}
 use Rattle.dc_talk.specs.Rule.{can_follow}
@@ -39,6 +40,7 @@ followed s vector mine top is follows =
       count = omega arith;
       room = omega arith;
       pending = All-drop (λ tx. length tx.updates ≤ most_updates) (mine - s.mine) s.pending is.pending;
+      fit = All-drop (λ tx. All IsFitUpdate tx.updates) (mine - s.mine) s.pending is.fit;
       sent = is.sent;
       draft = no_draft (max s.clock top) s.draft wide.0;
     }

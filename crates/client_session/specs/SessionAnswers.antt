@@ -11,8 +11,8 @@ use Rattle.dc_talk.specs.declared.session.Refusal.{Refusal}
 use Rattle.dc_talk.specs.declared.session.Refusal.TheVariants.{NotConnected, AlreadyOpen}
 use Rattle.dc_talk.specs.Clients.{Client}
 use Rattle.dc_talk.specs.Rule.{refresh_of, fetch_of, next_commit}
-use Rattle.client_session.specs.declared.session.Heard.{Heard}
-use Rattle.client_session.specs.declared.session.Heard.TheVariants.{Took, Ignored}
+use Rattle.client_session.specs.declared.hears.Heard.{Heard}
+use Rattle.client_session.specs.declared.hears.Heard.TheVariants.{Took, Ignored}
 use Rattle.client_session.specs.declared.session.Facts.{Facts}
 
 -- an answer over the link, refused where there is none

@@ -2,6 +2,11 @@
 //! of a centre and hears (Middleware 2015).
 #![tactic(auto)]
 
+mod asks;
+mod changes;
+mod hears;
 mod session;
+mod views;
 
-pub use session::{Facts, Heard, Session};
+pub use hears::Heard;
+pub use session::{Facts, Session};

@@ -3,7 +3,7 @@ use crate::samples::counter;
 use client_cache::Cache;
 use client_session::{Heard, Session};
 use dc_talk::{Ask, Change, Refusal, Say};
-use ids_core::{Dot, Mark, ObjectId, OpId, Sort};
+use ids_core::{Dot, Mark, Name, ObjectId, OpId, Sort, Tags};
 use std::alloc::Global;
 use std::test::Fail;
 use tx_core::{Op, State, Value};
@@ -71,7 +71,7 @@ fn an_update_is_read_and_committed(rt: HostRuntime) -> Result<(), Fail> {
     let mut session = connected(alloc)?;
     assert_eq!(rt; session.client(), 1);
     session.begin(alloc)?;
-    session.update(&object, &Change::Inc { delta: 5 })?;
+    session.update(alloc, &object, &Change::Inc { delta: 5 })?;
     let miss = Refusal::NeedsFetch { object };
     assert_eq!(rt; session.read(alloc, &object), Err(miss));
     let (centre, fetch) = session.ask_fetch(&object)?;
@@ -92,7 +92,7 @@ fn a_commit_reaches_the_centre_and_comes_back(rt: HostRuntime) -> Result<(), Fai
     let object = counter("a")?;
     let mut session = connected(alloc)?;
     session.begin(alloc)?;
-    session.update(&object, &Change::Inc { delta: 5 })?;
+    session.update(alloc, &object, &Change::Inc { delta: 5 })?;
     session.commit()?;
     let Some((_, push)) = session.ask_commit()? else {
         return Err(Fail::from("no commit"));
@@ -115,5 +115,96 @@ fn a_commit_reaches_the_centre_and_comes_back(rt: HostRuntime) -> Result<(), Fai
     let facts = session.facts();
     assert_eq!(rt; (facts.vector, facts.mine, facts.pending), (vector, 1, 0));
     assert_eq!(rt; session.begin(alloc), Err(Refusal::ClockFull));
+    Ok(())
+}
+
+// The set of that name.
+fn set(name: &[u8]) -> Result<ObjectId, Fail> {
+    let sort = Sort::Set;
+    let name = Name::read(name)?;
+    Ok(ObjectId { sort, name })
+}
+
+// Lets a session have this state of an object.
+fn fetch(session: &mut Session, object: &ObjectId, state: State) -> Result<(), Fail> {
+    let (centre, ask) = session.ask_fetch(object)?;
+    session.hear(centre, &ask, &Say::Object { state })?;
+    Ok(())
+}
+
+#[test]
+fn a_remove_is_over_the_adds_that_it_sees(rt: HostRuntime) -> Result<(), Fail> {
+    let alloc = rt.alloc();
+    let object = set(b"s")?;
+    let word = Name::read(b"w")?;
+    let mut session = connected(alloc)?;
+    fetch(&mut session, &object, State::empty(alloc, object.sort)?)?;
+    session.begin(alloc)?;
+    session.update(alloc, &object, &Change::Add { word })?;
+    session.update(alloc, &object, &Change::Remove { word })?;
+    session.update(alloc, &object, &Change::Add { word })?;
+    session.commit()?;
+    let Some((_, Ask::Commit { tx })) = session.ask_commit()? else {
+        return Err(Fail::from("no commit"));
+    };
+    let updates = tx.updates.as_slice();
+    assert_eq!(rt; updates.len(), 3);
+    for (update, count) in updates.iter().zip([0, 1, 0]) {
+        assert_eq!(rt; update.op.tag_count(), count);
+    }
+    match session.read(alloc, &object)? {
+        Value::Words(words) => assert_eq!(rt; words.as_slice(), [word].as_slice()),
+        _ => assert!(rt; false, "no words"),
+    }
+    Ok(())
+}
+
+// A set with so many live adds of one word.
+fn crowded(alloc: Global, word: Name, count: u64) -> Result<State, Fail> {
+    let Ok(over) = Tags::of(Vec::new(alloc)) else {
+        return Err(Fail::from("no identifiers ascend"));
+    };
+    let add = Op::Add { word, over };
+    let mut state = State::empty(alloc, Sort::Set)?;
+    for number in 0..count {
+        let dot = Dot { client: 2, number };
+        let id = OpId { dot, place: 0 };
+        state.fold(&Mark { rank: 1, id }, &add)?;
+    }
+    Ok(state)
+}
+
+#[test]
+fn each_refusal_of_a_change_has_its_cause(rt: HostRuntime) -> Result<(), Fail> {
+    let alloc = rt.alloc();
+    let word = Name::read(b"w")?;
+    let (sum, many, absent) = (counter("a")?, set(b"s")?, set(b"t")?);
+    let mut session = connected(alloc)?;
+    fetch(&mut session, &many, crowded(alloc, word, 4_097)?)?;
+    let add = Change::Add { word };
+    let large = Change::Inc {
+        delta: 1_000_000_000_001,
+    };
+    assert_eq!(rt; session.update(alloc, &many, &large), Err(Refusal::NotOpen));
+    session.begin(alloc)?;
+    for (object, change, refusal) in [
+        (many, large, Refusal::WrongKind),
+        (sum, large, Refusal::DeltaTooLarge),
+        (absent, add, Refusal::NeedsFetch { object: absent }),
+        (many, add, Refusal::TooManyTags { count: 4_097 }),
+    ] {
+        assert_eq!(rt; session.update(alloc, &object, &change), Err(refusal));
+    }
+    for _turn in 0..256 {
+        session.update(alloc, &sum, &Change::Inc { delta: 1 })?;
+    }
+    let limit = 256;
+    assert_eq!(rt;
+        session.update(alloc, &many, &add),
+        Err(Refusal::TooManyUpdates { limit })
+    );
+    session.abort()?;
+    assert_eq!(rt; session.abort(), Err(Refusal::NotOpen));
+    assert_eq!(rt; session.facts().own, 0);
     Ok(())
 }

@@ -1,4 +1,6 @@
 // Scripts that are taken, and others.
+use dc_talk::{Change, StepWord};
+use ids_core::{Name, Sort};
 use script_text::{ClientStep, Input, ScriptFault, parse};
 use std::alloc::Global;
 use std::test::Fail;
@@ -55,7 +57,10 @@ fn a_whole_block_is_taken(rt: HostRuntime) -> Result<(), Fail> {
             ClientStep::Connect { centre },
             ClientStep::Begin,
             ClientStep::Read { object: read },
-            ClientStep::Inc { object, delta },
+            ClientStep::Change {
+                object,
+                change: Change::Inc { delta },
+            },
             ClientStep::Commit,
             ClientStep::Push,
             ClientStep::Refresh,
@@ -66,6 +71,103 @@ fn a_whole_block_is_taken(rt: HostRuntime) -> Result<(), Fail> {
             assert_eq!(rt; *delta, -5);
         }
         _ => assert!(rt; false, "other steps"),
+    }
+    Ok(())
+}
+
+// The kind of the object, the word of the change and the names that it has, as a line gives them.
+fn change_in(
+    alloc: Global,
+    line: &[u8],
+) -> Result<Option<(Sort, StepWord, Name, Option<Name>)>, Fail> {
+    let mut bytes = OPEN.to_vec(alloc)?;
+    bytes.extend_from_slice(line)?;
+    let script = parse(alloc, &Input::of(bytes))?;
+    match script.steps.as_slice() {
+        [_, _, ClientStep::Change { object, change }] => match *change {
+            Change::Inc { .. } => Ok(Some((object.sort, StepWord::Inc, object.name, None))),
+            Change::Write { word } => Ok(Some((object.sort, StepWord::Set, word, None))),
+            Change::Add { word } => Ok(Some((object.sort, StepWord::Add, word, None))),
+            Change::Remove { word } => Ok(Some((object.sort, StepWord::Del, word, None))),
+            Change::Put { key, word } => Ok(Some((object.sort, StepWord::Put, key, Some(word)))),
+            Change::Erase { key } => Ok(Some((object.sort, StepWord::Drop, key, None))),
+        },
+        _ => Ok(None),
+    }
+}
+
+#[test]
+fn changes_are_taken_as_they_stand(rt: HostRuntime) -> Result<(), Fail> {
+    let alloc = rt.alloc();
+    let w = Name::read(b"w_1")?;
+    let k = Name::read(b"k")?;
+    let long = Name::read(b"abcdefghijklmnopqrstuvwxyz_01234")?;
+    for (line, sort, word, name, second) in [
+        (
+            b"c1 inc c.w_1 7\n".as_slice(),
+            Sort::Counter,
+            StepWord::Inc,
+            w,
+            None,
+        ),
+        (b"c1 set r.a w_1", Sort::Register, StepWord::Set, w, None),
+        (b"c1 add s.a w_1", Sort::Set, StepWord::Add, w, None),
+        (b"c1 del s.a w_1", Sort::Set, StepWord::Del, w, None),
+        (b"c1 put m.a k w_1", Sort::Map, StepWord::Put, k, Some(w)),
+        (b"c1 put m.a w_1 k", Sort::Map, StepWord::Put, w, Some(k)),
+        (b"c1 drop m.a k", Sort::Map, StepWord::Drop, k, None),
+        (
+            b"c1 set r.a abcdefghijklmnopqrstuvwxyz_01234",
+            Sort::Register,
+            StepWord::Set,
+            long,
+            None,
+        ),
+    ] {
+        let got = change_in(alloc, line)?;
+        assert_eq!(rt; got, Some((sort, word, name, second)), "{line:?}");
+    }
+    Ok(())
+}
+
+#[test]
+fn reads_of_each_kind_are_taken(rt: HostRuntime) -> Result<(), Fail> {
+    let alloc = rt.alloc();
+    let reads = b"c1 read c.a\nc1 read r.a\nc1 read s.a\nc1 read m.a\n";
+    assert_eq!(rt; steps_of(alloc, OPEN, reads, INC)?, Ok(7));
+    Ok(())
+}
+
+#[test]
+fn other_changes_and_reads_are_refused(rt: HostRuntime) -> Result<(), Fail> {
+    let alloc = rt.alloc();
+    for line in [
+        b"c1 set c.a w\n".as_slice(),
+        b"c1 inc r.a 1\n",
+        b"c1 add r.a w\n",
+        b"c1 del m.a w\n",
+        b"c1 put s.a k w\n",
+        b"c1 drop s.a w\n",
+        b"c1 set r.a\n",
+        b"c1 put m.a k\n",
+        b"c1 put m.a k w v\n",
+        b"c1 drop m.a k w\n",
+        b"c1 set r.a  w\n",
+        b"c1 set  r.a w\n",
+        b"c1 add s.a w \n",
+        b"c1 put m.a  w\n",
+        b"c1 add s.a W\n",
+        b"c1 add s. w\n",
+        b"c1 add x.a w\n",
+        b"c1 add sa w\n",
+        b"c1 set r.a abcdefghijklmnopqrstuvwxyz_012345\n",
+        b"c1 erase m.a k\n",
+        b"c1 read m.a k\n",
+        b"c1 read a\n",
+        b"c2 add s.a w\n",
+    ] {
+        let got = steps_of(alloc, OPEN, line, CLOSE)?;
+        assert_eq!(rt; got, Err(ScriptFault::Refused), "{line:?}");
     }
     Ok(())
 }
@@ -142,7 +244,6 @@ fn other_lines_of_a_block_are_refused(rt: HostRuntime) -> Result<(), Fail> {
         b"c1 inc c.a\n",
         b"c1 inc c.A 1\n",
         b"c1 inc c. 1\n",
-        b"c1 inc s.a 1\n",
         b"c1 inc c.abcdefghijklmnopqrstuvwxyz_012345 1\n",
     ] {
         let got = steps_of(alloc, OPEN, line, CLOSE)?;

@@ -6,7 +6,7 @@ use print_text::{log_text, write_line};
 use std::alloc::Global;
 use std::process::Abort;
 use std::test::Fail;
-use tx_core::Value;
+use tx_core::{NamePairs, Names, Value};
 use vv_core::{Lack, Stamp, Vector};
 
 fn check_lines(rt: &impl Abort, alloc: Global, lines: &[(Line, &str)]) -> Result<(), NoMemory> {
@@ -98,6 +98,15 @@ fn lines_of_steps_on_objects(rt: HostRuntime) -> Result<(), Fail> {
             "c5 inc c.stock_7 many 256",
         ),
         (
+            Line::ManyTags {
+                client,
+                word,
+                object,
+                count: 4_097,
+            },
+            "c5 inc c.stock_7 tags 4097",
+        ),
+        (
             Line::Unconnected {
                 client,
                 word: read,
@@ -149,6 +158,69 @@ fn lines_of_steps_on_objects(rt: HostRuntime) -> Result<(), Fail> {
         ),
     ];
     check_lines(&rt, rt.alloc(), &lines)?;
+    Ok(())
+}
+
+#[test]
+fn lines_name_each_kind_and_word(rt: HostRuntime) -> Result<(), Fail> {
+    let name = Name::read(b"a")?;
+    for (sort, word, want) in [
+        (Sort::Counter, StepWord::Inc, "c1 inc c.a closed"),
+        (Sort::Register, StepWord::Set, "c1 set r.a closed"),
+        (Sort::Set, StepWord::Add, "c1 add s.a closed"),
+        (Sort::Set, StepWord::Del, "c1 del s.a closed"),
+        (Sort::Map, StepWord::Put, "c1 put m.a closed"),
+        (Sort::Map, StepWord::Drop, "c1 drop m.a closed"),
+        (Sort::Map, StepWord::Read, "c1 read m.a closed"),
+    ] {
+        let line = Line::Closed {
+            client: 1,
+            word,
+            object: ObjectId { sort, name },
+        };
+        check_lines(&rt, rt.alloc(), &[(line, want)])?;
+    }
+    Ok(())
+}
+
+#[test]
+fn values_of_each_kind(rt: HostRuntime) -> Result<(), Fail> {
+    let alloc = rt.alloc();
+    let a = Name::read(b"a")?;
+    let b = Name::read(b"b_2")?;
+    let one = Names::from_vec(vec![in alloc; a]?);
+    let two = Names::from_vec(vec![in alloc; a, b]?);
+    let pair = NamePairs::from_vec(vec![in alloc; (a, b)]?);
+    let pairs = NamePairs::from_vec(vec![in alloc; (a, b), (b, b)]?);
+    for (sort, value, want) in [
+        (Sort::Register, Value::Word(None), "c1 read r.a -"),
+        (Sort::Register, Value::Word(Some(b)), "c1 read r.a b_2"),
+        (
+            Sort::Set,
+            Value::Words(Names::from_vec(Vec::new(alloc))),
+            "c1 read s.a {}",
+        ),
+        (Sort::Set, Value::Words(one), "c1 read s.a {a}"),
+        (Sort::Set, Value::Words(two), "c1 read s.a {a b_2}"),
+        (
+            Sort::Map,
+            Value::Pairs(NamePairs::from_vec(Vec::new(alloc))),
+            "c1 read m.a {}",
+        ),
+        (Sort::Map, Value::Pairs(pair), "c1 read m.a {a=b_2}"),
+        (
+            Sort::Map,
+            Value::Pairs(pairs),
+            "c1 read m.a {a=b_2 b_2=b_2}",
+        ),
+    ] {
+        let line = Line::ReadValue {
+            client: 1,
+            object: ObjectId { sort, name: a },
+            value,
+        };
+        check_lines(&rt, alloc, &[(line, want)])?;
+    }
     Ok(())
 }
 

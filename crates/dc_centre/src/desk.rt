@@ -18,8 +18,13 @@ pub struct Desk {
 
 impl Model for Desk {
     ghost use Rattle.dc_centre.specs.Desk.{Keeps, IsDesk};
+    ghost use Rattle.std.specs.Coded.{codes};
+    ghost use Rattle.obj_set.specs.Sets.{set_code};
+    ghost use Rattle.obj_map.specs.Maps.{map_code};
 
     ghost Value = { Keeps };
+
+    ghost coded = { Prim.hlevel (codes, set_code, map_code) };
 
     ghost view = { λ d. record { me = d.centre.me; n = d.centre.n; k = d.centre.k; limit = d.centre.limit; entries = d.trail.entries } };
 

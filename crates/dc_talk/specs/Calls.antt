@@ -1,18 +1,23 @@
 -- How each call of a session ends, and what it changes.
-use Rattle.std.specs.Prelude.{◌≡◌, ℕ, ◌+◌, ◌^◌, not, cond, nat_le, length, List, [], ◌∷◌, ◌++◌, Option, Some, None, is_some, is_none}
+use Rattle.std.specs.Prelude.{◌≡◌, ℕ, ◌+◌, ◌^◌, Bool, true, not, cond, nat_le, nat_lt, unsigned_abs, length, List, [], ◌∷◌, ◌++◌, Option, Some, None, is_some, is_none}
+use Rattle.std.specs.Option.{option_map}
 use Rattle.list_core.specs.Choices.{when, first_of}
+use Rattle.ids_core.specs.declared.ids.OpId.{OpId}
 use Rattle.ids_core.specs.declared.object.ObjectId.{ObjectId}
+use Rattle.ids_core.specs.declared.object.Sort.{Sort}
+use Rattle.ids_core.specs.declared.object.Sort.TheVariants as sort
+use Rattle.ids_core.specs.Ids.{same_sort}
 use Rattle.tx_core.specs.declared.op.Op.{Op}
-use Rattle.tx_core.specs.declared.op.Op.TheVariants.{Inc as IncOp}
+use Rattle.tx_core.specs.declared.op.Op.TheVariants.{Inc as IncOp, Write as WriteOp, Add as AddOp, Remove as RemoveOp, Put as PutOp, Erase as EraseOp}
 use Rattle.tx_core.specs.declared.tx.Update.{Update}
 use Rattle.tx_core.specs.declared.state.State.{State}
-use Rattle.tx_core.specs.Checks.{is_small}
-use Rattle.tx_core.specs.States.{value_of}
+use Rattle.tx_core.specs.States.{value_of, tags_of}
 use Rattle.dc_talk.specs.declared.session.Change.{Change}
-use Rattle.dc_talk.specs.declared.session.Change.TheVariants.{Inc}
+use Rattle.dc_talk.specs.declared.session.Change.TheVariants.{Inc, Write, Add, Remove, Put, Erase}
 use Rattle.dc_talk.specs.declared.session.Call.{Call}
-use Rattle.dc_talk.specs.declared.session.Call.TheVariants.{Begin, Change as ChangeCall, Read, Commit}
-use Rattle.dc_talk.specs.declared.session.Refusal.TheVariants.{AlreadyOpen, ClockFull, NotOpen, DeltaTooLarge, TooManyUpdates, NeedsFetch, PendingFull}
+use Rattle.dc_talk.specs.declared.session.Call.TheVariants.{Begin, Change as ChangeCall, Read, Commit, Abort}
+use Rattle.dc_talk.specs.declared.session.Refusal.TheVariants.{AlreadyOpen, ClockFull, NotOpen, WrongKind, DeltaTooLarge, TooManyUpdates, NeedsFetch, TooManyTags, PendingFull}
+use Rattle.dc_talk.specs.declared.session.Cached.{Cached}
 use Rattle.dc_talk.specs.declared.session.Outcome.{Outcome}
 use Rattle.dc_talk.specs.declared.session.Outcome.TheVariants.{Fine, Got, Number, Nothing, Refused}
 use Rattle.dc_talk.specs.Clients.{Client, next_tx, cached, promoted, draft_updates, view}
@@ -33,17 +38,73 @@ most_pending = 1024
 abbrev pub begin_outcome : Client → Outcome
 begin_outcome s = first_of (when (is_some s.draft) (Refused AlreadyOpen) ∷ when (nat_le most_rank s.clock) (Refused ClockFull) ∷ []) Fine
 
--- the operation of a change
-abbrev pub op_of : Change → Op
-op_of (Inc delta) = IncOp delta
+-- the most live identifiers that a change may be over
+abbrev pub most_tags : ℕ
+most_tags = 4096
+
+-- the kind of objects that a change is of
+abbrev pub kind_of : Change → Sort
+kind_of (Inc delta) = sort.Counter
+kind_of (Write word) = sort.Register
+kind_of (Add word) = sort.Set
+kind_of (Remove word) = sort.Set
+kind_of (Put key word) = sort.Map
+kind_of (Erase key) = sort.Map
+
+-- the word or key whose live identifiers a change is over, where it has one
+abbrev pub named : Change → Option (List ℕ)
+named (Inc delta) = None
+named (Write word) = None
+named (Add word) = Some word
+named (Remove word) = Some word
+named (Put key word) = Some key
+named (Erase key) = Some key
+
+-- the operation of a change that is over these identifiers
+abbrev pub op_of : Change → List OpId → Op
+op_of (Inc delta) over = IncOp delta
+op_of (Write word) over = WriteOp word
+op_of (Add word) over = AddOp word over
+op_of (Remove word) over = RemoveOp word over
+op_of (Put key word) over = PutOp key word over
+op_of (Erase key) over = EraseOp key over
+
+-- the delta of a change lies in ±10^12
+abbrev pub is_modest : Change → Bool
+is_modest (Inc delta) = nat_le (unsigned_abs delta) 1000000000000
+is_modest _ = true
+
+-- what the client has of an object, where its cache has the state at the snapshot
+abbrev pub viewed : Client → ObjectId → Option State
+viewed s o = option_map (view s o) (cached o s.vector s.cache)
+
+-- the identifiers of the word or key that are live in what the client has of the object
+abbrev pub tags_in : Option (List ℕ) → Option State → List OpId
+tags_in (Some name) (Some state) = tags_of state name
+tags_in _ _ = []
+
+-- the identifiers that a change of the object is over
+abbrev pub over : Client → ObjectId → Change → List OpId
+over s o change = tags_in (named change) (viewed s o)
+
+-- how a change ends that has to know what the client has of the object
+abbrev pub look_up_outcome : ObjectId → Option (List ℕ) → Option State → Outcome
+look_up_outcome o None state = Fine
+look_up_outcome o (Some name) None = Refused (NeedsFetch o)
+look_up_outcome o (Some name) (Some state) = cond (nat_lt most_tags (length (tags_of state name))) (Refused (TooManyTags (length (tags_of state name)))) Fine
 
 -- how a change ends
-abbrev pub change_outcome : Client → Change → Outcome
-change_outcome s change = first_of (
+abbrev pub change_outcome : Client → ObjectId → Change → Outcome
+change_outcome s o change = first_of (
     when (is_none s.draft) (Refused NotOpen)
-    ∷ when (not (is_small (op_of change))) (Refused DeltaTooLarge)
+    ∷ when (not (same_sort (kind_of change) o.sort)) (Refused WrongKind)
+    ∷ when (not (is_modest change)) (Refused DeltaTooLarge)
     ∷ when (nat_le most_updates (length (draft_updates s))) (Refused (TooManyUpdates most_updates))
-    ∷ []) Fine
+    ∷ []) (look_up_outcome o (named change) (viewed s o))
+
+-- the cache after a change, which looks its object up where it has to know its state
+abbrev pub looked_up : Client → ObjectId → Change → List Cached
+looked_up s o change = cond (is_some (named change)) (promoted o s.vector s.cache) s.cache
 
 -- how a read ends, where the cache has this of the object
 abbrev pub read_outcome : Client → ObjectId → Option State → Outcome
@@ -56,12 +117,17 @@ commit_outcome s None = Refused NotOpen
 commit_outcome s (Some []) = Nothing
 commit_outcome s (Some (u ∷ us)) = cond (nat_le most_pending (length s.pending)) (Refused (PendingFull most_pending)) (Number (s.own + 1))
 
+-- how an abort ends
+abbrev pub abort_outcome : Client → Outcome
+abort_outcome s = first_of (when (is_none s.draft) (Refused NotOpen) ∷ []) Fine
+
 -- how a call ends
 abbrev pub outcome_of : Client → Call → Outcome
 outcome_of s Begin = begin_outcome s
-outcome_of s (ChangeCall o change) = change_outcome s change
+outcome_of s (ChangeCall o change) = change_outcome s o change
 outcome_of s (Read o) = read_outcome s o (cached o s.vector s.cache)
 outcome_of s Commit = commit_outcome s s.draft
+outcome_of s Abort = abort_outcome s
 
 -- the client after a commit that got its number
 abbrev pub committed : Client → Client
@@ -70,10 +136,12 @@ committed s = record s { own = s.own + 1; clock = s.clock + 1; pending = s.pendi
 -- the client after a call that ended so
 abbrev pub did : Client → Call → Outcome → Client
 did s Begin Fine = record s { draft = Some [] }
-did s (ChangeCall o change) Fine = record s { draft = Some (draft_updates s ++ record { object = o; op = op_of change } ∷ []) }
+did s (ChangeCall o change) Fine = record s { draft = Some (draft_updates s ++ record { object = o; op = op_of change (over s o change) } ∷ []); cache = looked_up s o change }
+did s (ChangeCall o change) (Refused (TooManyTags count)) = record s { cache = looked_up s o change }
 did s (Read o) (Got value) = record s { cache = promoted o s.vector s.cache }
 did s Commit (Number number) = committed s
 did s Commit Nothing = record s { draft = None }
+did s Abort Fine = record s { draft = None }
 did s _ _ = s
 
 -- a call that ends so, with the client before and after it

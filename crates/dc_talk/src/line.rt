@@ -15,6 +15,16 @@ pub enum Miss {
 pub enum StepWord {
     /// Adds to a counter.
     Inc,
+    /// Writes a register.
+    Set,
+    /// Adds a word to a set.
+    Add,
+    /// Removes a word from a set.
+    Del,
+    /// Puts a word under a key of a map.
+    Put,
+    /// Erases a key of a map.
+    Drop,
     /// Reads an object.
     Read,
 }
@@ -75,6 +85,13 @@ pub enum Line {
         client: u32,
         word: StepWord,
         object: ObjectId,
+    },
+    /// A change was refused: the client sees so many live adds of the word, or puts under the key.
+    ManyTags {
+        client: u32,
+        word: StepWord,
+        object: ObjectId,
+        count: u64,
     },
     /// A fetch was needed, and the client is connected to no centre.
     Unconnected {

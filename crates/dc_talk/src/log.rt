@@ -54,8 +54,13 @@ pub struct Log {
 impl Model for Log {
     ghost use Rattle.std.specs.Prelude.{◌-◌, vec_len, vec_capacity};
     ghost use Rattle.dc_talk.specs.Logs.{Logged};
+    ghost use Rattle.std.specs.Coded.{codes};
+    ghost use Rattle.obj_set.specs.Sets.{set_code};
+    ghost use Rattle.obj_map.specs.Maps.{map_code};
 
     ghost Value = { Logged };
+
+    ghost coded = { Prim.hlevel (codes, set_code, map_code) };
 
     ghost view = { λ l. record { actor = l.actor; section = l.section; step = l.step; notes = l.notes.items } };
 }

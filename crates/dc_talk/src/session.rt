@@ -1,5 +1,5 @@
 // What a client does at its session, how that ends, and parts of what a session keeps.
-use ids_core::ObjectId;
+use ids_core::{Name, ObjectId};
 use tx_core::{State, Value};
 use vv_core::Vector;
 
@@ -8,6 +8,16 @@ use vv_core::Vector;
 pub enum Change {
     /// Adds to a counter. Deltas are from -10^12 to 10^12.
     Inc { delta: i64 },
+    /// Writes a register.
+    Write { word: Name },
+    /// Adds a word to a set.
+    Add { word: Name },
+    /// Removes a word from a set, with all adds of it that the client sees.
+    Remove { word: Name },
+    /// Puts a word under a key of a map.
+    Put { key: Name, word: Name },
+    /// Erases a key of a map, with all puts under it that the client sees.
+    Erase { key: Name },
 }
 
 /// One call of a session.
@@ -21,9 +31,12 @@ pub enum Call {
     Read { object: ObjectId },
     /// Commits the open transaction.
     Commit,
+    /// Ends the open transaction; its updates are gone.
+    Abort,
 }
 
-/// Why a session refuses a call. After each of them the session is as it was.
+/// Why a session refuses a call. After each of them the session is as it was, but that a call that
+/// looked the object up has made its entry the first of the cache.
 #[derive(Clone, Copy, Debug, PartialEq, Eq)]
 pub enum Refusal {
     /// A transaction is open.
@@ -32,12 +45,16 @@ pub enum Refusal {
     ClockFull,
     /// No transaction is open.
     NotOpen,
+    /// The change is of another kind than the object.
+    WrongKind,
     /// The delta is outside -10^12 to 10^12.
     DeltaTooLarge,
     /// The open transaction has `limit` updates, the most there may be.
     TooManyUpdates { limit: u64 },
-    /// The object is not in the cache at the session's snapshot.
+    /// The object is not in the cache at the session's snapshot, and the call has to know its state.
     NeedsFetch { object: ObjectId },
+    /// The client sees `count` live adds of the word, or puts under the key, and more than 4,096.
+    TooManyTags { count: u64 },
     /// So many commits are pending, the most there may be.
     PendingFull { limit: u64 },
     /// No centre is connected.

@@ -8,7 +8,7 @@ use Rattle.std.proofs.lemmas.Bool.{cases_Bool, and_parts, and_from, false≢true
 use Rattle.std.proofs.lemmas.Bool.Decides.{Decides-eqb}
 use Rattle.ids_core.specs.declared.ids.Dot.{Dot}
 use Rattle.ids_core.specs.declared.object.Sort.{Sort}
-use Rattle.ids_core.specs.declared.object.Sort.TheVariants.{Counter}
+use Rattle.ids_core.specs.declared.object.Sort.TheVariants.{Counter, Register, Set, Map}
 use Rattle.ids_core.specs.declared.object.ObjectId.{ObjectId}
 use Rattle.ids_core.specs.Ids.{same_dot, same_sort, same_object}
 
@@ -41,9 +41,16 @@ same_dot-same a b h = and_from (a.client == b.client) (a.number == b.number) ((D
 
 pub same_sort-true : (a b : Sort) → same_sort a b ≡ true → a ≡ b
 same_sort-true Counter Counter h = refl
+same_sort-true Register Register h = refl
+same_sort-true Set Set h = refl
+same_sort-true Map Map h = refl
+same_sort-true _ _ h = cc
 
 pub same_sort-itself : (a : Sort) → same_sort a a ≡ true
 same_sort-itself Counter = refl
+same_sort-itself Register = refl
+same_sort-itself Set = refl
+same_sort-itself Map = refl
 
 pub same_object-true : (a b : ObjectId) → same_object a b ≡ true → a ≡ b
 same_object-true a b h =

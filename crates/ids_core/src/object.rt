@@ -6,6 +6,12 @@ use crate::name::Name;
 pub enum Sort {
     /// A sum of deltas.
     Counter,
+    /// The word that was written last.
+    Register,
+    /// Words, of which an add wins over a remove that has not seen it.
+    Set,
+    /// Keys with a word each, of which a put wins over an erase that has not seen it.
+    Map,
 }
 
 /// An object: its kind and its name.

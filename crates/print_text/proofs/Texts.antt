@@ -1,34 +1,38 @@
--- The text of a vector, and the text of logs of which one alone tells lines.
-use Rattle.std.specs.Prelude.{◌≡◌, ℕ, ◌+◌, ◌≤◌, ◌<◌, ◌==◌, cond, true, false, zero, suc, List, [], ◌∷◌, ◌++◌, All, map, flat_map, decimal, refl}
-use Rattle.std.specs.List.{range_with_len}
+-- Texts with a byte between them, and the text of logs of which one alone tells lines.
+use Rattle.std.specs.Prelude.{◌≡◌, ℕ, ◌+◌, ◌≤◌, ◌<◌, ◌==◌, cond, true, false, zero, suc, List, [], ◌∷◌, ◌++◌, All, map, flat_map, refl}
+use Rattle.std.specs.List.{join_with_byte, range_with_len}
 use Rattle.std.proofs.Common.{ap, sym, ◌∙◌, inl, inr, arith, append-nil, append_assoc, take_all, subst, length, get_or, take, drop, ◌-◌}
 use Rattle.std.proofs.lemmas.Bool.{cases_Bool}
 use Rattle.std.proofs.lemmas.Grind.{flat_map-append}
+use Rattle.std.proofs.lemmas.List.{map-id}
 use Rattle.std.proofs.lemmas.List.Elements.{All-head, All-tail, All-nil}
 use Rattle.vv_core.specs.Vectors.{most}
-use Rattle.dc_talk.specs.declared.log.Deed.{Deed}
 use Rattle.dc_talk.specs.declared.log.Note.{Note}
 use Rattle.dc_talk.specs.Logs.{Logged, Ascend}
-use Rattle.print_text.specs.Text.{vector_text, later_text, told_text, notes_text, notes_in, section_text, last_section, text_of, IsSilent}
+use Rattle.print_text.specs.Text.{later, told_text, notes_text, notes_in, section_text, last_section, text_of, IsSilent}
 
--- a vector is its first entry and the later ones, each behind a comma
-vector_parts : (first : ℕ) (rest : List ℕ) → vector_text (first ∷ rest) ≡ decimal first ++ flat_map later_text rest
-vector_parts first [] = sym (append-nil (decimal first))
-vector_parts first (second ∷ rest) = ap (λ later. decimal first ++ 44 ∷ later) (vector_parts second rest)
+-- texts with a byte between them are the first one and the later ones, each behind the byte
+joined_parts : (byte : ℕ) (first : List ℕ) (rest : List (List ℕ)) → join_with_byte byte (first ∷ rest) ≡ first ++ later byte rest
+joined_parts byte first [] = sym (append-nil first)
+joined_parts byte first (second ∷ rest) = ap (λ texts. first ++ byte ∷ texts) (joined_parts byte second rest)
 
-vector_first : (vector : List ℕ) → 1 ≤ length vector → decimal (get_or vector 0 0) ++ flat_map later_text (take (length vector - 1) (drop 1 vector)) ≡ vector_text vector
-vector_first [] some = absurd (omega arith)
-vector_first (first ∷ rest) some =
-    let all : take (length (first ∷ rest) - 1) rest ≡ rest = take_all (length (first ∷ rest) - 1) rest (omega arith) in
-    ap (λ later. decimal first ++ flat_map later_text later) all ∙ sym (vector_parts first rest)
+-- what is written is the first of the texts and then the later ones: so it is all of them, with the
+-- byte between them
+pub joined_written : {T : Type 0} (byte : ℕ) (form : T → List ℕ) (other : T) (old mid new : List ℕ) (items : List T) → 1 ≤ length items → mid ≡ old ++ form (get_or items 0 other) → new ≡ mid ++ later byte (map form (take (length items - 1) (drop 1 items))) → new ≡ old ++ join_with_byte byte (map form items)
+joined_written byte form other old mid new [] some first rest = absurd (omega arith)
+joined_written byte form other old mid new (item ∷ items) some first rest =
+    let all : take (length (item ∷ items) - 1) items ≡ items = take_all (length (item ∷ items) - 1) items (omega arith) in
+    rest
+    ∙ ap (λ left. mid ++ later byte (map form left)) all
+    ∙ ap (λ written. written ++ later byte (map form items)) first
+    ∙ append_assoc old (form item) _
+    ∙ ap (λ written. old ++ written) (sym (joined_parts byte (form item) (map form items)))
 
--- a text behind which the first entry and then the later ones are written
-pub vector_written : (old mid new vector : List ℕ) → 1 ≤ length vector → mid ≡ old ++ decimal (get_or vector 0 0) → new ≡ mid ++ flat_map later_text (take (length vector - 1) (drop 1 vector)) → new ≡ old ++ vector_text vector
-vector_written old mid new vector some first later =
-    later
-    ∙ ap (λ written. written ++ flat_map later_text (take (length vector - 1) (drop 1 vector))) first
-    ∙ append_assoc old (decimal (get_or vector 0 0)) _
-    ∙ ap (λ written. old ++ written) (vector_first vector some)
+-- the same of texts that are written as they stand
+pub words_written : (byte : ℕ) (other old mid new : List ℕ) (words : List (List ℕ)) → 1 ≤ length words → mid ≡ old ++ get_or words 0 other → new ≡ mid ++ later byte (take (length words - 1) (drop 1 words)) → new ≡ old ++ join_with_byte byte words
+words_written byte other old mid new words some first rest =
+    joined_written byte (λ word. word) other old mid new words some first (rest ∙ ap (λ left. mid ++ later byte left) (sym (map-id (take (length words - 1) (drop 1 words)))))
+    ∙ ap (λ texts. old ++ join_with_byte byte texts) (map-id words)
 
 -- the sections are within the greatest of them
 ascend_most : (first last higher : ℕ) (notes : List Note) → most (map (λ note. note.section) notes) ≤ higher → Ascend first last notes → Ascend first higher notes

@@ -1,7 +1,7 @@
 -- The forms of lines by the step that they are of.
 use Rattle.std.specs.Prelude.{Bool, true, false}
 use Rattle.dc_talk.specs.declared.line.Line.{Line}
-use Rattle.dc_talk.specs.declared.line.Line.TheVariants.{At, Refused, ConnectMissed, BeginOpen, BeginClock, Closed, ManyUpdates, Unconnected, FetchMissed, FetchLacks, FetchIgnored, ReadValue, CommitNumber, CommitNone, CommitClosed, CommitPending, PushUnconnected, PushNone, Push, Sees, RefreshUnconnected, RefreshOpen, RefreshLacks, RefreshMissed, RefreshIgnored}
+use Rattle.dc_talk.specs.declared.line.Line.TheVariants.{At, Refused, ConnectMissed, BeginOpen, BeginClock, Closed, ManyUpdates, ManyTags, Unconnected, FetchMissed, FetchLacks, FetchIgnored, ReadValue, CommitNumber, CommitNone, CommitClosed, CommitPending, PushUnconnected, PushNone, Push, Sees, RefreshUnconnected, RefreshOpen, RefreshLacks, RefreshMissed, RefreshIgnored}
 
 -- of a connect
 abbrev pub is_of_connect : Line → Bool
@@ -24,6 +24,7 @@ is_of_transaction _ = false
 abbrev pub is_of_call : Line → Bool
 is_of_call (Closed client word object) = true
 is_of_call (ManyUpdates client word object) = true
+is_of_call (ManyTags client word object count) = true
 is_of_call (ReadValue client object value) = true
 is_of_call _ = false
 

@@ -1,23 +1,23 @@
 -- The text of a book.
-use Rattle.std.specs.Prelude.{◌≡◌, ℕ, ◌==◌, ◌≤◌, List, [], ◌∷◌, ◌++◌, map, filter, flat_map, codes, decimal}
+use Rattle.std.specs.Prelude.{◌≡◌, ℕ, ◌==◌, List, [], ◌∷◌, ◌++◌, Option, Some, None, map, filter, flat_map, codes, decimal}
 use Rattle.std.specs.List.{join_with_byte, range_with_len}
 use Rattle.std.specs.Fmt.{signed_decimal}
 use Rattle.ids_core.specs.declared.object.ObjectId.{ObjectId}
 use Rattle.ids_core.specs.declared.object.Sort.{Sort}
-use Rattle.ids_core.specs.declared.object.Sort.TheVariants.{Counter}
+use Rattle.ids_core.specs.declared.object.Sort.TheVariants.{Counter, Register, Set as SetSort, Map}
 use Rattle.vv_core.specs.declared.stamp.Lack.{Lack}
 use Rattle.vv_core.specs.declared.stamp.Stamp.{Stamp}
 use Rattle.vv_core.specs.Vectors.{most}
 use Rattle.tx_core.specs.declared.state.Value.{Value}
-use Rattle.tx_core.specs.declared.state.Value.TheVariants.{Number}
+use Rattle.tx_core.specs.declared.state.Value.TheVariants.{Number, Word, Words, Pairs}
 use Rattle.dc_talk.specs.declared.line.Line.{Line}
-use Rattle.dc_talk.specs.declared.line.Line.TheVariants.{At, Refused, ConnectMissed, BeginOpen, BeginClock, Closed, ManyUpdates, Unconnected, FetchMissed, FetchLacks, FetchIgnored, ReadValue, CommitNumber, CommitNone, CommitClosed, CommitPending, PushUnconnected, PushNone, Push, Sees, RefreshUnconnected, RefreshOpen, RefreshLacks, RefreshMissed, RefreshIgnored}
+use Rattle.dc_talk.specs.declared.line.Line.TheVariants.{At, Refused, ConnectMissed, BeginOpen, BeginClock, Closed, ManyUpdates, ManyTags, Unconnected, FetchMissed, FetchLacks, FetchIgnored, ReadValue, CommitNumber, CommitNone, CommitClosed, CommitPending, PushUnconnected, PushNone, Push, Sees, RefreshUnconnected, RefreshOpen, RefreshLacks, RefreshMissed, RefreshIgnored}
 use Rattle.dc_talk.specs.declared.line.Miss.{Miss}
 use Rattle.dc_talk.specs.declared.line.Miss.TheVariants.{Misfit}
 use Rattle.dc_talk.specs.declared.line.PushEnd.{PushEnd}
 use Rattle.dc_talk.specs.declared.line.PushEnd.TheVariants.{Stamped, Known, Full, Order, Lacks, Missed}
 use Rattle.dc_talk.specs.declared.line.StepWord.{StepWord}
-use Rattle.dc_talk.specs.declared.line.StepWord.TheVariants.{Inc, Read}
+use Rattle.dc_talk.specs.declared.line.StepWord.TheVariants.{Inc, Set, Add, Del, Put, Drop, Read}
 use Rattle.dc_talk.specs.declared.log.Deed.{Deed}
 use Rattle.dc_talk.specs.declared.log.Deed.TheVariants.{Told}
 use Rattle.dc_talk.specs.declared.log.Note.{Note}
@@ -31,9 +31,9 @@ client_text client = codes "c" ++ decimal client
 abbrev pub vector_text : List ℕ → List ℕ
 vector_text vector = join_with_byte 44 (map decimal vector)
 
--- an entry of a vector behind the first one
-abbrev pub later_text : ℕ → List ℕ
-later_text entry = codes "," ++ decimal entry
+-- texts behind a first one, each behind this byte
+abbrev pub later : ℕ → List (List ℕ) → List ℕ
+later byte texts = flat_map (λ text. byte ∷ text) texts
 
 -- a stamp: the centre and the number, with a colon between them
 abbrev pub stamp_text : Stamp → List ℕ
@@ -42,14 +42,34 @@ stamp_text stamp = decimal stamp.centre ++ codes ":" ++ decimal stamp.seq
 -- the letter of a kind of objects
 abbrev pub sort_text : Sort → List ℕ
 sort_text Counter = codes "c"
+sort_text Register = codes "r"
+sort_text SetSort = codes "s"
+sort_text Map = codes "m"
 
 -- an object: the letter of its kind, a full stop and its name
 abbrev pub object_text : ObjectId → List ℕ
 object_text object = sort_text object.sort ++ codes "." ++ object.name
 
--- the value of a counter: a decimal number, with `-` where it is negative
+-- a word of a register, and `-` where none was written
+abbrev pub word_or_none : Option (List ℕ) → List ℕ
+word_or_none None = codes "-"
+word_or_none (Some word) = word
+
+-- words in braces, with one space between them
+abbrev pub braced : List (List ℕ) → List ℕ
+braced words = codes "{" ++ join_with_byte 32 words ++ codes "}"
+
+-- a key of a map and its word: `key=word`
+abbrev pub pair_text : (List ℕ × List ℕ) → List ℕ
+pair_text pair = pair.0 ++ codes "=" ++ pair.1
+
+-- a value: the sum of a counter, with `-` where it is negative; the word of a register; the words of a
+-- set; the keys of a map with their words
 abbrev pub value_text : Value → List ℕ
 value_text (Number sum) = signed_decimal sum
+value_text (Word word) = word_or_none word
+value_text (Words words) = braced words
+value_text (Pairs pairs) = braced (map pair_text pairs)
 
 -- what is lacked: the entry that is needed and the one that is there
 abbrev pub lack_text : Lack → List ℕ
@@ -62,6 +82,11 @@ miss_text Misfit = codes "misfit"
 -- the word of a step on an object
 abbrev pub word_text : StepWord → List ℕ
 word_text Inc = codes "inc"
+word_text Set = codes "set"
+word_text Add = codes "add"
+word_text Del = codes "del"
+word_text Put = codes "put"
+word_text Drop = codes "drop"
 word_text Read = codes "read"
 
 -- a client's step on an object
@@ -86,6 +111,7 @@ line_text (BeginOpen client) = client_text client ++ codes " begin open"
 line_text (BeginClock client) = client_text client ++ codes " begin clock"
 line_text (Closed client word object) = step_text client word object ++ codes " closed"
 line_text (ManyUpdates client word object) = step_text client word object ++ codes " many 256"
+line_text (ManyTags client word object count) = step_text client word object ++ codes " tags " ++ decimal count
 line_text (Unconnected client word object) = step_text client word object ++ codes " unconnected"
 line_text (FetchMissed client word object miss) = step_text client word object ++ codes " " ++ miss_text miss
 line_text (FetchLacks client word object lack) = step_text client word object ++ codes " " ++ lack_text lack

@@ -2,5 +2,6 @@
 #![tactic(auto)]
 
 mod text;
+mod value;
 
 pub use text::{log_text, write_deed, write_line};

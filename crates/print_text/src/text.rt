@@ -1,13 +1,13 @@
 // The lines of a log as bytes.
-ghost use Rattle.std.specs.Prelude.{◌≡◌, ◌++◌, IfOk, OnOk, IsTrue, codes, decimal, flat_map};
-ghost use Rattle.print_text.specs.Text.{client_text, end_text, lack_text, later_text, line_text, miss_text, notes_text, object_text, stamp_text, step_text, told_text, value_text, vector_text};
+ghost use Rattle.std.specs.Prelude.{◌≡◌, ◌++◌, IfOk, OnOk, IsTrue, codes, decimal, map};
+ghost use Rattle.print_text.specs.Text.{client_text, end_text, lack_text, later, line_text, miss_text, notes_text, object_text, stamp_text, step_text, told_text, vector_text};
 ghost use Rattle.print_text.specs.Forms.{is_of_call, is_of_connect, is_of_fetch, is_of_push, is_of_refresh, is_of_transaction};
 
+use crate::value::write_value;
 use dc_talk::{Deed, Line, Log, Miss, PushEnd, StepWord};
 use ids_core::{NoMemory, ObjectId, Sort};
 use itoa::Buffer;
 use std::alloc::Global;
-use tx_core::Value;
 use vv_core::{Lack, Stamp, Vector};
 
 /// The lines that a log tells, in their order, each with its line feed.
@@ -47,9 +47,10 @@ pub fn write_line(text: &mut Vec<u8>, line: &Line) -> Result<(), NoMemory>
         | Line::CommitNone { .. }
         | Line::CommitClosed { .. }
         | Line::CommitPending { .. } => write_transaction(text, line),
-        Line::Closed { .. } | Line::ManyUpdates { .. } | Line::ReadValue { .. } => {
-            write_call(text, line)
-        }
+        Line::Closed { .. }
+        | Line::ManyUpdates { .. }
+        | Line::ManyTags { .. }
+        | Line::ReadValue { .. } => write_call(text, line),
         Line::Unconnected { .. }
         | Line::FetchMissed { .. }
         | Line::FetchLacks { .. }
@@ -128,6 +129,15 @@ fn write_call(text: &mut Vec<u8>, line: &Line) -> Result<(), NoMemory>
             word,
             object,
         } => write_step(text, *client, *word, object, b" many 256"),
+        Line::ManyTags {
+            client,
+            word,
+            object,
+            count,
+        } => {
+            write_step(text, *client, *word, object, b" tags ")?;
+            write_number(text, *count)
+        }
         Line::ReadValue {
             client,
             object,
@@ -264,6 +274,11 @@ fn write_step(
 {
     match word {
         StepWord::Inc => write_words(text, client, b" inc ")?,
+        StepWord::Set => write_words(text, client, b" set ")?,
+        StepWord::Add => write_words(text, client, b" add ")?,
+        StepWord::Del => write_words(text, client, b" del ")?,
+        StepWord::Put => write_words(text, client, b" put ")?,
+        StepWord::Drop => write_words(text, client, b" drop ")?,
         StepWord::Read => write_words(text, client, b" read ")?,
     }
     write_object(text, object)?;
@@ -276,20 +291,11 @@ fn write_object(text: &mut Vec<u8>, object: &ObjectId) -> Result<(), NoMemory>
 {
     match object.sort {
         Sort::Counter => text.extend_from_slice(b"c.")?,
+        Sort::Register => text.extend_from_slice(b"r.")?,
+        Sort::Set => text.extend_from_slice(b"s.")?,
+        Sort::Map => text.extend_from_slice(b"m.")?,
     }
     text.extend_from_slice(object.name.as_slice())?;
-    Ok(())
-}
-
-fn write_value(text: &mut Vec<u8>, value: &Value) -> Result<(), NoMemory>
-    ensures { OnOk result (text.new.items ≡ text.old.items ++ value_text value.now) }
-{
-    match value {
-        Value::Number(sum) => {
-            let mut buffer = Buffer::new();
-            text.extend_from_slice(buffer.format(*sum).as_bytes())?;
-        }
-    }
     Ok(())
 }
 
@@ -305,7 +311,7 @@ fn write_vector(text: &mut Vec<u8>, vector: &Vector) -> Result<(), NoMemory>
 
 // Entries behind a first one.
 fn write_later(text: &mut Vec<u8>, entries: &[u64]) -> Result<(), NoMemory>
-    ensures { OnOk result (text.new.items ≡ text.old.items ++ flat_map later_text entries.now) }
+    ensures { OnOk result (text.new.items ≡ text.old.items ++ later 44 (map decimal entries.now)) }
 {
     for entry in entries {
         write_named(text, b",", *entry)?;

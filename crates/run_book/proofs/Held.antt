@@ -15,9 +15,10 @@ use Rattle.dc_talk.specs.declared.say.Say.{Say}
 use Rattle.dc_talk.specs.declared.say.Say.TheVariants.{Welcome, Snap, Object, Known, Stamped}
 use Rattle.dc_talk.specs.declared.session.Change.{Change}
 use Rattle.dc_talk.specs.declared.session.Call.{Call}
-use Rattle.dc_talk.specs.declared.session.Call.TheVariants.{Begin, Change as ChangeCall, Read, Commit}
+use Rattle.dc_talk.specs.declared.session.Call.TheVariants.{Begin, Change as ChangeCall, Read, Commit, Abort}
 use Rattle.dc_talk.specs.declared.session.Outcome.{Outcome}
-use Rattle.dc_talk.specs.declared.session.Outcome.TheVariants.{Fine, Got, Number, Nothing}
+use Rattle.dc_talk.specs.declared.session.Outcome.TheVariants.{Fine, Got, Number, Nothing, Refused}
+use Rattle.dc_talk.specs.declared.session.Refusal.TheVariants.{TooManyTags}
 use Rattle.dc_talk.specs.declared.session.Link.{Link}
 use Rattle.dc_talk.specs.declared.session.Cached.{Cached}
 use Rattle.dc_talk.specs.declared.log.Fate.TheVariants.{Heard}
@@ -25,7 +26,7 @@ use Rattle.dc_talk.specs.declared.log.Deed.{Deed}
 use Rattle.dc_talk.specs.declared.log.Deed.TheVariants.{Did, Asked, Told}
 use Rattle.dc_talk.specs.declared.log.Note.{Note}
 use Rattle.dc_talk.specs.Clients.{Client, new_client, next_tx, next_dot, draft_updates}
-use Rattle.dc_talk.specs.Calls.{most_rank, op_of, outcome_of, did, committed}
+use Rattle.dc_talk.specs.Calls.{most_rank, op_of, over, looked_up, outcome_of, did, committed}
 use Rattle.dc_talk.specs.Rule.{after, heard, takes, taken, is_linked, can_follow, client_after, commit_in, commits_of, Allows, Follows}
 use Rattle.run_book.proofs.Lists.{by_moments, get_last}
 use Rattle.run_book.proofs.Numbered.{Numbered, numbered_more}
@@ -151,22 +152,24 @@ unchanged : (client : ℕ) (s : Client) (C : List Tx) → Held client s C → He
 unchanged client s C h = subst (λ C. Held client s C) (sym (append-nil C)) h
 
 -- the open transaction has one update more
-held_change : (client : ℕ) (s : Client) (C : List Tx) (o : ObjectId) (change : Change) → ChangeFine s change → Held client s C → Held client (record s { draft = Some (draft_updates s ++ record { object = o; op = op_of change } ∷ []) }) C
+held_change : (client : ℕ) (s : Client) (C : List Tx) (o : ObjectId) (change : Change) → ChangeFine s change → Held client s C → Held client (record s { draft = Some (draft_updates s ++ record { object = o; op = op_of change (over s o change) } ∷ []) }) C
 held_change client s C o change fine h = go s.draft refl
   where
-    go : (draft : Option (List Update)) → s.draft ≡ draft → Held client (record s { draft = Some (draft_updates s ++ record { object = o; op = op_of change } ∷ []) }) C
+    go : (draft : Option (List Update)) → s.draft ≡ draft → Held client (record s { draft = Some (draft_updates s ++ record { object = o; op = op_of change (over s o change) } ∷ []) }) C
     go None is = absurd (Rattle.std.proofs.lemmas.Bool.false≢true (sym fine.opened ∙ ap (λ d. is_none d) is))
-    go (Some updates) is = held_draft client s C _ (h.open_ranked updates is) (modest_more (draft_updates s) (record { object = o; op = op_of change }) h.draft fine.room (small_delta (op_of change) fine.small)) h
+    go (Some updates) is = held_draft client s C _ (h.open_ranked updates is) (modest_more (draft_updates s) (record { object = o; op = op_of change (over s o change) }) h.draft fine.room (small_delta change (over s o change) fine.small)) h
 
 -- a call that ends as it does for the client
 held_did : (client : ℕ) (s : Client) (C : List Tx) (call : Call) (outcome : Outcome) → outcome ≡ outcome_of s call → Held client s C → Held client (did s call outcome) (C ++ commit_in s (Did call outcome))
 held_did client s C Begin Fine is h = unchanged client _ C (held_draft client s C [] (begin_fine s is) modest_none h)
-held_did client s C (ChangeCall o change) Fine is h = unchanged client _ C (held_change client s C o change (change_fine s change is) h)
+held_did client s C (ChangeCall o change) Fine is h = unchanged client _ C (held_cache client _ C (looked_up s o change) (held_change client s C o change (change_fine s o change is) h))
+held_did client s C (ChangeCall o change) (Refused (TooManyTags count)) is h = unchanged client _ C (held_cache client s C _ h)
 held_did client s C (Read o) (Got value) is h = unchanged client _ C (held_cache client s C _ h)
 held_did client s C Commit (Number number) is h =
     let open_now = commit_number s number s.draft is in
     held_committed client s C (h.open_ranked open_now.0 open_now.1) h
 held_did client s C Commit Nothing is h = unchanged client _ C (held_closed client s C h)
+held_did client s C Abort Fine is h = unchanged client _ C (held_closed client s C h)
 held_did client s C _ _ is h = unchanged client s C h
 
 -- ---- at each moment

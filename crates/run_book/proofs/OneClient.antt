@@ -21,7 +21,8 @@ use Rattle.dc_talk.specs.Rule.{client_after, commits_of, Follows}
 use Rattle.run_book.specs.declared.book.Book.{Book}
 use Rattle.run_book.specs.Parts.{trail_of, notes_of, IsClient}
 use Rattle.run_book.specs.Fit.{FitsWith}
-use Rattle.run_book.specs.Graphs.{Node, own_list, cover, own_dots, node_of, graph, client_at, basis_at}
+use Rattle.run_book.specs.Nodes.{Node}
+use Rattle.run_book.specs.Graphs.{own_list, cover, own_dots, node_of, graph, client_at, basis_at}
 use Rattle.run_book.proofs.Lists.{In_right, In_either, In_from_map}
 use Rattle.run_book.proofs.Numbered.{Numbered, numbered_at, numbered_In, numbered_take, map_numbered}
 use Rattle.run_book.proofs.Held.{Held, dot_at, held_after}

@@ -8,6 +8,7 @@ use Rattle.list_core.specs.Members.{In}
 use Rattle.list_core.proofs.Members.{filter-agree}
 use Rattle.ids_core.specs.declared.ids.Dot.{Dot}
 use Rattle.ids_core.specs.declared.object.ObjectId.{ObjectId}
+use Rattle.ids_core.specs.declared.object.Sort.TheVariants.{Counter}
 use Rattle.obj_counter.specs.Counter.{total}
 use Rattle.tx_core.specs.declared.tx.Tx.{Tx}
 use Rattle.tx_core.specs.declared.state.State.{State}
@@ -23,7 +24,9 @@ use Rattle.dc_talk.specs.Rule.{commits_of, Allows}
 use Rattle.run_book.specs.declared.book.Book.{Book}
 use Rattle.run_book.specs.Parts.{notes_of}
 use Rattle.run_book.specs.Fit.{FitsWith}
-use Rattle.run_book.specs.Graphs.{Node, node_of, Within, Closed, WellMade, deltas_of, counter_over, client_at, basis_at, Reads, IsCausalRead, IsCausal, FirstSums}
+use Rattle.run_book.specs.Nodes.{Node, Within, Closed, WellMade}
+use Rattle.run_book.specs.Values.{deltas_of, counter_over}
+use Rattle.run_book.specs.Graphs.{node_of, client_at, basis_at, Reads, IsCausalRead, IsCausal, FirstSums}
 use Rattle.run_book.proofs.Lists.{filter-map}
 use Rattle.run_book.proofs.Numbered.{numbered_In, numbered_after, filter_numbered}
 use Rattle.run_book.proofs.Sessions.{commits_of_prefix}
@@ -124,22 +127,22 @@ module _ (b : Book) (limit capacity : ℕ) (one : b.n ≡ 1) (fit : FitsWith b 1
       ap (λ l. total (flat_map (λ (t : Node). deltas_of o t.updates) l ++ open_deltas)) (in_basis m)
       ∙ ap (λ l. total (l ++ open_deltas)) (flat_map-map (λ (t : Node). deltas_of o t.updates) (node_of b) (so_far m))
 
-  -- a value that is read is the sum over the basis and the open updates
-  value_read : (m : ℕ) (o : ObjectId) (value : Value) → Reads b 1 2 m o value → value ≡ Number (counter_over (nodes b limit capacity one fit) (basis_at b capacity 2 m) (draft_updates (client_at b capacity 2 m)) o)
-  value_read m o value r =
+  -- a value of a counter that is read is the sum over the basis and the open updates
+  value_read : (m : ℕ) (o : ObjectId) (value : Value) → Reads b 1 2 m o value → o.sort ≡ Counter → value ≡ Number (counter_over (nodes b limit capacity one fit) (basis_at b capacity 2 m) (draft_updates (client_at b capacity 2 m)) o)
+  value_read m o value r counter =
       let s = client_at b capacity 2 m in
       let follows = (fit.follows 2 (is_client b limit capacity one fit)).by m r.note r.there in
       let got : Got value ≡ read_outcome s o (cached o s.vector s.cache) = subst (λ deed. Allows s (take m (notes_of b 2)) deed) r.is follows in
       let read = read_got s o value got in
       let state = found_state m o read.state (cached_some o s.vector s.cache read.state read.found) in
-      read.is ∙ (ap value_of (view_is 1 s (so_far m) o read.state (held b limit capacity one fit m) state) ∙ ap Number (sym (summed m o)))
+      read.is ∙ (ap value_of (view_is 1 s (so_far m) o read.state counter (held b limit capacity one fit m) state) ∙ ap Number (sym (summed m o)))
 
   -- ---- the law
 
   -- a read at note m is causal
   causal_read : (m : ℕ) (o : ObjectId) (value : Value) → Reads b 1 2 m o value → IsCausalRead b 1 capacity 2 m o value
   causal_read m o value r = record {
-    value_is = value_read m o value r ∙ ap (λ g. Number (counter_over g (basis_at b capacity 2 m) (draft_updates (client_at b capacity 2 m)) o)) (sym (graph_is b limit capacity one fit));
+    value_is = λ counter. value_read m o value r counter ∙ ap (λ g. Number (counter_over g (basis_at b capacity 2 m) (draft_updates (client_at b capacity 2 m)) o)) (sym (graph_is b limit capacity one fit));
     closed = subst (λ g. Closed g (basis_at b capacity 2 m)) (sym (graph_is b limit capacity one fit))
         (closed_first 1 (nodes b limit capacity one fit) (chain b limit capacity one fit) (length (so_far m)) (basis_at b capacity 2 m) (omega (arith, few m, Rattle.std.proofs.lemmas.List.length-map all (node_of b))) (basis_first b limit capacity one fit m));
   }
@@ -162,14 +165,14 @@ module _ (b : Book) (limit capacity : ℕ) (one : b.n ≡ 1) (fit : FitsWith b 1
     grows = λ a m later o p value later_value le r later_r. subst (λ a. Within (basis_at b capacity a m) (basis_at b capacity a later)) (sym (only_client b limit capacity one fit a r.client)) (basis_grows m later le);
   }
 
-  -- a read before the first commit
-  first_sum : (m : ℕ) (o : ObjectId) (value : Value) → Reads b 1 2 m o value → (client_at b capacity 2 m).own ≡ 0 → value ≡ Number (total (deltas_of o (draft_updates (client_at b capacity 2 m))))
-  first_sum m o value r none =
+  -- a read of a counter before the first commit
+  first_sum : (m : ℕ) (o : ObjectId) (value : Value) → Reads b 1 2 m o value → o.sort ≡ Counter → (client_at b capacity 2 m).own ≡ 0 → value ≡ Number (total (deltas_of o (draft_updates (client_at b capacity 2 m))))
+  first_sum m o value r counter none =
       let empty : so_far m ≡ [] = no_length (so_far m) (omega (arith, (held b limit capacity one fit m).number, none)) in
-      value_read m o value r ∙ ap Number (summed m o ∙ ap (λ (l : List Tx). total (deltas_in o l ++ deltas_of o (draft_updates (client_at b capacity 2 m)))) empty)
+      value_read m o value r counter ∙ ap Number (summed m o ∙ ap (λ (l : List Tx). total (deltas_in o l ++ deltas_of o (draft_updates (client_at b capacity 2 m)))) empty)
 
-  -- the reads before the first commit have the sums of their own transaction
+  -- the reads of counters before the first commit have the sums of their own transaction
   pub one_client_first : FirstSums b 1 capacity
   one_client_first = record {
-    by = λ a m o value r. subst (λ a. Reads b 1 a m o value → (client_at b capacity a m).own ≡ 0 → value ≡ Number (total (deltas_of o (draft_updates (client_at b capacity a m))))) (sym (only_client b limit capacity one fit a r.client)) (first_sum m o value) r;
+    by = λ a m o value r. subst (λ a. Reads b 1 a m o value → o.sort ≡ Counter → (client_at b capacity a m).own ≡ 0 → value ≡ Number (total (deltas_of o (draft_updates (client_at b capacity a m))))) (sym (only_client b limit capacity one fit a r.client)) (first_sum m o value) r;
   }

@@ -1,5 +1,6 @@
 -- What a centre serves lies within what it has applied, and what a cache has was kept.
 use Rattle.std.proofs.Common.{◌≡◌, ℕ, zero, suc, ◌+◌, ◌≤◌, Bool, true, false, cond, ◌&&◌, ◌⊎◌, inl, inr, List, [], ◌∷◌, length, take, Option, Some, None, refl, sym, ap, ◌∙◌, arith}
+use Rattle.std.specs.Prelude.{is_some}
 use Rattle.std.specs.Option.{option_map}
 use Rattle.std.proofs.lemmas.Bool.{and_parts}
 use Rattle.std.proofs.lemmas.Bool.Decides.{Decides-eqb}
@@ -14,10 +15,12 @@ use Rattle.vv_core.specs.Vectors.{at, Covers, kth_largest}
 use Rattle.vv_core.proofs.Covering.{covers-true, Covers_join, Covers-meet_right}
 use Rattle.tx_core.specs.declared.state.State.{State}
 use Rattle.dc_talk.specs.declared.session.Cached.{Cached}
+use Rattle.dc_talk.specs.declared.session.Change.{Change}
 use Rattle.dc_talk.specs.declared.trail.Entry.{Entry}
 use Rattle.dc_talk.specs.Records.{vector}
 use Rattle.dc_talk.specs.Trails.{applied, rows, stable}
-use Rattle.dc_talk.specs.Clients.{same_vector, is_entry, cached, kept, promoted}
+use Rattle.dc_talk.specs.Clients.{Client, same_vector, is_entry, cached, kept, promoted}
+use Rattle.dc_talk.specs.Calls.{named, looked_up}
 use Rattle.run_book.proofs.Lists.{In_take}
 use Rattle.run_book.proofs.Inversions.{SnapBy}
 
@@ -68,6 +71,14 @@ In_brought_forward {X} p xs x i = go (first_that p xs) refl i
 -- what a look-up leaves was there
 pub In_promoted : (o : ObjectId) (w : List ℕ) (cache : List Cached) (c : Cached) → In c (promoted o w cache) → In c cache
 In_promoted o w cache c i = In_brought_forward (is_entry o w) cache c i
+
+-- so was what a change leaves, whether it looked its object up or not
+pub In_looked_up : (s : Client) (o : ObjectId) (change : Change) (c : Cached) → In c (looked_up s o change) → In c s.cache
+In_looked_up s o change c i = go (is_some (named change)) i
+  where
+    go : (b : Bool) → In c (cond b (promoted o s.vector s.cache) s.cache) → In c s.cache
+    go true i = In_promoted o s.vector s.cache c i
+    go false i = i
 
 -- what a new entry leaves is that entry, or was there
 pub In_kept : (capacity : ℕ) (new : Cached) (cache : List Cached) (c : Cached) → In c (kept capacity new cache) → (c ≡ new) ⊎ In c cache

@@ -1,29 +1,30 @@
 -- What the log of one client tells by itself: its commits, its numbers and its open transaction.
-use Rattle.std.proofs.Common.{◌≡◌, ℕ, ◌+◌, ◌*◌, ◌≤◌, ◌<◌, Bool, true, false, cond, List, [], ◌∷◌, ◌++◌, length, take, drop, fold, unsigned_abs, Option, Some, None, refl, sym, ap, ◌∙◌, arith}
+use Rattle.std.proofs.Common.{◌≡◌, ℕ, ◌+◌, ◌*◌, ◌≤◌, ◌<◌, Bool, true, false, cond, List, [], ◌∷◌, ◌++◌, length, take, drop, fold, ℤ, unsigned_abs, Option, Some, None, refl, sym, ap, ◌∙◌, arith}
 use Rattle.std.specs.Prelude.{◌==◌, nat_le, not, is_none, is_some}
+use Rattle.std.specs.List.{cons_option}
 use Rattle.std.proofs.lemmas.Bool.{and_parts, leb-true, leb-false, eqb-true, not-false}
 use Rattle.std.proofs.lemmas.List.{append-nil, append_assoc, drop-drop, drop-append-le, length-append}
 use Rattle.list_core.specs.Choices.{when}
+use Rattle.ids_core.specs.declared.ids.OpId.{OpId}
 use Rattle.ids_core.specs.declared.object.ObjectId.{ObjectId}
-use Rattle.ids_core.specs.Ids.{same_object}
+use Rattle.ids_core.specs.Ids.{same_sort, same_object}
 use Rattle.vv_core.specs.Vectors.{Covers, covers}
 use Rattle.vv_core.proofs.Covering.{covers-true}
 use Rattle.obj_counter.specs.Counter.{sizes}
 use Rattle.tx_core.specs.declared.op.Op.{Op}
-use Rattle.tx_core.specs.declared.op.Op.TheVariants.{Inc as IncOp}
 use Rattle.tx_core.specs.declared.tx.Update.{Update}
 use Rattle.tx_core.specs.declared.tx.Tx.{Tx}
-use Rattle.tx_core.specs.Checks.{is_small}
 use Rattle.dc_talk.specs.declared.session.Change.{Change}
+use Rattle.dc_talk.specs.declared.session.Change.TheVariants.{Inc, Write, Add, Remove, Put, Erase}
 use Rattle.dc_talk.specs.declared.session.Refusal.{Refusal}
-use Rattle.dc_talk.specs.declared.session.Refusal.TheVariants.{AlreadyOpen, ClockFull, NotOpen, DeltaTooLarge, TooManyUpdates}
+use Rattle.dc_talk.specs.declared.session.Refusal.TheVariants.{AlreadyOpen, ClockFull, NotOpen, WrongKind, DeltaTooLarge, TooManyUpdates}
 use Rattle.dc_talk.specs.declared.session.Outcome.{Outcome}
 use Rattle.dc_talk.specs.declared.session.Outcome.TheVariants.{Fine, Number, Refused}
 use Rattle.dc_talk.specs.declared.log.Note.{Note}
 use Rattle.dc_talk.specs.Clients.{Client, new_client, draft_updates}
-use Rattle.dc_talk.specs.Calls.{most_rank, most_updates, op_of, begin_outcome, change_outcome, commit_outcome}
+use Rattle.dc_talk.specs.Calls.{most_rank, most_updates, kind_of, named, op_of, is_modest, viewed, look_up_outcome, begin_outcome, change_outcome, commit_outcome}
 use Rattle.dc_talk.specs.Rule.{after, can_follow, client_after, commit_in, commits_from, commits_of}
-use Rattle.run_book.specs.Graphs.{delta_of, deltas_of}
+use Rattle.run_book.specs.Values.{delta_of, deltas_of}
 use Rattle.run_book.proofs.Inversions.{last_of, when_some, when_none, is_none_true}
 
 -- ---- the commits of a log
@@ -59,31 +60,41 @@ pub record IsModest (updates : List Update) : Type 0 where
   pub few : length updates ≤ 256
   pub sized : (o : ObjectId) → sizes (deltas_of o updates) ≤ 1000000000000 * length updates
 
+-- the size of an operation's delta, 0 where it has none
+abbrev pub size_of : Op → ℕ
+size_of op = sizes (cons_option (delta_of op) [])
+
 -- one update more adds at most its own size
-deltas_of-more : (o : ObjectId) (updates : List Update) (u : Update) (most : ℕ) → unsigned_abs (delta_of u.op) ≤ most → sizes (deltas_of o (updates ++ u ∷ [])) ≤ sizes (deltas_of o updates) + most
+deltas_of-more : (o : ObjectId) (updates : List Update) (u : Update) (most : ℕ) → size_of u.op ≤ most → sizes (deltas_of o (updates ++ u ∷ [])) ≤ sizes (deltas_of o updates) + most
 deltas_of-more o [] u most small = go (same_object u.object o)
   where
-    go : (b : Bool) → sizes (cond b (delta_of u.op ∷ []) []) ≤ 0 + most
+    go : (b : Bool) → sizes (cond b (cons_option (delta_of u.op) []) []) ≤ 0 + most
     go true = omega (arith, small)
     go false = omega arith
-deltas_of-more o (v ∷ updates) u most small = go (same_object v.object o) (deltas_of-more o updates u most small)
+deltas_of-more o (v ∷ updates) u most small = go (same_object v.object o) (delta_of v.op) (deltas_of-more o updates u most small)
   where
-    go : (b : Bool) → sizes (deltas_of o (updates ++ u ∷ [])) ≤ sizes (deltas_of o updates) + most → sizes (cond b (delta_of v.op ∷ deltas_of o (updates ++ u ∷ [])) (deltas_of o (updates ++ u ∷ []))) ≤ sizes (cond b (delta_of v.op ∷ deltas_of o updates) (deltas_of o updates)) + most
-    go true rest = omega (arith, rest)
-    go false rest = rest
+    go : (b : Bool) (delta : Option ℤ) → sizes (deltas_of o (updates ++ u ∷ [])) ≤ sizes (deltas_of o updates) + most → sizes (cond b (cons_option delta (deltas_of o (updates ++ u ∷ []))) (deltas_of o (updates ++ u ∷ []))) ≤ sizes (cond b (cons_option delta (deltas_of o updates)) (deltas_of o updates)) + most
+    go true None rest = rest
+    go true (Some delta) rest = omega (arith, rest)
+    go false delta rest = rest
 
 pub modest_none : IsModest []
 modest_none = record { few = omega arith; sized = λ o. omega arith }
 
-pub modest_more : (updates : List Update) (u : Update) → IsModest updates → length updates < 256 → unsigned_abs (delta_of u.op) ≤ 1000000000000 → IsModest (updates ++ u ∷ [])
+pub modest_more : (updates : List Update) (u : Update) → IsModest updates → length updates < 256 → size_of u.op ≤ 1000000000000 → IsModest (updates ++ u ∷ [])
 modest_more updates u modest room small = record {
   few = omega (arith, length-append updates (u ∷ []), room);
   sized = λ o. omega (arith, length-append updates (u ∷ []), deltas_of-more o updates u 1000000000000 small, modest.sized o);
 }
 
--- a small operation has a small delta
-pub small_delta : (op : Op) → is_small op ≡ true → unsigned_abs (delta_of op) ≤ 1000000000000
-small_delta (IncOp delta) small = leb-true (unsigned_abs delta) 1000000000000 small
+-- the operation of a modest change has a small delta, or none
+pub small_delta : (change : Change) (over : List OpId) → is_modest change ≡ true → size_of (op_of change over) ≤ 1000000000000
+small_delta (Inc delta) over small = omega (arith, leb-true (unsigned_abs delta) 1000000000000 small)
+small_delta (Write word) over small = omega arith
+small_delta (Add word) over small = omega arith
+small_delta (Remove word) over small = omega arith
+small_delta (Put key word) over small = omega arith
+small_delta (Erase key) over small = omega arith
 
 -- ---- what calls and answers tell
 
@@ -97,20 +108,26 @@ begin_fine s is =
     let l = last_of (when (is_some s.draft) (Refused AlreadyOpen) ∷ when (nat_le most_rank s.clock) (Refused ClockFull) ∷ []) Fine Fine is (differs _ AlreadyOpen, (differs _ ClockFull, tt)) in
     leb-false most_rank s.clock (when_none _ _ l.0.1.0)
 
--- a change that is made has a small delta, and there is room for it
+-- a change that is made is modest, and there is room for it
 pub record ChangeFine (s : Client) (change : Change) : Type 0 where
   pub opened : is_none s.draft ≡ false
-  pub small : is_small (op_of change) ≡ true
+  pub small : is_modest change ≡ true
   pub room : length (draft_updates s) < 256
 
 -- what a change tells that is made
-pub change_fine : (s : Client) (change : Change) → Fine ≡ change_outcome s change → ChangeFine s change
-change_fine s change is =
-    let l = last_of (when (is_none s.draft) (Refused NotOpen) ∷ when (not (is_small (op_of change))) (Refused DeltaTooLarge) ∷ when (nat_le most_updates (length (draft_updates s))) (Refused (TooManyUpdates most_updates)) ∷ []) Fine Fine is (differs _ NotOpen, (differs _ DeltaTooLarge, (differs _ (TooManyUpdates most_updates), tt))) in
+pub change_fine : (s : Client) (o : ObjectId) (change : Change) → Fine ≡ change_outcome s o change → ChangeFine s change
+change_fine s o change is =
+    let refusals =
+    when (is_none s.draft) (Refused NotOpen)
+    ∷ when (not (same_sort (kind_of change) o.sort)) (Refused WrongKind)
+    ∷ when (not (is_modest change)) (Refused DeltaTooLarge)
+    ∷ when (nat_le most_updates (length (draft_updates s))) (Refused (TooManyUpdates most_updates))
+    ∷ [] in
+    let l = last_of refusals (look_up_outcome o (named change) (viewed s o)) Fine is (differs _ NotOpen, (differs _ WrongKind, (differs _ DeltaTooLarge, (differs _ (TooManyUpdates most_updates), tt)))) in
     record {
       opened = when_none _ _ l.0.0;
-      small = not-false _ (when_none _ _ l.0.1.0);
-      room = leb-false most_updates (length (draft_updates s)) (when_none _ _ l.0.1.1.0);
+      small = not-false _ (when_none _ _ l.0.1.1.0);
+      room = leb-false most_updates (length (draft_updates s)) (when_none _ _ l.0.1.1.1.0);
     }
 
 -- a commit that gets a number has its transaction open

@@ -19,9 +19,10 @@ use Rattle.dc_talk.specs.declared.ask.Ask.TheVariants.{Hello, Refresh, Fetch, Co
 use Rattle.dc_talk.specs.declared.say.Say.{Say}
 use Rattle.dc_talk.specs.declared.say.Say.TheVariants.{Welcome, Snap, Object, Known, Stamped}
 use Rattle.dc_talk.specs.declared.session.Call.{Call}
-use Rattle.dc_talk.specs.declared.session.Call.TheVariants.{Begin, Change as ChangeCall, Read, Commit}
+use Rattle.dc_talk.specs.declared.session.Call.TheVariants.{Begin, Change as ChangeCall, Read, Commit, Abort}
 use Rattle.dc_talk.specs.declared.session.Outcome.{Outcome}
-use Rattle.dc_talk.specs.declared.session.Outcome.TheVariants.{Fine, Got, Number, Nothing}
+use Rattle.dc_talk.specs.declared.session.Outcome.TheVariants.{Fine, Got, Number, Nothing, Refused}
+use Rattle.dc_talk.specs.declared.session.Refusal.TheVariants.{TooManyTags}
 use Rattle.dc_talk.specs.declared.session.Cached.{Cached}
 use Rattle.dc_talk.specs.declared.log.Fate.TheVariants.{Heard}
 use Rattle.dc_talk.specs.declared.log.Deed.{Deed}
@@ -41,7 +42,7 @@ use Rattle.run_book.proofs.Sessions.{can_follow-true, commits_of_more}
 use Rattle.run_book.proofs.Held.{Held, held_after}
 use Rattle.run_book.proofs.Copies.{IsCopy, count_numbered}
 use Rattle.run_book.proofs.CopyAnswers.{mine_copy, state_copy}
-use Rattle.run_book.proofs.Served.{snap_within, In_promoted, In_kept}
+use Rattle.run_book.proofs.Served.{snap_within, In_promoted, In_looked_up, In_kept}
 
 -- a cached entry is the state of the client's first commits, as many as its vector says
 pub record IsServed (C : List Tx) (c : Cached) : Type 0 where
@@ -128,7 +129,8 @@ unchanged C s D h = subst (λ D. Stands C s D) (sym (append-nil D)) h
 -- a call that ends
 stands_did : (client : ℕ) (C : List Tx) (s : Client) (D : List Tx) (call : Call) (outcome : Outcome) → Held client s D → Stands C s D → Stands C (did s call outcome) (D ++ commit_in s (Did call outcome))
 stands_did client C s D Begin Fine held h = unchanged C _ D (record { vector = h.vector; snaps = h.snaps; cache = h.cache })
-stands_did client C s D (ChangeCall o change) Fine held h = unchanged C _ D (record { vector = h.vector; snaps = h.snaps; cache = h.cache })
+stands_did client C s D (ChangeCall o change) Fine held h = unchanged C _ D (record { vector = h.vector; snaps = h.snaps; cache = λ c i. h.cache c (In_looked_up s o change c i) })
+stands_did client C s D (ChangeCall o change) (Refused (TooManyTags count)) held h = unchanged C _ D (record { vector = h.vector; snaps = h.snaps; cache = λ c i. h.cache c (In_looked_up s o change c i) })
 stands_did client C s D (Read o) (Got value) held h = unchanged C _ D (record { vector = h.vector; snaps = h.snaps; cache = λ c i. h.cache c (In_promoted o s.vector s.cache c i) })
 stands_did client C s D Commit (Number number) held h = record { vector = h.vector; snaps = snaps; cache = h.cache }
   where
@@ -142,6 +144,7 @@ stands_did client C s D Commit (Number number) held h = record { vector = h.vect
         (λ last. record { number = s.mine; snap = sym (ap (λ (t : Tx). t.snap) last.0) ∙ h.vector; few = omega (arith, last.1, held.number, held.below) })
         (get_last D tx t p there)
 stands_did client C s D Commit Nothing held h = unchanged C _ D (record { vector = h.vector; snaps = h.snaps; cache = h.cache })
+stands_did client C s D Abort Fine held h = unchanged C _ D (record { vector = h.vector; snaps = h.snaps; cache = h.cache })
 stands_did client C s D _ _ held h = unchanged C s D h
 
 -- ---- at each moment

@@ -1,16 +1,12 @@
--- The graph of the transactions of a book with their dependency sets, and what a read stands on.
--- No code keeps a dependency set: they are here alone.
-use Rattle.std.specs.Prelude.{◌≡◌, ℕ, ◌+◌, ◌-◌, ◌≤◌, ◌<◌, cond, ℤ, map, filter, flat_map, take, List, [], ◌∷◌, ◌++◌, Some, slice_get}
+-- The graph of the transactions of a book, and what a read stands on. No code keeps a dependency set:
+-- they are here alone.
+use Rattle.std.specs.Prelude.{◌≡◌, ℕ, ◌+◌, ◌-◌, ◌≤◌, map, flat_map, take, List, ◌++◌, Some, slice_get}
 use Rattle.std.specs.List.{range_with_len}
-use Rattle.list_core.specs.Members.{In}
 use Rattle.ids_core.specs.declared.ids.Dot.{Dot}
 use Rattle.ids_core.specs.declared.object.ObjectId.{ObjectId}
-use Rattle.ids_core.specs.Ids.{same_object}
+use Rattle.ids_core.specs.declared.object.Sort.TheVariants.{Counter}
 use Rattle.vv_core.specs.Vectors.{at, centres}
 use Rattle.obj_counter.specs.Counter.{total}
-use Rattle.tx_core.specs.declared.op.Op.{Op}
-use Rattle.tx_core.specs.declared.op.Op.TheVariants.{Inc}
-use Rattle.tx_core.specs.declared.tx.Update.{Update}
 use Rattle.tx_core.specs.declared.tx.Tx.{Tx}
 use Rattle.tx_core.specs.declared.tx.Record.{Record}
 use Rattle.tx_core.specs.declared.state.Value.{Value}
@@ -19,19 +15,14 @@ use Rattle.dc_talk.specs.declared.session.Call.TheVariants.{Read}
 use Rattle.dc_talk.specs.declared.session.Outcome.TheVariants.{Got}
 use Rattle.dc_talk.specs.declared.log.Deed.TheVariants.{Did}
 use Rattle.dc_talk.specs.declared.log.Note.{Note}
-use Rattle.dc_talk.specs.Records.{own, has}
+use Rattle.dc_talk.specs.Records.{own}
 use Rattle.dc_talk.specs.Trails.{applied}
 use Rattle.dc_talk.specs.Clients.{Client, draft_updates}
 use Rattle.dc_talk.specs.Rule.{client_after, commits_of}
 use Rattle.run_book.specs.declared.book.Book.{Book}
+use Rattle.run_book.specs.Nodes.{Node, Within, Closed, WellMade}
 use Rattle.run_book.specs.Parts.{trail_of, notes_of, IsClient}
-
--- a transaction with its dependency set, the dots of what it may have seen
-pub record Node : Type 0 where
-  pub dot : Dot
-  pub deps : List Dot
-  pub rank : ℕ
-  pub updates : List Update
+use Rattle.run_book.specs.Values.{deltas_of, counter_over}
 
 -- the records that centre e stamped in the book, in order
 abbrev pub own_list : Book → ℕ → List Record
@@ -58,36 +49,6 @@ committed b clients capacity = flat_map (λ client. commits_of b.n client capaci
 abbrev pub graph : Book → ℕ → ℕ → List Node
 graph b clients capacity = map (node_of b) (committed b clients capacity)
 
--- each dot of xs is in ys
-pub record Within (xs ys : List Dot) : Type 0 where
-  pub by : (d : Dot) → In d xs → In d ys
-
--- a set of dots of the graph is closed: it has the dependencies of its members
-pub record Closed (nodes : List Node) (set : List Dot) : Type 0 where
-  pub are : (d : Dot) → In d set → (t : Node) × In t nodes × (t.dot ≡ d)
-  pub down : (t : Node) → In t nodes → In t.dot set → Within t.deps set
-
--- a graph is well made: dots differ, dependency sets are closed, and ranks grow along dependencies
-pub record WellMade (nodes : List Node) : Type 0 where
-  pub unique : (p q : ℕ) (t u : Node) → slice_get nodes p ≡ Some t → slice_get nodes q ≡ Some u → t.dot ≡ u.dot → p ≡ q
-  pub closed : (t : Node) → In t nodes → Closed nodes t.deps
-  pub ranks : (t u : Node) → In t nodes → In u nodes → In u.dot t.deps → u.rank < t.rank
-
--- the delta of an operation
-abbrev pub delta_of : Op → ℤ
-delta_of (Inc delta) = delta
-
--- the deltas that updates add to the object
-abbrev pub deltas_of : ObjectId → List Update → List ℤ
-deltas_of o [] = []
-deltas_of o (u ∷ us) = cond (same_object u.object o) (delta_of u.op ∷ deltas_of o us) (deltas_of o us)
-
--- the value of a counter over a set of dots, followed by open updates: the sum of the deltas of its
--- updates in the nodes of the set, each node once, and of those that are open (Shapiro and others,
--- INRIA RR-7506)
-abbrev pub counter_over : List Node → List Dot → List Update → ObjectId → ℤ
-counter_over nodes set open_updates o = total (flat_map (λ t. deltas_of o t.updates) (filter (λ t. has t.dot set) nodes) ++ deltas_of o open_updates)
-
 -- what a session stands on: what its vector covers, and all that it committed
 abbrev pub basis : Book → Client → List Dot
 basis b s = cover b s.vector ++ own_dots s.client s.own
@@ -107,20 +68,20 @@ pub record Reads (b : Book) (clients a m : ℕ) (o : ObjectId) (value : Value) :
   pub there : slice_get (notes_of b a) m ≡ Some note
   pub is : note.deed ≡ Did (Read o) (Got value)
 
--- a value is that of its counter over the basis of the read and the updates open then, and the basis
--- is closed
+-- a value of a counter is that over the basis of the read and the updates open then, and the basis is
+-- closed
 pub record IsCausalRead (b : Book) (clients capacity a m : ℕ) (o : ObjectId) (value : Value) : Type 0 where
-  pub value_is : value ≡ Number (counter_over (graph b clients capacity) (basis_at b capacity a m) (draft_updates (client_at b capacity a m)) o)
+  pub value_is : o.sort ≡ Counter → value ≡ Number (counter_over (graph b clients capacity) (basis_at b capacity a m) (draft_updates (client_at b capacity a m)) o)
   pub closed : Closed (graph b clients capacity) (basis_at b capacity a m)
 
--- a book is causal: its graph is well made, each value read is that of its counter over a causally
--- closed set, and that set holds those of the session's earlier reads
+-- a book is causal: its graph is well made, each read stands on a causally closed set, over which a
+-- counter has the value that was read, and that set holds those of the session's earlier reads
 pub record IsCausal (b : Book) (clients capacity : ℕ) : Type 0 where
   pub made : WellMade (graph b clients capacity)
   pub reads : (a m : ℕ) (o : ObjectId) (value : Value) → Reads b clients a m o value → IsCausalRead b clients capacity a m o value
   pub grows : (a m later : ℕ) (o p : ObjectId) (value later_value : Value) → m ≤ later → Reads b clients a m o value → Reads b clients a later p later_value → Within (basis_at b capacity a m) (basis_at b capacity a later)
 
--- before a client's first commit each value that it reads is the sum of the deltas that its open
--- transaction has added to the counter until then
+-- before a client's first commit each value that it reads of a counter is the sum of the deltas that
+-- its open transaction has added to it until then
 pub record FirstSums (b : Book) (clients capacity : ℕ) : Type 0 where
-  pub by : (a m : ℕ) (o : ObjectId) (value : Value) → Reads b clients a m o value → (client_at b capacity a m).own ≡ 0 → value ≡ Number (total (deltas_of o (draft_updates (client_at b capacity a m))))
+  pub by : (a m : ℕ) (o : ObjectId) (value : Value) → Reads b clients a m o value → o.sort ≡ Counter → (client_at b capacity a m).own ≡ 0 → value ≡ Number (total (deltas_of o (draft_updates (client_at b capacity a m))))

@@ -18,8 +18,13 @@ impl Model for Trails {
     ghost use Rattle.std.specs.Prelude.{List};
     ghost use Rattle.dc_talk.specs.declared.trail.Entry.{Entry};
     ghost use Rattle.run_book.specs.Books.{entries_of};
+    ghost use Rattle.std.specs.Coded.{codes};
+    ghost use Rattle.obj_set.specs.Sets.{set_code};
+    ghost use Rattle.obj_map.specs.Maps.{map_code};
 
     ghost Value = { List (List Entry) };
+
+    ghost coded = { Prim.hlevel (codes, set_code, map_code) };
 
     ghost view = { λ t. entries_of t.items.items };
 }
@@ -33,8 +38,13 @@ pub struct Logs {
 impl Model for Logs {
     ghost use Rattle.std.specs.Prelude.{List};
     ghost use Rattle.dc_talk.specs.Logs.{Logged};
+    ghost use Rattle.std.specs.Coded.{codes};
+    ghost use Rattle.obj_set.specs.Sets.{set_code};
+    ghost use Rattle.obj_map.specs.Maps.{map_code};
 
     ghost Value = { List Logged };
+
+    ghost coded = { Prim.hlevel (codes, set_code, map_code) };
 
     ghost view = { λ l. l.items.items };
 }

@@ -1,5 +1,5 @@
 -- Steps that are a shape, and steps that cannot go on to one.
-use Rattle.std.proofs.Common.{◌≡◌, ◌≤◌, ℕ, zero, suc, ℤ, ◌+◌, List, [], ◌∷◌, ◌++◌, cond, refl, ap, sym, ◌∙◌, subst, inl, inr, append_assoc, arith, ◌⊎◌}
+use Rattle.std.proofs.Common.{◌≡◌, ◌≤◌, ℕ, zero, suc, ◌+◌, List, [], ◌∷◌, ◌++◌, cond, refl, ap, sym, ◌∙◌, subst, inl, inr, append_assoc, arith, ◌⊎◌}
 use Rattle.std.specs.Prelude.{All, pos}
 use Rattle.std.specs.List.{flat_map}
 use Rattle.std.proofs.lemmas.List.{append-nil, flat_map_more}
@@ -7,40 +7,42 @@ use Rattle.std.proofs.lemmas.List.Elements.{All-head, All-tail, All-nil, All-pus
 use Rattle.std.proofs.lemmas.List.Sums.{sum_by-append}
 use Rattle.ids_core.specs.declared.object.ObjectId.{ObjectId}
 use Rattle.ids_core.specs.declared.object.Sort.TheVariants.{Counter}
-use Rattle.script_text.specs.Shapes.{is_inc, incs_in, IsOfBody, IsBody, block_of, IsFront, IsConnectAndBlocks, IsShape}
+use Rattle.script_text.specs.Shapes.{is_change, changes_in, IsOfBody, IsBody, block_of, IsFront, IsConnectAndBlocks, IsShape}
 use Rattle.script_text.specs.Reaches.{EndsIn, IsOpen, IsClosing, Reaches}
 use Rattle.script_text.specs.declared.steps.ClientStep.{ClientStep}
-use Rattle.script_text.specs.declared.steps.ClientStep.TheVariants.{Connect, Begin, Inc, Read, Commit, Push, Refresh}
+use Rattle.dc_talk.specs.declared.session.Change.{Change as ChangeOf}
+use Rattle.dc_talk.specs.declared.session.Change.TheVariants.{Inc}
+use Rattle.script_text.specs.declared.steps.ClientStep.TheVariants.{Connect, Begin, Change, Read, Commit, Push, Refresh}
 use Rattle.script_text.specs.declared.shape.Shape.{Shape}
 use Rattle.script_text.specs.declared.shape.Shape.TheVariants.{Empty, Connected, Open, Committed, Pushed}
 
--- the incs of the first step, and those of the others
-incs_cons : (step : ClientStep) (steps : List ClientStep) → incs_in (step ∷ steps) ≡ incs_in (step ∷ []) + incs_in steps
-incs_cons step steps = sum_by-append (λ s. cond (is_inc s) 1 0) (step ∷ []) steps
+-- the changes of the first step, and those of the others
+changes_cons : (step : ClientStep) (steps : List ClientStep) → changes_in (step ∷ steps) ≡ changes_in (step ∷ []) + changes_in steps
+changes_cons step steps = sum_by-append (λ s. cond (is_change s) 1 0) (step ∷ []) steps
 
--- what is of a body is an inc or a read
-pub of_body : (step : ClientStep) → ((object : ObjectId) (delta : ℤ) → step ≡ Inc object delta → ⊥) → ((object : ObjectId) → step ≡ Read object → ⊥) → IsOfBody step → ⊥
-of_body (Connect centre) no_inc no_read h = h
-of_body Begin no_inc no_read h = h
-of_body (Inc object delta) no_inc no_read h = no_inc object delta refl
-of_body (Read object) no_inc no_read h = no_read object refl
-of_body Commit no_inc no_read h = h
-of_body Push no_inc no_read h = h
-of_body Refresh no_inc no_read h = h
+-- what is of a body is a change or a read
+pub of_body : (step : ClientStep) → ((object : ObjectId) (change : ChangeOf) → step ≡ Change object change → ⊥) → ((object : ObjectId) → step ≡ Read object → ⊥) → IsOfBody step → ⊥
+of_body (Connect centre) no_change no_read h = h
+of_body Begin no_change no_read h = h
+of_body (Change object change) no_change no_read h = no_change object change refl
+of_body (Read object) no_change no_read h = no_read object refl
+of_body Commit no_change no_read h = h
+of_body Push no_change no_read h = h
+of_body Refresh no_change no_read h = h
 
 -- two readings of steps, of which the second has a body and a commit: the first goes on with that body, or with that commit
-body_split : (first body : List ClientStep) (x : ClientStep) (more tail : List ClientStep) → All IsOfBody first → All IsOfBody body → first ++ x ∷ more ≡ body ++ Commit ∷ tail → (IsOfBody x × (incs_in first + incs_in (x ∷ []) ≤ incs_in body)) ⊎ ((first ≡ body) × (x ≡ Commit) × (more ≡ tail))
+body_split : (first body : List ClientStep) (x : ClientStep) (more tail : List ClientStep) → All IsOfBody first → All IsOfBody body → first ++ x ∷ more ≡ body ++ Commit ∷ tail → (IsOfBody x × (changes_in first + changes_in (x ∷ []) ≤ changes_in body)) ⊎ ((first ≡ body) × (x ≡ Commit) × (more ≡ tail))
 body_split [] [] x more tail p q e = inr (refl, cc, cc)
 body_split [] (y ∷ body) x more tail p q e =
     let same : y ≡ x = cc in
-    inl (subst IsOfBody same (All-head IsOfBody y body q), let n : incs_in (y ∷ []) ≡ incs_in (x ∷ []) = ap (λ z. incs_in (z ∷ [])) same in omega (arith, incs_cons y body))
+    inl (subst IsOfBody same (All-head IsOfBody y body q), let n : changes_in (y ∷ []) ≡ changes_in (x ∷ []) = ap (λ z. changes_in (z ∷ [])) same in omega (arith, changes_cons y body))
 body_split (z ∷ first) [] x more tail p q e = absurd (let same : z ≡ Commit = cc in let b : IsOfBody Commit = subst IsOfBody same (All-head IsOfBody z first p) in b)
 body_split (z ∷ first) (y ∷ body) x more tail p q e =
     let same : z ≡ y = cc in
     let rest : first ++ x ∷ more ≡ body ++ Commit ∷ tail = cc in
-    let n : incs_in (z ∷ []) ≡ incs_in (y ∷ []) = ap (λ s. incs_in (s ∷ [])) same in
+    let n : changes_in (z ∷ []) ≡ changes_in (y ∷ []) = ap (λ s. changes_in (s ∷ [])) same in
     elim (body_split first body x more tail (All-tail IsOfBody z first p) (All-tail IsOfBody y body q) rest) [
-      | inl h ↦ inl (h.0, let few : incs_in first + incs_in (x ∷ []) ≤ incs_in body = h.1 in omega (arith, incs_cons z first, incs_cons y body))
+      | inl h ↦ inl (h.0, let few : changes_in first + changes_in (x ∷ []) ≤ changes_in body = h.1 in omega (arith, changes_cons z first, changes_cons y body))
       | inr h ↦ inr (let s : first ≡ body = h.0 in cc, h.1, h.2)
     ]
 
@@ -140,16 +142,16 @@ connected_refused steps more step no_begin h shape =
     no_begin (let first : step ∷ on.more ≡ Begin ∷ (on.body ++ Commit ∷ Push ∷ Refresh ∷ on.left) = on.parts in cc)
 
 -- a transaction that stands open, and a step that may not follow
-pub open_refused : (incs : ℕ) (steps more : List ClientStep) (step : ClientStep) → (IsOfBody step → incs + incs_in (step ∷ []) ≤ 256 → ⊥) → (step ≡ Commit → 1 ≤ incs → ⊥) → IsOpen incs steps → IsShape (steps ++ step ∷ more) → ⊥
-open_refused incs steps more step no_body no_commit h shape =
+pub open_refused : (changes : ℕ) (steps more : List ClientStep) (step : ClientStep) → (IsOfBody step → changes + changes_in (step ∷ []) ≤ 256 → ⊥) → (step ≡ Commit → 1 ≤ changes → ⊥) → IsOpen changes steps → IsShape (steps ++ step ∷ more) → ⊥
+open_refused changes steps more step no_body no_commit h shape =
     let on = goes_on (Begin ∷ h.body) steps more step h.ends shape in
     let whole : Begin ∷ (h.body ++ step ∷ on.more) ≡ Begin ∷ (on.body ++ Commit ∷ Push ∷ Refresh ∷ on.left) = on.parts in
-    let count : incs_in h.body ≡ incs = h.count in
-    let most : incs_in on.body ≤ 256 = on.is_body.most in
-    let some : 1 ≤ incs_in on.body = on.is_body.some in
+    let count : changes_in h.body ≡ changes = h.count in
+    let most : changes_in on.body ≤ 256 = on.is_body.most in
+    let some : 1 ≤ changes_in on.body = on.is_body.some in
     elim (body_split h.body on.body step on.more (Push ∷ Refresh ∷ on.left) h.each on.is_body.each (cc)) [
-      | inl s ↦ no_body s.0 (let few : incs_in h.body + incs_in (step ∷ []) ≤ incs_in on.body = s.1 in omega arith)
-      | inr s ↦ no_commit s.1 (let n : incs_in h.body ≡ incs_in on.body = ap incs_in s.0 in omega arith)
+      | inl s ↦ no_body s.0 (let few : changes_in h.body + changes_in (step ∷ []) ≤ changes_in on.body = s.1 in omega arith)
+      | inr s ↦ no_commit s.1 (let n : changes_in h.body ≡ changes_in on.body = ap changes_in s.0 in omega arith)
     ]
 
 -- a transaction that was committed, and a step that may not follow
@@ -179,19 +181,19 @@ block_ends steps h =
 ends_in_front : (last steps : List ClientStep) → IsFront last → EndsIn last steps → IsShape steps
 ends_in_front last steps front h = inr (record { centre = h.centre; bodies = h.bodies; front = last; parts = h.parts; each = h.each; is_front = front })
 
--- any inc
-abbrev an_inc : ClientStep
-an_inc = Inc (record { sort = Counter; name = [] }) (pos 0)
+-- any change
+abbrev a_change : ClientStep
+a_change = Change (record { sort = Counter; name = [] }) (Inc (pos 0))
 
 -- a begin and what may stand behind it begin a block
-open_front : (incs : ℕ) (body : List ClientStep) → All IsOfBody body → incs_in body ≡ incs → incs ≤ 256 → IsFront (Begin ∷ body)
+open_front : (changes : ℕ) (body : List ClientStep) → All IsOfBody body → changes_in body ≡ changes → changes ≤ 256 → IsFront (Begin ∷ body)
 open_front zero body each count most =
-    let both : incs_in (body ++ an_inc ∷ []) ≡ incs_in body + incs_in (an_inc ∷ []) = sum_by-append (λ s. cond (is_inc s) 1 0) body (an_inc ∷ []) in
+    let both : changes_in (body ++ a_change ∷ []) ≡ changes_in body + changes_in (a_change ∷ []) = sum_by-append (λ s. cond (is_change s) 1 0) body (a_change ∷ []) in
     record {
-      body = body ++ an_inc ∷ [];
-      rest = an_inc ∷ Commit ∷ Push ∷ Refresh ∷ [];
-      parts = ap (λ xs. Begin ∷ xs) (sym (append_assoc body (an_inc ∷ []) (Commit ∷ Push ∷ Refresh ∷ [])));
-      is_body = record { each = All-push IsOfBody body an_inc each tt; some = omega arith; most = omega arith };
+      body = body ++ a_change ∷ [];
+      rest = a_change ∷ Commit ∷ Push ∷ Refresh ∷ [];
+      parts = ap (λ xs. Begin ∷ xs) (sym (append_assoc body (a_change ∷ []) (Commit ∷ Push ∷ Refresh ∷ [])));
+      is_body = record { each = All-push IsOfBody body a_change each tt; some = omega arith; most = omega arith };
     }
 open_front (suc n) body each count most = record {
   body = body;
@@ -213,6 +215,6 @@ closing_front body behind rest parts is_body = record {
 pub is_shape : (shape : Shape) (steps : List ClientStep) → Reaches shape steps → IsShape steps
 is_shape Empty steps h = inl h
 is_shape Connected steps h = ends_in_front [] steps (let begun = open_front 0 [] (All-nil IsOfBody) refl (omega arith) in record { body = begun.body; rest = Begin ∷ begun.rest; parts = begun.parts; is_body = begun.is_body }) h
-is_shape (Open incs) steps h = ends_in_front (Begin ∷ h.body) steps (open_front incs h.body h.each h.count h.most) h.ends
+is_shape (Open changes) steps h = ends_in_front (Begin ∷ h.body) steps (open_front changes h.body h.each h.count h.most) h.ends
 is_shape Committed steps h = ends_in_front (Begin ∷ (h.body ++ Commit ∷ [])) steps (closing_front h.body (Commit ∷ []) (Push ∷ Refresh ∷ []) refl h.is_body) h.ends
 is_shape Pushed steps h = ends_in_front (Begin ∷ (h.body ++ Commit ∷ Push ∷ [])) steps (closing_front h.body (Commit ∷ Push ∷ []) (Refresh ∷ []) refl h.is_body) h.ends

@@ -1,85 +1,105 @@
--- Which steps a line spells.
-use Rattle.std.proofs.Common.{◌≡◌, ◌≢◌, ℕ, ℤ, List, ◌∷◌, ◌++◌, Some, get_or, drop, refl, ap, sym, ◌∙◌, inl, inr, arith, lit<}
-use Rattle.std.specs.Prelude.{All, codes, decimal}
-use Rattle.std.specs.Fmt.{signed_decimal}
+-- The parts of a line, and the changes that it spells.
+use Rattle.std.proofs.Common.{◌≡◌, ◌≢◌, ℕ, List, [], ◌∷◌, ◌++◌, Option, Some, get_or, drop, refl, ap, sym, ◌∙◌, inl, inr, arith, lit<}
+use Rattle.std.specs.Prelude.{Bool, true, not, ◌&&◌, ◌==◌, All, codes, decimal}
 use Rattle.std.proofs.lemmas.Fmt.{decimal_digit}
-use Rattle.std.proofs.lemmas.List.Elements.{All-weaker}
+use Rattle.std.proofs.lemmas.Bool.{and_parts}
+use Rattle.std.proofs.lemmas.List.Elements.{All-weaker, All-append, All-cons, All-nil}
 use Rattle.ids_core.specs.Name.{IsName, IsNameByte}
 use Rattle.ids_core.specs.declared.object.ObjectId.{ObjectId}
-use Rattle.ids_core.specs.declared.object.Sort.TheVariants.{Counter}
-use Rattle.script_text.specs.Steps.{mark_of, object_text, spelling, IsStep, IsDelta}
+use Rattle.ids_core.specs.declared.object.Sort.{Sort}
+use Rattle.ids_core.specs.declared.object.Sort.TheVariants.{Counter, Register, Set, Map}
+use Rattle.dc_talk.specs.declared.session.Change.{Change as ChangeOf}
+use Rattle.dc_talk.specs.declared.session.Change.TheVariants.{Inc, Write, Add, Remove, Put, Erase}
 use Rattle.script_text.specs.declared.steps.ClientStep.{ClientStep}
-use Rattle.script_text.specs.declared.steps.ClientStep.TheVariants.{Connect, Begin, Inc, Read, Commit, Push, Refresh}
+use Rattle.script_text.specs.declared.steps.ClientStep.TheVariants.{Connect, Begin, Change, Read, Commit, Push, Refresh}
+use Rattle.script_text.specs.Steps.{mark_of, object_text, change_word, change_text, change_line, spelling, IsSound, IsStep}
 use Rattle.script_text.proofs.Cuts.{one_split, no_split}
 
-pub name_plain : (name : List ℕ) → IsName name → All (λ x. x ≢ 32) name
+-- no space is among the bytes
+abbrev pub IsPlain : List ℕ → Type 0
+IsPlain bytes = All (λ b. b ≢ 32) bytes
+
+-- whether no space is among the bytes
+abbrev is_plain : List ℕ → Bool
+is_plain [] = true
+is_plain (b ∷ bs) = not (b == 32) && is_plain bs
+
+plain : (bytes : List ℕ) → is_plain bytes ≡ true → IsPlain bytes
+plain [] all = All-nil (λ x. x ≢ 32)
+plain (b ∷ bs) all =
+    let parts = and_parts (not (b == 32)) (is_plain bs) all in
+    let other : b ≢ 32 = (let test : not (b == 32) ≡ true = parts.0 in λ e. absurd (grind arith)) in
+    All-cons (λ x. x ≢ 32) b bs other (plain bs parts.1)
+
+pub name_plain : (name : List ℕ) → IsName name → IsPlain name
 name_plain name h = All-weaker IsNameByte (λ x. x ≢ 32) (λ x b. elim b [ inl r ↦ omega arith | inr (inl r) ↦ omega arith | inr (inr r) ↦ omega arith ]) name h.each
 
--- what stands behind the sort is the name
-counter_text : (object : ObjectId) → object.sort ≡ Counter → object_text object ≡ codes "c." ++ object.name
-counter_text object sort = ap (λ s. mark_of s ++ object.name) sort
+word_plain : (change : ChangeOf) → IsPlain (change_word change)
+word_plain (Inc delta) = plain (codes "inc") refl
+word_plain (Write word) = plain (codes "set") refl
+word_plain (Add word) = plain (codes "add") refl
+word_plain (Remove word) = plain (codes "del") refl
+word_plain (Put key word) = plain (codes "put") refl
+word_plain (Erase key) = plain (codes "drop") refl
 
--- the first letter of a step's word
-abbrev fourth : List ℕ → ℕ
-fourth text = get_or text 3 0
+mark_plain : (sort : Sort) → IsPlain (mark_of sort)
+mark_plain Counter = plain (codes "c.") refl
+mark_plain Register = plain (codes "r.") refl
+mark_plain Set = plain (codes "s.") refl
+mark_plain Map = plain (codes "m.") refl
 
--- a step whose line is an inc, with the parts of that line
-pub record IsIncOf (text : List ℕ) (step : ClientStep) : Type 0 where
-  pub object : ObjectId
-  pub delta : ℤ
-  pub is_inc : step ≡ Inc object delta
-  pub sort : object.sort ≡ Counter
-  pub name : IsName object.name
-  pub range : IsDelta delta
-  pub parts : object.name ++ 32 ∷ signed_decimal delta ≡ text
+object_plain : (object : ObjectId) → IsName object.name → IsPlain (object_text object)
+object_plain object name = All-append (λ x. x ≢ 32) (mark_of object.sort) object.name (mark_plain object.sort) (name_plain object.name name)
 
-pub inc_parts : (step : ClientStep) (text : List ℕ) → IsStep step → spelling step ≡ codes "c1 inc c." ++ text → IsIncOf text step
-inc_parts (Connect centre) text is e = absurd (let c : 99 ≡ 105 = ap fourth e in omega arith)
-inc_parts Begin text is e = absurd (let b : 98 ≡ 105 = ap fourth e in omega arith)
-inc_parts (Inc object delta) text is e = record {
-  object = object;
-  delta = delta;
-  is_inc = refl;
-  sort = is.0;
-  name = is.1;
-  range = is.2;
-  parts = ap (drop 9) (sym (ap (λ t. codes "c1 inc " ++ (t ++ 32 ∷ signed_decimal delta)) (counter_text object is.0)) ∙ e);
-}
-inc_parts (Read object) text is e = absurd (let r : 114 ≡ 105 = ap fourth e in omega arith)
-inc_parts Commit text is e = absurd (let c : 99 ≡ 105 = ap fourth e in omega arith)
-inc_parts Push text is e = absurd (let p : 112 ≡ 105 = ap fourth e in omega arith)
-inc_parts Refresh text is e = absurd (let r : 114 ≡ 105 = ap fourth e in omega arith)
+-- a change without a first space is none
+pub no_change : (object : ObjectId) (change : ChangeOf) (text : List ℕ) → IsPlain text → change_line object change ≡ text → ⊥
+no_change object change text all e = no_split 32 text (change_word change) (object_text object ++ 32 ∷ change_text change) all e
 
--- without a space no inc is spelled
-pub inc_unspaced : (step : ClientStep) (text : List ℕ) → All (λ x. x ≢ 32) text → IsStep step → spelling step ≡ codes "c1 inc c." ++ text → ⊥
-inc_unspaced step text plain is e = let p = inc_parts step text is e in no_split 32 text p.object.name (signed_decimal p.delta) plain p.parts
+-- the word of a change, and what stands behind it
+pub change_cut : (object : ObjectId) (change : ChangeOf) (text word rest : List ℕ) → text ≡ word ++ 32 ∷ rest → IsPlain word → change_line object change ≡ text → (change_word change ≡ word) × (object_text object ++ 32 ∷ change_text change ≡ rest)
+change_cut object change text word rest cut whole e = one_split 32 (change_word change) word (object_text object ++ 32 ∷ change_text change) rest (word_plain change) whole (e ∙ cut)
 
--- the inc that is spelled has the parts round the first space
-pub inc_cut : (step : ClientStep) (text name number : List ℕ) → text ≡ name ++ 32 ∷ number → All (λ x. x ≢ 32) name → IsStep step → spelling step ≡ codes "c1 inc c." ++ text → (p : IsIncOf text step) × (p.object.name ≡ name) × (signed_decimal p.delta ≡ number)
-inc_cut step text name number cut plain is e =
-    let p = inc_parts step text is e in
-    let same = one_split 32 p.object.name name (signed_decimal p.delta) number (name_plain p.object.name p.name) plain (p.parts ∙ cut) in
+-- the object of a change, and what the change says of it
+pub object_cut : (object : ObjectId) (said rest text more : List ℕ) → IsName object.name → rest ≡ text ++ 32 ∷ more → IsPlain text → object_text object ++ 32 ∷ said ≡ rest → (object_text object ≡ text) × (said ≡ more)
+object_cut object said rest text more name cut whole e = one_split 32 (object_text object) text said more (object_plain object name) whole (e ∙ cut)
+
+-- the letter that a word begins with
+abbrev first : List ℕ → ℕ
+first word = get_or word 0 0
+
+-- a put, with its key and its word
+pub record IsPutOf (said : List ℕ) (change : ChangeOf) : Type 0 where
+  pub key : List ℕ
+  pub word : List ℕ
+  pub is_put : change ≡ Put key word
+  pub key_name : IsName key
+  pub word_name : IsName word
+  pub parts : key ++ 32 ∷ word ≡ said
+
+pub put_parts : (change : ChangeOf) (said : List ℕ) → IsSound change → change_word change ≡ codes "put" → change_text change ≡ said → IsPutOf said change
+put_parts (Inc delta) said is word e = absurd (let i : 105 ≡ 112 = ap first word in omega arith)
+put_parts (Write name) said is word e = absurd (let s : 115 ≡ 112 = ap first word in omega arith)
+put_parts (Add name) said is word e = absurd (let a : 97 ≡ 112 = ap first word in omega arith)
+put_parts (Remove name) said is word e = absurd (let d : 100 ≡ 112 = ap first word in omega arith)
+put_parts (Put key name) said is word e = record { key = key; word = name; is_put = refl; key_name = is.0; word_name = is.1; parts = e }
+put_parts (Erase key) said is word e = absurd (let d : 100 ≡ 112 = ap first word in omega arith)
+
+-- its parts are those round the first space
+pub put_cut : (change : ChangeOf) (said key word : List ℕ) → said ≡ key ++ 32 ∷ word → IsPlain key → IsSound change → change_word change ≡ codes "put" → change_text change ≡ said → (p : IsPutOf said change) × (p.key ≡ key) × (p.word ≡ word)
+put_cut change said key word cut whole is put e =
+    let p = put_parts change said is put e in
+    let same = one_split 32 p.key key p.word word (name_plain p.key p.key_name) whole (p.parts ∙ cut) in
     (p, same.0, same.1)
-
-counter_same : (object : ObjectId) (name : List ℕ) → object.sort ≡ Counter → object.name ≡ name → record { sort = Counter; name = name } ≡ object
-counter_same object name sort same = let sort' = sym sort in let name' = sym same in λ i. record { sort = sort' i; name = name' i }
-
--- the inc of this counter and this delta
-pub inc_same : (step : ClientStep) (text : List ℕ) (p : IsIncOf text step) (object : ObjectId) (name : List ℕ) (delta other : ℤ) → object ≡ record { sort = Counter; name = name } → p.object.name ≡ name → delta ≡ other → Some other ≡ Some p.delta → Some (Inc object delta) ≡ Some step
-inc_same step text p object name delta other of_name same number exact =
-    let the_object : object ≡ p.object = of_name ∙ counter_same p.object name p.sort same in
-    let spelled : step ≡ Inc p.object p.delta = p.is_inc in
-    cc
 
 pub one_connect : (text : List ℕ) → text ≡ codes "c1 connect 1" → codes "c1 connect " ++ decimal 1 ≡ text
 one_connect text e = ap (λ t. codes "c1 connect " ++ t) (decimal_digit 1 (lit< tt)) ∙ sym e
 
--- a step that none of the lines spells
-pub no_line : (step : ClientStep) (text : List ℕ) → IsStep step → spelling step ≡ text → (text ≢ codes "c1 connect 1") → (text ≢ codes "c1 begin") → (text ≢ codes "c1 commit") → (text ≢ codes "c1 push") → (text ≢ codes "c1 refresh") → ((rest : List ℕ) → codes "c1 read c." ++ rest ≢ text) → ((rest : List ℕ) → codes "c1 inc c." ++ rest ≢ text) → ⊥
-no_line (Connect centre) text is e connect begin commit push refresh read inc = connect (sym e ∙ (ap (λ n. codes "c1 connect " ++ decimal n) is ∙ one_connect (codes "c1 connect 1") refl))
-no_line Begin text is e connect begin commit push refresh read inc = begin (sym e)
-no_line (Inc object delta) text is e connect begin commit push refresh read inc = inc (object.name ++ 32 ∷ signed_decimal delta) (sym (ap (λ t. codes "c1 inc " ++ (t ++ 32 ∷ signed_decimal delta)) (counter_text object is.0)) ∙ e)
-no_line (Read object) text is e connect begin commit push refresh read inc = read object.name (sym (ap (λ t. codes "c1 read " ++ t) (counter_text object is.0)) ∙ e)
-no_line Commit text is e connect begin commit push refresh read inc = commit (sym e)
-no_line Push text is e connect begin commit push refresh read inc = push (sym e)
-no_line Refresh text is e connect begin commit push refresh read inc = refresh (sym e)
+-- a line that is none of the others is a change, which is found
+pub change_left : (step : ClientStep) (text rest : List ℕ) (found : Option ClientStep) → IsStep step → spelling step ≡ text → text ≡ codes "c1 " ++ rest → text ≢ codes "c1 connect 1" → text ≢ codes "c1 begin" → text ≢ codes "c1 commit" → text ≢ codes "c1 push" → text ≢ codes "c1 refresh" → ((object : List ℕ) → codes "c1 read " ++ object ≢ text) → ((object : ObjectId) (change : ChangeOf) → IsStep (Change object change) → change_line object change ≡ rest → found ≡ Some (Change object change)) → found ≡ Some step
+change_left (Connect centre) text rest found is e cut connect begin commit push refresh read change = absurd (connect (sym e ∙ (ap (λ n. codes "c1 connect " ++ decimal n) is ∙ one_connect (codes "c1 connect 1") refl)))
+change_left Begin text rest found is e cut connect begin commit push refresh read change = absurd (begin (sym e))
+change_left (Change object made) text rest found is e cut connect begin commit push refresh read change = change object made is (ap (drop 3) (e ∙ cut))
+change_left (Read object) text rest found is e cut connect begin commit push refresh read change = absurd (read (object_text object) e)
+change_left Commit text rest found is e cut connect begin commit push refresh read change = absurd (commit (sym e))
+change_left Push text rest found is e cut connect begin commit push refresh read change = absurd (push (sym e))
+change_left Refresh text rest found is e cut connect begin commit push refresh read change = absurd (refresh (sym e))

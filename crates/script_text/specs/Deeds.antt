@@ -8,9 +8,11 @@ use Rattle.tx_core.specs.declared.tx.Update.{Update}
 use Rattle.dc_talk.specs.declared.ask.Ask.TheVariants.{Commit as CommitAsk}
 use Rattle.dc_talk.specs.declared.say.Say.{Say}
 use Rattle.dc_talk.specs.declared.say.Say.TheVariants.{Lacks, Welcome, Snap, Object, Known, OutOfOrder, Full, Stamped}
-use Rattle.dc_talk.specs.declared.session.Change.TheVariants.{Inc as IncChange}
+use Rattle.dc_talk.specs.declared.session.Change.{Change as ChangeOf}
+use Rattle.dc_talk.specs.declared.session.Change.TheVariants.{Inc, Write, Add, Remove, Put, Erase}
+use Rattle.dc_talk.specs.declared.session.Call.{Call}
 use Rattle.dc_talk.specs.declared.session.Call.TheVariants.{Begin as BeginCall, Change as ChangeCall, Read as ReadCall, Commit as CommitCall}
-use Rattle.dc_talk.specs.declared.session.Refusal.TheVariants.{AlreadyOpen, ClockFull, NotOpen, TooManyUpdates, PendingFull}
+use Rattle.dc_talk.specs.declared.session.Refusal.TheVariants.{AlreadyOpen, ClockFull, NotOpen, TooManyUpdates, NeedsFetch, TooManyTags, PendingFull}
 use Rattle.dc_talk.specs.declared.session.Outcome.{Outcome}
 use Rattle.dc_talk.specs.declared.session.Outcome.TheVariants.{Got, Number, Nothing, Refused}
 use Rattle.dc_talk.specs.declared.session.Link.{Link}
@@ -19,7 +21,7 @@ use Rattle.dc_talk.specs.declared.log.Deed.{Deed}
 use Rattle.dc_talk.specs.declared.log.Deed.TheVariants.{Did, Asked, Told}
 use Rattle.dc_talk.specs.declared.line.Miss.TheVariants.{Misfit}
 use Rattle.dc_talk.specs.declared.line.StepWord.{StepWord}
-use Rattle.dc_talk.specs.declared.line.StepWord.TheVariants.{Inc as IncWord, Read as ReadWord}
+use Rattle.dc_talk.specs.declared.line.StepWord.TheVariants.{Inc as IncWord, Set as SetWord, Add as AddWord, Del as DelWord, Put as PutWord, Drop as DropWord, Read as ReadWord}
 use Rattle.dc_talk.specs.declared.line.PushEnd.{PushEnd}
 use Rattle.dc_talk.specs.declared.line.PushEnd.TheVariants.{Stamped as StampedEnd, Known as KnownEnd, Full as FullEnd, Order as OrderEnd, Lacks as LacksEnd, Missed as MissedEnd}
 use Rattle.dc_talk.specs.declared.line.Line.{Line}
@@ -28,7 +30,7 @@ use Rattle.dc_talk.specs.Clients.{Client}
 use Rattle.dc_talk.specs.Calls.{outcome_of}
 use Rattle.dc_talk.specs.Rule.{takes, heard, hello_of, refresh_of, fetch_of, next_commit}
 use Rattle.script_text.specs.declared.steps.ClientStep.{ClientStep}
-use Rattle.script_text.specs.declared.steps.ClientStep.TheVariants.{Connect, Begin, Inc, Read, Commit, Push, Refresh}
+use Rattle.script_text.specs.declared.steps.ClientStep.TheVariants.{Connect, Begin, Change, Read, Commit, Push, Refresh}
 
 -- what a centre of which records are missing has, and what is needed of it
 abbrev pub lack : ℕ → ℕ → ℕ → Lack
@@ -46,16 +48,22 @@ begin_told client (Refused AlreadyOpen) = Told (line.BeginOpen client) ∷ []
 begin_told client (Refused ClockFull) = Told (line.BeginClock client) ∷ []
 begin_told client _ = []
 
--- the line of a change of an object, where it has one
-abbrev pub change_told : ℕ → StepWord → ObjectId → Outcome → List Deed
-change_told client word o (Refused NotOpen) = Told (line.Closed client word o) ∷ []
-change_told client word o (Refused (TooManyUpdates limit)) = Told (line.ManyUpdates client word o) ∷ []
-change_told client word o _ = []
+-- the word of the step that makes a change
+abbrev pub word_of : ChangeOf → StepWord
+word_of (Inc delta) = IncWord
+word_of (Write word) = SetWord
+word_of (Add word) = AddWord
+word_of (Remove word) = DelWord
+word_of (Put key word) = PutWord
+word_of (Erase key) = DropWord
 
--- the line of a value that was read
-abbrev pub read_told : ℕ → ObjectId → Outcome → List Deed
-read_told client o (Got value) = Told (line.ReadValue client o value) ∷ []
-read_told client o _ = []
+-- the line of a call on an object, where it has one
+abbrev pub call_told : ℕ → StepWord → ObjectId → Outcome → List Deed
+call_told client word o (Got value) = Told (line.ReadValue client o value) ∷ []
+call_told client word o (Refused NotOpen) = Told (line.Closed client word o) ∷ []
+call_told client word o (Refused (TooManyUpdates limit)) = Told (line.ManyUpdates client word o) ∷ []
+call_told client word o (Refused (TooManyTags count)) = Told (line.ManyTags client word o count) ∷ []
+call_told client word o _ = []
 
 -- the line of a fetch that gave no state
 abbrev pub fetch_line : ℕ → StepWord → ObjectId → Say → Line
@@ -87,35 +95,35 @@ refresh_line client false (Snap vector mine top) = line.RefreshIgnored client
 refresh_line client took (Lacks of need have) = line.RefreshLacks client (lack of need have)
 refresh_line client took _ = line.RefreshMissed client Misfit
 
--- a read call, and its line
-abbrev pub reads : Client → ObjectId → List Deed
-reads s o = Did (ReadCall o) (outcome_of s (ReadCall o)) ∷ read_told s.client o (outcome_of s (ReadCall o))
+-- a call on an object, and its line
+abbrev pub calls : Client → StepWord → ObjectId → Call → List Deed
+calls s word o call = Did call (outcome_of s call) ∷ call_told s.client word o (outcome_of s call)
 
 -- what follows a fetch that was answered so: where the state was taken the call again, and else the
--- line that says why there is no value
-abbrev pub after_fetch : Client → ℕ → ObjectId → Say → List Deed
-after_fetch s i o say = cond (takes s i (fetch_of s o) say) (reads (heard s i (fetch_of s o) say) o) (Told (fetch_line s.client ReadWord o say) ∷ [])
+-- line that says why not
+abbrev pub after_fetch : Client → ℕ → StepWord → ObjectId → Call → Say → List Deed
+after_fetch s i word o call say = cond (takes s i (fetch_of s o) say) (calls (heard s i (fetch_of s o) say) word o call) (Told (fetch_line s.client word o say) ∷ [])
 
--- a fetch for a read
-pub record Fetches (s : Client) (i : ℕ) (o : ObjectId) (deeds : List Deed) : Type 0 where
+-- a fetch for a call
+pub record Fetches (s : Client) (i : ℕ) (word : StepWord) (o : ObjectId) (call : Call) (deeds : List Deed) : Type 0 where
   pub say : Say
-  pub are : deeds ≡ Asked i (fetch_of s o) (Heard say) ∷ after_fetch s i o say
+  pub are : deeds ≡ Asked i (fetch_of s o) (Heard say) ∷ after_fetch s i word o call say
 
--- what follows a read that has to fetch
-abbrev pub FetchesOver : Client → Option Link → ObjectId → List Deed → Type 0
-FetchesOver s None o deeds = deeds ≡ Told (line.Unconnected s.client ReadWord o) ∷ []
-FetchesOver s (Some link) o deeds = Fetches s link.centre o deeds
+-- what follows a call that has to fetch
+abbrev pub FetchesOver : Client → Option Link → StepWord → ObjectId → Call → List Deed → Type 0
+FetchesOver s None word o call deeds = deeds ≡ Told (line.Unconnected s.client word o) ∷ []
+FetchesOver s (Some link) word o call deeds = Fetches s link.centre word o call deeds
 
--- a read that had to fetch
-pub record ReadsBehind (s : Client) (o : ObjectId) (outcome : Outcome) (deeds : List Deed) : Type 0 where
+-- a call that had to fetch
+pub record CallsBehind (s : Client) (word : StepWord) (o : ObjectId) (call : Call) (deeds : List Deed) : Type 0 where
   pub rest : List Deed
-  pub are : deeds ≡ Did (ReadCall o) outcome ∷ rest
-  pub fetch : FetchesOver s s.link o rest
+  pub are : deeds ≡ Did call (outcome_of s call) ∷ rest
+  pub fetch : FetchesOver s s.link word o call rest
 
--- a read whose first call ended so
-abbrev pub ReadDeeds : Client → ObjectId → Outcome → List Deed → Type 0
-ReadDeeds s o (Got value) deeds = deeds ≡ reads s o
-ReadDeeds s o outcome deeds = ReadsBehind s o outcome deeds
+-- a call on an object whose first try ended so
+abbrev pub CallDeeds : Client → StepWord → ObjectId → Call → Outcome → List Deed → Type 0
+CallDeeds s word o call (Refused (NeedsFetch p)) deeds = CallsBehind s word o call deeds
+CallDeeds s word o call outcome deeds = deeds ≡ calls s word o call
 
 -- a connect to centre i
 pub record Hellos (s : Client) (i : ℕ) (deeds : List Deed) : Type 0 where
@@ -151,8 +159,8 @@ RefreshDeeds s (Some link) None deeds = Refreshes s link.centre deeds
 abbrev pub StepDeeds : Client → ClientStep → List Deed → Type 0
 StepDeeds s (Connect centre) deeds = Hellos s centre deeds
 StepDeeds s Begin deeds = deeds ≡ Did BeginCall (outcome_of s BeginCall) ∷ begin_told s.client (outcome_of s BeginCall)
-StepDeeds s (Inc o delta) deeds = deeds ≡ Did (ChangeCall o (IncChange delta)) (outcome_of s (ChangeCall o (IncChange delta))) ∷ change_told s.client IncWord o (outcome_of s (ChangeCall o (IncChange delta)))
-StepDeeds s (Read o) deeds = ReadDeeds s o (outcome_of s (ReadCall o)) deeds
+StepDeeds s (Change o change) deeds = CallDeeds s (word_of change) o (ChangeCall o change) (outcome_of s (ChangeCall o change)) deeds
+StepDeeds s (Read o) deeds = CallDeeds s ReadWord o (ReadCall o) (outcome_of s (ReadCall o)) deeds
 StepDeeds s Commit deeds = deeds ≡ Did CommitCall (outcome_of s CommitCall) ∷ commit_told s.client (outcome_of s CommitCall)
 StepDeeds s Push deeds = PushDeeds s s.link deeds
 StepDeeds s Refresh deeds = RefreshDeeds s s.link s.draft deeds

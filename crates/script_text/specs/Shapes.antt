@@ -2,37 +2,37 @@
 use Rattle.std.specs.Prelude.{◌≡◌, ◌≤◌, ◌⊎◌, ℕ, Bool, true, false, List, [], ◌∷◌, ◌++◌, All, count_by}
 use Rattle.std.specs.List.{flat_map}
 use Rattle.script_text.specs.declared.steps.ClientStep.{ClientStep}
-use Rattle.script_text.specs.declared.steps.ClientStep.TheVariants.{Connect, Begin, Inc, Read, Commit, Push, Refresh}
+use Rattle.script_text.specs.declared.steps.ClientStep.TheVariants.{Connect, Begin, Change, Read, Commit, Push, Refresh}
 
--- an `inc`
-abbrev pub is_inc : ClientStep → Bool
-is_inc (Connect centre) = false
-is_inc Begin = false
-is_inc (Inc object delta) = true
-is_inc (Read object) = false
-is_inc Commit = false
-is_inc Push = false
-is_inc Refresh = false
+-- a change of an object
+abbrev pub is_change : ClientStep → Bool
+is_change (Connect centre) = false
+is_change Begin = false
+is_change (Change object change) = true
+is_change (Read object) = false
+is_change Commit = false
+is_change Push = false
+is_change Refresh = false
 
--- how many of the steps are an `inc`
-abbrev pub incs_in : List ClientStep → ℕ
-incs_in steps = count_by is_inc steps
+-- how many of the steps are changes
+abbrev pub changes_in : List ClientStep → ℕ
+changes_in steps = count_by is_change steps
 
 -- a step of a transaction between its begin and its commit
 abbrev pub IsOfBody : ClientStep → Type 0
 IsOfBody (Connect centre) = ⊥
 IsOfBody Begin = ⊥
-IsOfBody (Inc object delta) = Unit {0}
+IsOfBody (Change object change) = Unit {0}
 IsOfBody (Read object) = Unit {0}
 IsOfBody Commit = ⊥
 IsOfBody Push = ⊥
 IsOfBody Refresh = ⊥
 
--- what stands between begin and commit: 1 to 256 incs and any number of reads
+-- what stands between begin and commit: 1 to 256 changes and any number of reads
 pub record IsBody (body : List ClientStep) : Type 0 where
   pub each : All IsOfBody body
-  pub some : 1 ≤ incs_in body
-  pub most : incs_in body ≤ 256
+  pub some : 1 ≤ changes_in body
+  pub most : changes_in body ≤ 256
 
 -- a block: begin, its body, commit, push and refresh
 abbrev pub block_of : List ClientStep → List ClientStep

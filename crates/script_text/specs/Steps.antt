@@ -4,23 +4,51 @@ use Rattle.std.specs.Fmt.{signed_decimal}
 use Rattle.ids_core.specs.Name.{IsName}
 use Rattle.ids_core.specs.declared.object.ObjectId.{ObjectId}
 use Rattle.ids_core.specs.declared.object.Sort.{Sort}
-use Rattle.ids_core.specs.declared.object.Sort.TheVariants.{Counter}
+use Rattle.ids_core.specs.declared.object.Sort.TheVariants.{Counter, Register, Set, Map}
+use Rattle.dc_talk.specs.declared.session.Change.{Change as ChangeOf}
+use Rattle.dc_talk.specs.declared.session.Change.TheVariants.{Inc, Write, Add, Remove, Put, Erase}
+use Rattle.dc_talk.specs.Calls.{kind_of}
 use Rattle.script_text.specs.declared.steps.ClientStep.{ClientStep}
-use Rattle.script_text.specs.declared.steps.ClientStep.TheVariants.{Connect, Begin, Inc, Read, Commit, Push, Refresh}
+use Rattle.script_text.specs.declared.steps.ClientStep.TheVariants.{Connect, Begin, Change, Read, Commit, Push, Refresh}
 
 -- what stands before the name of an object of this sort
 abbrev pub mark_of : Sort → List ℕ
 mark_of Counter = codes "c."
+mark_of Register = codes "r."
+mark_of Set = codes "s."
+mark_of Map = codes "m."
 
 -- an object as a script names it
 abbrev pub object_text : ObjectId → List ℕ
 object_text object = mark_of object.sort ++ object.name
 
+-- the word of a change
+abbrev pub change_word : ChangeOf → List ℕ
+change_word (Inc delta) = codes "inc"
+change_word (Write word) = codes "set"
+change_word (Add word) = codes "add"
+change_word (Remove word) = codes "del"
+change_word (Put key word) = codes "put"
+change_word (Erase key) = codes "drop"
+
+-- what a change says of its object: its delta, its word, its key, or its key and its word
+abbrev pub change_text : ChangeOf → List ℕ
+change_text (Inc delta) = signed_decimal delta
+change_text (Write word) = word
+change_text (Add word) = word
+change_text (Remove word) = word
+change_text (Put key word) = key ++ 32 ∷ word
+change_text (Erase key) = key
+
+-- a change of an object: its word, the object, and what it says of it
+abbrev pub change_line : ObjectId → ChangeOf → List ℕ
+change_line object change = change_word change ++ 32 ∷ (object_text object ++ 32 ∷ change_text change)
+
 -- the line of a step, made by client 1
 abbrev pub spelling : ClientStep → List ℕ
 spelling (Connect centre) = codes "c1 connect " ++ decimal centre
 spelling Begin = codes "c1 begin"
-spelling (Inc object delta) = codes "c1 inc " ++ (object_text object ++ 32 ∷ signed_decimal delta)
+spelling (Change object change) = codes "c1 " ++ change_line object change
 spelling (Read object) = codes "c1 read " ++ object_text object
 spelling Commit = codes "c1 commit"
 spelling Push = codes "c1 push"
@@ -30,12 +58,22 @@ spelling Refresh = codes "c1 refresh"
 abbrev pub IsDelta : ℤ → Type 0
 IsDelta delta = (negsuc 999999999999 ≤ℤ delta) × (delta ≤ℤ pos 1000000000000)
 
--- a step that a script may hold: its centre is the one that there is, its object and its delta are in range
+-- the delta of a change is in range, and its words and keys are names
+abbrev pub IsSound : ChangeOf → Type 0
+IsSound (Inc delta) = IsDelta delta
+IsSound (Write word) = IsName word
+IsSound (Add word) = IsName word
+IsSound (Remove word) = IsName word
+IsSound (Put key word) = IsName key × IsName word
+IsSound (Erase key) = IsName key
+
+-- a step that a script may hold: its centre is the one that there is, its object has a name, and its
+-- change is sound and one of the object's sort
 abbrev pub IsStep : ClientStep → Type 0
 IsStep (Connect centre) = centre ≡ 1
 IsStep Begin = Unit {0}
-IsStep (Inc object delta) = (object.sort ≡ Counter) × IsName object.name × IsDelta delta
-IsStep (Read object) = (object.sort ≡ Counter) × IsName object.name
+IsStep (Change object change) = (object.sort ≡ kind_of change) × IsName object.name × IsSound change
+IsStep (Read object) = IsName object.name
 IsStep Commit = Unit {0}
 IsStep Push = Unit {0}
 IsStep Refresh = Unit {0}

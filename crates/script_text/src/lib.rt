@@ -2,11 +2,13 @@
 //! the steps stand.
 #![tactic(auto)]
 
+mod change;
 mod cut;
 mod input;
 mod limits;
 mod line;
 mod number;
+mod object;
 mod script;
 mod shape;
 mod steps;

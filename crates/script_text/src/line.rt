@@ -1,14 +1,19 @@
 // Reads a line as a step.
-ghost use Rattle.std.specs.Prelude.{◌≡◌, ◌∷◌, ◌++◌, ℕ, ℤ, List, Some, IfSome, IfNone, codes};
-ghost use Rattle.std.specs.Fmt.{signed_decimal};
+ghost use Rattle.std.specs.Prelude.{◌≡◌, ◌∷◌, ◌++◌, Some, IfSome, codes};
 ghost use Rattle.ids_core.specs.Name.{IsName};
+ghost use Rattle.ids_core.specs.declared.object.ObjectId.{ObjectId as Object};
+ghost use Rattle.dc_talk.specs.declared.session.Change.{Change as ChangeOf};
+ghost use Rattle.dc_talk.specs.Calls.{kind_of};
 ghost use Rattle.script_text.specs.declared.steps.ClientStep.{ClientStep as Step};
-ghost use Rattle.script_text.specs.Steps.{IsDelta, IsStep, spelling};
+ghost use Rattle.script_text.specs.declared.steps.ClientStep.TheVariants.{Change as ChangeStep, Read};
+ghost use Rattle.script_text.specs.Steps.{IsStep, change_line, change_text, change_word, object_text, spelling};
 
+use crate::change::read_change;
 use crate::cut::{at_byte, behind, same_bytes};
-use crate::number::read_delta;
+use crate::object::read_object;
 use crate::steps::ClientStep;
-use ids_core::{Name, ObjectId, Sort};
+use dc_talk::Change;
+use ids_core::{ObjectId, Sort};
 
 /// The one step that a line spells, if it spells one.
 pub fn read_line(text: &[u8]) -> Option<ClientStep>
@@ -30,53 +35,73 @@ pub fn read_line(text: &[u8]) -> Option<ClientStep>
     if same_bytes(text, b"c1 refresh") {
         return Some(ClientStep::Refresh);
     }
-    if let Some(rest) = behind(text, b"c1 read c.") {
-        return read_of(rest);
+    if let Some(object) = behind(text, b"c1 read ") {
+        return read_of(object);
     }
-    match behind(text, b"c1 inc c.") {
-        Some(rest) => inc_of(rest),
+    match behind(text, b"c1 ") {
+        Some(change) => change_of(change),
         None => None,
     }
 }
 
-fn counter(name: Name) -> ObjectId
-    ensures { result ≡ record { sort = Sort.Counter; name = name } }
+// The read of the object that a text names.
+fn read_of(text: &[u8]) -> Option<ClientStep>
+    ensures taken { IfSome result (λ step. IsStep step × (spelling step ≡ codes "c1 read " ++ text.now)) }
+    ensures exact { (object : Object) → IsName object.name → object_text object ≡ text.now → result ≡ Some (Read object) }
 {
-    ObjectId {
-        sort: Sort::Counter,
-        name,
+    match read_object(text) {
+        Some(object) => Some(ClientStep::Read { object }),
+        None => None,
     }
 }
 
-// The read of the counter with this name.
-fn read_of(name: &[u8]) -> Option<ClientStep>
-    ensures taken { IfSome result (λ step. IsStep step × (spelling step ≡ codes "c1 read c." ++ name.now)) }
-    ensures exact { (step : Step) → IsStep step → spelling step ≡ codes "c1 read c." ++ name.now → result ≡ Some step }
-{
-    match Name::read(name) {
-        Ok(name) => Some(ClientStep::Read {
-            object: counter(name),
-        }),
-        Err(_) => None,
-    }
-}
-
-// The inc of a counter, from its name, a space and its delta.
-fn inc_of(text: &[u8]) -> Option<ClientStep>
-    ensures taken { IfSome result (λ step. IsStep step × (spelling step ≡ codes "c1 inc c." ++ text.now)) }
-    ensures exact { (step : Step) → IsStep step → spelling step ≡ codes "c1 inc c." ++ text.now → result ≡ Some step }
+// The change of an object that a text is.
+fn change_of(text: &[u8]) -> Option<ClientStep>
+    ensures taken { IfSome result (λ step. IsStep step × (spelling step ≡ codes "c1 " ++ text.now)) }
+    ensures exact { (object : Object) (change : ChangeOf) → IsStep (ChangeStep object change) → change_line object change ≡ text.now → result ≡ Some (ChangeStep object change) }
 {
     match at_byte(text, b' ') {
-        Some((name, number)) => match Name::read(name) {
-            Ok(name) => match read_delta(number) {
-                Some(delta) => Some(ClientStep::Inc {
-                    object: counter(name),
-                    delta,
-                }),
-                None => None,
-            },
-            Err(_) => None,
+        Some((word, rest)) => match at_byte(rest, b' ') {
+            Some((object, said)) => change_in(word, object, said),
+            None => None,
         },
         None => None,
+    }
+}
+
+// The change that has this word and says this of the object that a text names.
+fn change_in(word: &[u8], object: &[u8], said: &[u8]) -> Option<ClientStep>
+    ensures taken { IfSome result (λ step. IsStep step × (spelling step ≡ codes "c1 " ++ (word.now ++ 32 ∷ (object.now ++ 32 ∷ said.now)))) }
+    ensures exact { (o : Object) (change : ChangeOf) → IsStep (ChangeStep o change) → change_word change ≡ word.now → object_text o ≡ object.now → change_text change ≡ said.now → result ≡ Some (ChangeStep o change) }
+{
+    match read_object(object) {
+        Some(object) => match read_change(word, said) {
+            Some(change) => fitting(object, change),
+            None => None,
+        },
+        None => None,
+    }
+}
+
+// The change of the object, where it is one of the object's kind.
+fn fitting(object: ObjectId, change: Change) -> Option<ClientStep>
+    ensures taken { IfSome result (λ step. (object.sort ≡ kind_of change) × (step ≡ ChangeStep object change)) }
+    ensures exact { object.sort ≡ kind_of change → result ≡ Some (ChangeStep object change) }
+{
+    if object.sort == sort_of(&change) {
+        Some(ClientStep::Change { object, change })
+    } else {
+        None
+    }
+}
+
+fn sort_of(change: &Change) -> Sort
+    ensures { result ≡ kind_of change.now }
+{
+    match change {
+        Change::Inc { .. } => Sort::Counter,
+        Change::Write { .. } => Sort::Register,
+        Change::Add { .. } | Change::Remove { .. } => Sort::Set,
+        Change::Put { .. } | Change::Erase { .. } => Sort::Map,
     }
 }

@@ -1,6 +1,6 @@
 // Reads a script.
 ghost use Rattle.std.specs.Prelude.{◌≡◌, ◌≤◌, length, ◌∷◌, ◌++◌, ◌↔◌, List, ℕ, Err, IsTrue, IfOk, IfSome, IfNone};
-ghost use Rattle.script_text.specs.declared.script.ScriptFault.TheVariants.{NoMemory};
+ghost use Rattle.script_text.specs.declared.script.ScriptFault.TheVariants.{NoMemory as no_memory};
 ghost use Rattle.script_text.specs.declared.script.Script.{Script as Told};
 ghost use Rattle.script_text.specs.declared.steps.ClientStep.{ClientStep as Step};
 ghost use Rattle.script_text.specs.Limits.{PassesLimits};
@@ -12,7 +12,8 @@ use crate::input::Input;
 use crate::line::read_line;
 use crate::shape::Shape;
 use crate::steps::Steps;
-use std::alloc::{AllocFailed, Global};
+use ids_core::NoMemory;
+use std::alloc::Global;
 
 /// A script: its settings and its steps.
 #[derive(Debug, Drop)]
@@ -39,10 +40,10 @@ pub enum ScriptFault {
     NoMemory,
 }
 
-impl<T: Drop> From<AllocFailed<T>> for ScriptFault {
-    ghost from_gives = { λ _ e. e ≡ NoMemory };
+impl From<NoMemory> for ScriptFault {
+    ghost from_gives = { λ _ e. e ≡ no_memory };
 
-    fn from(_: AllocFailed<T>) -> Self {
+    fn from(_: NoMemory) -> Self {
         ScriptFault::NoMemory
     }
 }
@@ -107,7 +108,7 @@ fn parse_steps(alloc: Global, text: &[u8]) -> Result<Steps, ScriptFault>
     ensures taken { IfOk result (λ steps. AreSteps (lines_of text.now) steps) }
     ensures refused { result ≡ Err ScriptFault.Refused → (steps : List Step) → AreSteps (lines_of text.now) steps → ⊥ }
 {
-    let mut steps = Vec::new(alloc);
+    let mut steps = Steps::new(alloc);
     let mut shape = Shape::Empty;
     let mut rest = text;
     'lines: while let Some((line, more)) = at_line(rest) {
@@ -121,5 +122,5 @@ fn parse_steps(alloc: Global, text: &[u8]) -> Result<Steps, ScriptFault>
         shape = next;
         rest = more;
     }
-    Ok(Steps::from_vec(steps))
+    Ok(steps)
 }

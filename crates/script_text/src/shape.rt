@@ -6,16 +6,16 @@ ghost use Rattle.script_text.specs.Reaches.{IsOpen, Reaches};
 
 use crate::steps::ClientStep;
 
-/// The most incs of a transaction.
-const MAX_INCS: u16 = 256;
+/// The most changes of a transaction.
+const MAX_CHANGES: u16 = 256;
 
 /// How far the steps came: to none, to the connect or the end of a block, into a transaction with so
-/// many incs, or to the commit or the push behind it. A script may end at each.
+/// many changes, or to the commit or the push behind it. A script may end at each.
 #[derive(Clone, Copy, Debug)]
 pub enum Shape {
     Empty,
     Connected,
-    Open { incs: u16 },
+    Open { changes: u16 },
     Committed,
     Pushed,
 }
@@ -32,10 +32,10 @@ impl Shape {
                 _ => None,
             },
             Shape::Connected => match step {
-                ClientStep::Begin => Some(Shape::Open { incs: 0 }),
+                ClientStep::Begin => Some(Shape::Open { changes: 0 }),
                 _ => None,
             },
-            Shape::Open { incs } => after_open(incs, step),
+            Shape::Open { changes } => after_open(changes, step),
             Shape::Committed => match step {
                 ClientStep::Push => Some(Shape::Pushed),
                 _ => None,
@@ -48,21 +48,23 @@ impl Shape {
     }
 }
 
-fn after_open(incs: u16, step: &ClientStep) -> Option<Shape>
-    ensures taken { IfSome result (λ next. (steps : List Step) → IsOpen incs steps → Reaches next (steps ++ step.now ∷ [])) }
-    ensures refused { IfNone result ((steps more : List Step) → IsOpen incs steps → IsShape (steps ++ step.now ∷ more) → ⊥) }
+fn after_open(changes: u16, step: &ClientStep) -> Option<Shape>
+    ensures taken { IfSome result (λ next. (steps : List Step) → IsOpen changes steps → Reaches next (steps ++ step.now ∷ [])) }
+    ensures refused { IfNone result ((steps more : List Step) → IsOpen changes steps → IsShape (steps ++ step.now ∷ more) → ⊥) }
 {
     match step {
-        ClientStep::Inc { .. } => {
-            if incs < MAX_INCS {
-                Some(Shape::Open { incs: incs + 1 })
+        ClientStep::Change { .. } => {
+            if changes < MAX_CHANGES {
+                Some(Shape::Open {
+                    changes: changes + 1,
+                })
             } else {
                 None
             }
         }
-        ClientStep::Read { .. } => Some(Shape::Open { incs }),
+        ClientStep::Read { .. } => Some(Shape::Open { changes }),
         ClientStep::Commit => {
-            if incs > 0 {
+            if changes > 0 {
                 Some(Shape::Committed)
             } else {
                 None

@@ -1,7 +1,9 @@
 // The steps of a script.
-ghost use Rattle.std.specs.Prelude.{◌≡◌, length};
+ghost use Rattle.std.specs.Prelude.{◌≡◌, ◌∷◌, ◌++◌, [], length, OnOk, OnErr};
 
-use ids_core::ObjectId;
+use dc_talk::Change;
+use ids_core::{NoMemory, ObjectId};
+use std::alloc::Global;
 use std::marker::Model;
 
 /// What a client does in one step.
@@ -11,8 +13,8 @@ pub enum ClientStep {
     Connect { centre: u8 },
     /// Opens a transaction.
     Begin,
-    /// Adds to a counter, from -10^12 to 10^12.
-    Inc { object: ObjectId, delta: i64 },
+    /// Changes an object of the change's kind; a delta is from -10^12 to 10^12.
+    Change { object: ObjectId, change: Change },
     /// Reads an object.
     Read { object: ObjectId },
     /// Ends the transaction.
@@ -39,11 +41,27 @@ impl Model for Steps {
 }
 
 impl Steps {
-    /// The steps in this order.
-    pub fn from_vec(items: Vec<ClientStep>) -> Self
-        ensures { result ≡ items.items }
+    /// No steps.
+    pub fn new(alloc: Global) -> Self
+        ensures { result ≡ [] }
     {
-        Steps { items }
+        Steps {
+            items: Vec::new(alloc),
+        }
+    }
+
+    /// Puts a step behind the others. Nothing changes where memory is refused.
+    pub fn push(&mut self, step: ClientStep) -> Result<(), NoMemory>
+        ensures ok { OnOk result (self.new ≡ self.old ++ step ∷ []) }
+        ensures err { OnErr result (self.new ≡ self.old) }
+    {
+        // A change is taken apart, since the proof of the push has to name its type.
+        let step = match step {
+            ClientStep::Change { object, change } => ClientStep::Change { object, change },
+            other => other,
+        };
+        self.items.push(step)?;
+        Ok(())
     }
 
     /// The steps in their order.

@@ -18,7 +18,6 @@ use Rattle.dc_talk.specs.Clients.{Client}
 use Rattle.dc_talk.specs.Calls.{Ends, outcome_of}
 use Rattle.dc_talk.specs.Rule.{after, takes, Gives}
 use Rattle.dc_talk.specs.declared.line.Line.TheVariants as line
-use Rattle.dc_talk.specs.declared.line.StepWord.TheVariants.{Read as ReadWord}
 use Rattle.script_text.specs.Deeds.{hello_line, fetch_line, push_end, refresh_line}
 use Rattle.swift_sim.specs.declared.purpose.Purpose.{Purpose}
 use Rattle.swift_sim.specs.declared.purpose.Purpose.TheVariants.{Connect, Fetch, Push, Refresh}
@@ -77,8 +76,8 @@ pub record CallTold (p q : Playing) (call : Call) (told : Outcome → List Deed)
   pub are : deeds ≡ Did call (outcome_of p.client call) ∷ told (outcome_of p.client call)
   pub grows : Grows p q deeds
 
-pub call_told : (p r q : Playing) (call : Call) (outcome : Outcome) (line : Option Line) (told : Outcome → List Deed) → Ends p.client r.client call outcome → r ≡ record p { client = r.client } → told_of line ≡ told outcome → q ≡ record r { log = noted_all (noted_all r.log (Did call outcome ∷ [])) (told_of line) } → CallTold p q call told
-call_told p r q call outcome line told ends rest lines is =
+pub noted_call : (p r q : Playing) (call : Call) (outcome : Outcome) (line : Option Line) (told : Outcome → List Deed) → Ends p.client r.client call outcome → r ≡ record p { client = r.client } → told_of line ≡ told outcome → q ≡ record r { log = noted_all (noted_all r.log (Did call outcome ∷ [])) (told_of line) } → CallTold p q call told
+noted_call p r q call outcome line told ends rest lines is =
     let noted : Playing = record p { client = r.client; log = noted_all p.log (Did call outcome ∷ []) } in
     let whole : q ≡ record noted { log = noted_all noted.log (told_of line) } = is ∙ ap (λ (r : Playing). record r { log = noted_all (noted_all r.log (Did call outcome ∷ [])) (told_of line) }) rest in
     record {
@@ -90,8 +89,8 @@ call_told p r q call outcome line told ends rest lines is =
 -- lines that are told
 grows_lines : (purpose : Purpose) (p : Playing) (client i : ℕ) (took : Bool) (say : Say) → Grows p (record p { log = noted_all p.log (told_after purpose client i took say) }) (told_after purpose client i took say)
 grows_lines Connect p client i took say = grows_told p (Some (hello_line client i say))
-grows_lines (Fetch o) p client i true say = grows_told p None
-grows_lines (Fetch o) p client i false say = grows_told p (Some (fetch_line client ReadWord o say))
+grows_lines (Fetch word o) p client i true say = grows_told p None
+grows_lines (Fetch word o) p client i false say = grows_told p (Some (fetch_line client word o say))
 grows_lines (Push number) p client i took say = grows_told p (Some (line.Push client number (push_end say)))
 grows_lines Refresh p client i took say = grows_told p (Some (refresh_line client took say))
 

@@ -9,9 +9,8 @@ use Rattle.dc_talk.specs.declared.say.Say.{Say}
 use Rattle.dc_talk.specs.declared.say.Say.TheVariants.{Welcome, Snap, Object, Known, Stamped}
 use Rattle.dc_talk.specs.declared.session.Link.{Link}
 use Rattle.dc_talk.specs.declared.session.Call.{Call}
-use Rattle.dc_talk.specs.declared.session.Call.TheVariants.{Begin as BeginCall, Change as ChangeCall, Read as ReadCall, Commit as CommitCall}
-use Rattle.dc_talk.specs.declared.session.Change.TheVariants.{Inc as IncChange}
-use Rattle.dc_talk.specs.declared.session.Refusal.TheVariants.{AlreadyOpen, ClockFull, NotOpen, TooManyUpdates, PendingFull}
+use Rattle.dc_talk.specs.declared.session.Call.TheVariants.{Begin as BeginCall, Change as ChangeCall, Read as ReadCall, Commit as CommitCall, Abort as AbortCall}
+use Rattle.dc_talk.specs.declared.session.Refusal.TheVariants.{AlreadyOpen, ClockFull, NotOpen, TooManyUpdates, NeedsFetch, TooManyTags, PendingFull}
 use Rattle.dc_talk.specs.declared.session.Outcome.{Outcome}
 use Rattle.dc_talk.specs.declared.session.Outcome.TheVariants.{Fine, Got, Number, Nothing, Refused}
 use Rattle.dc_talk.specs.declared.log.Deed.{Deed}
@@ -19,14 +18,14 @@ use Rattle.dc_talk.specs.declared.log.Deed.TheVariants.{Did, Asked}
 use Rattle.dc_talk.specs.declared.log.Fate.TheVariants.{Heard}
 use Rattle.dc_talk.specs.declared.log.Note.{Note}
 use Rattle.dc_talk.specs.declared.line.StepWord.{StepWord}
-use Rattle.dc_talk.specs.declared.line.StepWord.TheVariants.{Inc as IncWord}
+use Rattle.dc_talk.specs.declared.line.StepWord.TheVariants.{Read as ReadWord}
 use Rattle.dc_talk.specs.Clients.{Client}
 use Rattle.dc_talk.specs.Calls.{outcome_of, did}
 use Rattle.dc_talk.specs.Rule.{after, heard, takes, taken, sent_through, next_commit, fetch_of}
 use Rattle.script_text.specs.declared.steps.ClientStep.{ClientStep}
-use Rattle.script_text.specs.declared.steps.ClientStep.TheVariants.{Connect, Begin, Inc, Read, Commit, Push, Refresh}
+use Rattle.script_text.specs.declared.steps.ClientStep.TheVariants.{Connect, Begin, Change, Read, Commit, Push, Refresh}
 use Rattle.script_text.specs.Steps.{IsStep}
-use Rattle.script_text.specs.Deeds.{StepDeeds, FetchesOver, ReadDeeds, ReadsBehind, PushesNext, PushDeeds, RefreshDeeds, after_fetch, reads, begin_told, change_told, read_told, commit_told}
+use Rattle.script_text.specs.Deeds.{StepDeeds, FetchesOver, CallDeeds, PushesNext, PushDeeds, RefreshDeeds, after_fetch, calls, word_of, begin_told, call_told, commit_told}
 use Rattle.run_book.specs.Alone.{IsNear, AllNear}
 use Rattle.swift_sim.specs.Playing.{IsNearLink, marked, after_all}
 
@@ -42,10 +41,12 @@ begin_near client (Refused AlreadyOpen) = (tt, tt)
 begin_near client (Refused ClockFull) = (tt, tt)
 begin_near client _ = tt
 
-change_near : (client : ℕ) (word : StepWord) (o : ObjectId) (out : Outcome) → AreNear (change_told client word o out)
-change_near client word o (Refused NotOpen) = (tt, tt)
-change_near client word o (Refused (TooManyUpdates limit)) = (tt, tt)
-change_near client word o _ = tt
+told_near : (client : ℕ) (word : StepWord) (o : ObjectId) (out : Outcome) → AreNear (call_told client word o out)
+told_near client word o (Got value) = (tt, tt)
+told_near client word o (Refused NotOpen) = (tt, tt)
+told_near client word o (Refused (TooManyUpdates limit)) = (tt, tt)
+told_near client word o (Refused (TooManyTags count)) = (tt, tt)
+told_near client word o _ = tt
 
 commit_near : (client : ℕ) (out : Outcome) → AreNear (commit_told client out)
 commit_near client (Number number) = (tt, tt)
@@ -54,33 +55,23 @@ commit_near client (Refused NotOpen) = (tt, tt)
 commit_near client (Refused (PendingFull limit)) = (tt, tt)
 commit_near client _ = tt
 
-value_near : (client : ℕ) (o : ObjectId) (out : Outcome) → AreNear (read_told client o out)
-value_near client o (Got value) = (tt, tt)
-value_near client o _ = tt
-
 either_near : (test : Bool) (xs ys : List Deed) → AreNear xs → AreNear ys → AreNear (cond test xs ys)
 either_near true xs ys first second = first
 either_near false xs ys first second = second
 
-reads_near : (s : Client) (o : ObjectId) → AreNear (reads s o)
-reads_near s o = (tt, value_near s.client o (outcome_of s (ReadCall o)))
+calls_near : (s : Client) (word : StepWord) (o : ObjectId) (call : Call) → AreNear (calls s word o call)
+calls_near s word o call = (tt, told_near s.client word o (outcome_of s call))
 
-after_fetch_near : (s : Client) (i : ℕ) (o : ObjectId) (say : Say) → AreNear (after_fetch s i o say)
-after_fetch_near s i o say = either_near (takes s i (fetch_of s o) say) _ _ (reads_near (heard s i (fetch_of s o) say) o) (tt, tt)
+after_fetch_near : (s : Client) (i : ℕ) (word : StepWord) (o : ObjectId) (call : Call) (say : Say) → AreNear (after_fetch s i word o call say)
+after_fetch_near s i word o call say = either_near (takes s i (fetch_of s o) say) _ _ (calls_near (heard s i (fetch_of s o) say) word o call) (tt, tt)
 
-fetch_near : (s : Client) (l : Option Link) (o : ObjectId) (deeds : List Deed) → IsNearLink l → FetchesOver s l o deeds → AreNear deeds
-fetch_near s None o deeds near are = subst AreNear (sym are) (tt, tt)
-fetch_near s (Some link) o deeds near fetch = subst AreNear (sym fetch.are) (near, after_fetch_near s link.centre o fetch.say)
+fetch_near : (s : Client) (l : Option Link) (word : StepWord) (o : ObjectId) (call : Call) (deeds : List Deed) → IsNearLink l → FetchesOver s l word o call deeds → AreNear deeds
+fetch_near s None word o call deeds near are = subst AreNear (sym are) (tt, tt)
+fetch_near s (Some link) word o call deeds near fetch = subst AreNear (sym fetch.are) (near, after_fetch_near s link.centre word o call fetch.say)
 
-behind_near : (s : Client) (o : ObjectId) (out : Outcome) (deeds : List Deed) → IsNearLink s.link → ReadsBehind s o out deeds → AreNear deeds
-behind_near s o out deeds near r = subst AreNear (sym r.are) (tt, fetch_near s s.link o r.rest near r.fetch)
-
-read_near : (s : Client) (o : ObjectId) (out : Outcome) (deeds : List Deed) → IsNearLink s.link → ReadDeeds s o out deeds → AreNear deeds
-read_near s o (Got value) deeds near are = subst AreNear (sym are) (reads_near s o)
-read_near s o Fine deeds near r = behind_near s o Fine deeds near r
-read_near s o (Number number) deeds near r = behind_near s o (Number number) deeds near r
-read_near s o Nothing deeds near r = behind_near s o Nothing deeds near r
-read_near s o (Refused refusal) deeds near r = behind_near s o (Refused refusal) deeds near r
+call_near : (s : Client) (word : StepWord) (o : ObjectId) (call : Call) (out : Outcome) (deeds : List Deed) → IsNearLink s.link → CallDeeds s word o call out deeds → AreNear deeds
+call_near s word o call (Refused (NeedsFetch p)) deeds near r = subst AreNear (sym r.are) (tt, fetch_near s s.link word o call r.rest near r.fetch)
+call_near s word o call _ deeds near are = subst AreNear (sym are) (calls_near s word o call)
 
 next_near : (s : Client) (i : ℕ) (next : Option Tx) (deeds : List Deed) → i ≡ 1 → PushesNext s i next deeds → AreNear deeds
 next_near s i None deeds near are = subst AreNear (sym are) (tt, tt)
@@ -99,8 +90,8 @@ refresh_near s (Some link) None deeds near refresh = subst AreNear (sym refresh.
 pub step_near : (s : Client) (step : ClientStep) (deeds : List Deed) → IsStep step → IsNearLink s.link → StepDeeds s step deeds → AreNear deeds
 step_near s (Connect centre) deeds is near hello = subst AreNear (sym hello.are) (is, (tt, tt))
 step_near s Begin deeds is near are = subst AreNear (sym are) (tt, begin_near s.client (outcome_of s BeginCall))
-step_near s (Inc o delta) deeds is near are = subst AreNear (sym are) (tt, change_near s.client IncWord o (outcome_of s (ChangeCall o (IncChange delta))))
-step_near s (Read o) deeds is near read = read_near s o (outcome_of s (ReadCall o)) deeds near read
+step_near s (Change o change) deeds is near are = call_near s (word_of change) o (ChangeCall o change) (outcome_of s (ChangeCall o change)) deeds near are
+step_near s (Read o) deeds is near are = call_near s ReadWord o (ReadCall o) (outcome_of s (ReadCall o)) deeds near are
 step_near s Commit deeds is near are = subst AreNear (sym are) (tt, commit_near s.client (outcome_of s CommitCall))
 step_near s Push deeds is near push = push_near s s.link deeds near push
 step_near s Refresh deeds is near refresh = refresh_near s s.link s.draft deeds near refresh
@@ -129,9 +120,11 @@ heard_near s i ask say here near = go (takes s i ask say)
 did_near : (s : Client) (call : Call) (out : Outcome) → IsNearLink s.link → IsNearLink (did s call out).link
 did_near s BeginCall Fine near = near
 did_near s (ChangeCall o change) Fine near = near
+did_near s (ChangeCall o change) (Refused (TooManyTags count)) near = near
 did_near s (ReadCall o) (Got value) near = near
 did_near s CommitCall (Number number) near = near
 did_near s CommitCall Nothing near = near
+did_near s AbortCall Fine near = near
 did_near s _ _ near = near
 
 after_near : (s : Client) (deed : Deed) → IsNear deed → IsNearLink s.link → IsNearLink (after s deed).link

@@ -5,14 +5,16 @@ use Rattle.ids_core.specs.declared.object.ObjectId.{ObjectId}
 use Rattle.dc_talk.specs.declared.ask.Ask.{Ask}
 use Rattle.dc_talk.specs.declared.ask.Ask.TheVariants.{Commit}
 use Rattle.dc_talk.specs.declared.say.Say.{Say}
-use Rattle.dc_talk.specs.declared.session.Call.TheVariants.{Read as ReadCall}
+use Rattle.dc_talk.specs.declared.session.Call.{Call}
+use Rattle.dc_talk.specs.declared.session.Refusal.TheVariants.{NeedsFetch}
 use Rattle.dc_talk.specs.declared.session.Outcome.{Outcome}
-use Rattle.dc_talk.specs.declared.session.Outcome.TheVariants.{Got}
+use Rattle.dc_talk.specs.declared.session.Outcome.TheVariants.{Refused}
 use Rattle.dc_talk.specs.declared.log.Fate.TheVariants.{Heard}
 use Rattle.dc_talk.specs.declared.log.Deed.{Deed}
 use Rattle.dc_talk.specs.declared.log.Deed.TheVariants.{Asked, Told}
 use Rattle.dc_talk.specs.declared.log.Note.{Note}
 use Rattle.dc_talk.specs.declared.line.Line.{Line}
+use Rattle.dc_talk.specs.declared.line.StepWord.{StepWord}
 use Rattle.dc_talk.specs.Logs.{Logged}
 use Rattle.dc_talk.specs.Clients.{Client, new_client}
 use Rattle.dc_talk.specs.Calls.{outcome_of}
@@ -22,7 +24,7 @@ use Rattle.dc_centre.specs.Desk.{Keeps}
 use Rattle.script_text.specs.declared.steps.ClientStep.{ClientStep}
 use Rattle.swift_sim.specs.declared.purpose.Purpose.{Purpose}
 use Rattle.swift_sim.specs.Purposes.{told_after}
-use Rattle.script_text.specs.Deeds.{StepDeeds, FetchesOver, reads}
+use Rattle.script_text.specs.Deeds.{StepDeeds, CallDeeds, FetchesOver, calls}
 use Rattle.run_book.specs.Scripted.{Plays, placed_from}
 use Rattle.run_book.specs.Alone.{entry_of, AllNear}
 
@@ -67,15 +69,21 @@ pub record Takes (step : ClientStep) (old new : Playing) : Type 0 where
   pub are : StepDeeds old.client step deeds
   pub grows : Grows old new deeds
 
--- whether a read has its value
-abbrev pub is_got : Outcome → Bool
-is_got (Got value) = true
-is_got _ = false
+-- whether a call has to have its object fetched
+abbrev pub needs_fetch : Outcome → Bool
+needs_fetch (Refused (NeedsFetch o)) = true
+needs_fetch _ = false
 
--- a read call with its line
-pub record TriesRead (o : ObjectId) (old new : Playing) (got : Bool) : Type 0 where
-  pub grows : Grows old new (reads old.client o)
-  pub is : got ≡ is_got (outcome_of old.client (ReadCall o))
+-- a call on an object with its line, and whether it has to have the object fetched
+pub record TriesCall (word : StepWord) (o : ObjectId) (call : Call) (old new : Playing) (needs : Bool) : Type 0 where
+  pub grows : Grows old new (calls old.client word o call)
+  pub is : needs ≡ needs_fetch (outcome_of old.client call)
+
+-- a call on an object, with what follows where it has to have the object fetched
+pub record TakesCall (word : StepWord) (o : ObjectId) (call : Call) (old new : Playing) : Type 0 where
+  pub deeds : List Deed
+  pub are : CallDeeds old.client word o call (outcome_of old.client call) deeds
+  pub grows : Grows old new deeds
 
 -- the player once an ask of centre i was answered so and heard
 abbrev pub after_exchange : Playing → ℕ → Ask → Say → Playing
@@ -97,10 +105,10 @@ pub record Exchanges (purpose : Purpose) (i : ℕ) (ask : Ask) (old new : Playin
   pub grows : Grows old new (Asked i ask (Heard say) ∷ told_after purpose old.client.client i (takes old.client i ask say) say)
   pub is : took ≡ takes old.client i ask say
 
--- a fetch for a read, and the read
-pub record FetchesFor (o : ObjectId) (old new : Playing) : Type 0 where
+-- a fetch for a call, and the call again
+pub record FetchesFor (word : StepWord) (o : ObjectId) (call : Call) (old new : Playing) : Type 0 where
   pub deeds : List Deed
-  pub are : FetchesOver old.client old.client.link o deeds
+  pub are : FetchesOver old.client old.client.link word o call deeds
   pub grows : Grows old new deeds
 
 -- the number of the transaction that an ask commits

@@ -48,8 +48,8 @@ pub record IsRunOf (script : Script) (book : Book) : Type 0 where
   pub fits : FitsWith book script.clients script.limit script.cache
   pub steps : HasSteps script book
 
--- each value that was read is that of its counter over a causally closed set, and before the first
--- commit the sum of the deltas of the open transaction
+-- each read stands on a causally closed set, over which a counter has the value that was read, and
+-- before the first commit that value is the sum of the deltas of the open transaction
 pub record IsBelievable (script : Script) (book : Book) : Type 0 where
   pub causal : IsCausal book script.clients script.cache
   pub first : FirstSums book script.clients script.cache

@@ -1,9 +1,10 @@
 // The lines of steps, by how the session and the centre answered.
 ghost use Rattle.std.specs.Prelude.{◌≡◌, IfOk};
-ghost use Rattle.script_text.specs.Deeds.{hello_line, begin_told, change_told, read_told, commit_told, fetch_line, push_end, refresh_line};
+ghost use Rattle.script_text.specs.Deeds.{hello_line, begin_told, word_of, call_told, commit_told, fetch_line, push_end, refresh_line};
+ghost use Rattle.dc_talk.specs.declared.session.Outcome.TheVariants.{Refused};
 ghost use Rattle.swift_sim.specs.Playing.{told_of};
 
-use dc_talk::{Line, Miss, Outcome, PushEnd, Refusal, Say, StepWord};
+use dc_talk::{Change, Line, Miss, Outcome, PushEnd, Refusal, Say, StepWord};
 use ids_core::{NoMemory, ObjectId};
 use vv_core::Lack;
 
@@ -45,37 +46,28 @@ pub fn begin_line(client: u32, outcome: &Outcome) -> Option<Line>
     }
 }
 
-/// The line of a change that ended so, where it has one.
-pub fn change_line(
+/// The word of the step that makes a change.
+pub fn word_of_change(change: &Change) -> StepWord
+    ensures { result ≡ word_of change.now }
+{
+    match change {
+        Change::Inc { .. } => StepWord::Inc,
+        Change::Write { .. } => StepWord::Set,
+        Change::Add { .. } => StepWord::Add,
+        Change::Remove { .. } => StepWord::Del,
+        Change::Put { .. } => StepWord::Put,
+        Change::Erase { .. } => StepWord::Drop,
+    }
+}
+
+/// The line of a call on an object that ended so, where it has one.
+pub fn call_line(
     client: u32,
     word: StepWord,
     object: &ObjectId,
     outcome: &Outcome,
-) -> Option<Line>
-    ensures { told_of result ≡ change_told client word object.now outcome.now }
-{
-    match outcome {
-        Outcome::Refused(Refusal::NotOpen) => Some(Line::Closed {
-            client,
-            word,
-            object: *object,
-        }),
-        Outcome::Refused(Refusal::TooManyUpdates { .. }) => Some(Line::ManyUpdates {
-            client,
-            word,
-            object: *object,
-        }),
-        _ => None,
-    }
-}
-
-/// The line of a read that ended so, where it has a value.
-pub fn read_line(
-    client: u32,
-    object: &ObjectId,
-    outcome: &Outcome,
 ) -> Result<Option<Line>, NoMemory>
-    ensures { IfOk result (λ line. told_of line ≡ read_told client object.now outcome.now) }
+    ensures { IfOk result (λ line. told_of line ≡ call_told client word object.now outcome.now) }
 {
     match outcome {
         Outcome::Got(value) => Ok(Some(Line::ReadValue {
@@ -83,7 +75,34 @@ pub fn read_line(
             object: *object,
             value: value.clone()?,
         })),
+        Outcome::Refused(refusal) => Ok(refused_line(client, word, object, refusal)),
         _ => Ok(None),
+    }
+}
+
+// The line of a call on an object that was refused, where it has one.
+fn refused_line(client: u32, word: StepWord, object: &ObjectId, refusal: &Refusal) -> Option<Line>
+    ensures { told_of result ≡ call_told client word object.now (Refused refusal.now) }
+{
+    let object = *object;
+    match refusal {
+        Refusal::NotOpen => Some(Line::Closed {
+            client,
+            word,
+            object,
+        }),
+        Refusal::TooManyUpdates { .. } => Some(Line::ManyUpdates {
+            client,
+            word,
+            object,
+        }),
+        Refusal::TooManyTags { count } => Some(Line::ManyTags {
+            client,
+            word,
+            object,
+            count: *count,
+        }),
+        _ => None,
     }
 }
 

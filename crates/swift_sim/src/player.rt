@@ -4,10 +4,10 @@ ghost use Rattle.dc_talk.specs.Calls.{Ends};
 ghost use Rattle.dc_talk.specs.Answers.{History};
 ghost use Rattle.dc_talk.specs.Rule.{heard, takes, Gives};
 ghost use Rattle.dc_talk.specs.declared.log.Deed.TheVariants.{Did};
-ghost use Rattle.script_text.specs.declared.steps.ClientStep.TheVariants.{Connect, Begin, Inc, Read, Commit, Push, Refresh};
-ghost use Rattle.swift_sim.specs.Playing.{Takes, TriesRead, FetchesFor, Exchanged, Exchanges, noted_all, told_of, number_in, new_playing, at_section};
+ghost use Rattle.script_text.specs.declared.steps.ClientStep.TheVariants.{Connect, Begin, Change as ChangeStep, Read, Commit, Push, Refresh};
+ghost use Rattle.swift_sim.specs.Playing.{Takes, TriesCall, TakesCall, FetchesFor, Exchanged, Exchanges, noted_all, told_of, needs_fetch, number_in, new_playing, at_section};
 
-use crate::lines::{begin_line, change_line, commit_line, read_line};
+use crate::lines::{begin_line, call_line, commit_line, word_of_change};
 use crate::purpose::Purpose;
 use client_session::{Heard, Session};
 use dc_centre::Desk;
@@ -26,9 +26,14 @@ pub struct Player {
 }
 
 impl Model for Player {
+    ghost use Rattle.std.specs.Coded.{codes};
+    ghost use Rattle.obj_set.specs.Sets.{set_code};
+    ghost use Rattle.obj_map.specs.Maps.{map_code};
     ghost use Rattle.swift_sim.specs.Playing.{Playing};
 
     ghost Value = { Playing };
+
+    ghost coded = { Prim.hlevel (codes, set_code, map_code) };
 
     ghost view = { λ p. record { desk = p.desk; client = p.session; log = p.log } };
 }
@@ -109,6 +114,20 @@ impl Player {
         Ok(matches!(heard, Heard::Took))
     }
 
+    // Makes a call of the session; answers how it ended.
+    fn call(&mut self, alloc: Global, call: &Call) -> Outcome
+        ensures ends { result ≢ Outcome.Refused Refusal.NoMemory → Ends self.old.client self.new.client call.now result }
+        ensures rest { self.new ≡ record self.old { client = self.new.client } }
+    {
+        match call {
+            Call::Begin => self.call_begin(alloc),
+            Call::Change { object, change } => self.call_change(alloc, object, change),
+            Call::Read { object } => self.call_read(alloc, object),
+            Call::Commit => self.call_commit(),
+            Call::Abort => self.call_abort(),
+        }
+    }
+
     // Opens a transaction; answers how the call ended.
     fn call_begin(&mut self, alloc: Global) -> Outcome
         ensures ends { Ends self.old.client self.new.client Call.Begin result }
@@ -121,12 +140,23 @@ impl Player {
     }
 
     // Changes an object; answers how the call ended.
-    fn call_change(&mut self, object: &ObjectId, change: &Change) -> Outcome
+    fn call_change(&mut self, alloc: Global, object: &ObjectId, change: &Change) -> Outcome
         ensures ends { result ≢ Outcome.Refused Refusal.NoMemory → Ends self.old.client self.new.client (Call.Change object.now change.now) result }
         ensures rest { self.new ≡ record self.old { client = self.new.client } }
     {
-        match self.session.update(object, change) {
+        match self.session.update(alloc, object, change) {
             Ok(()) => Outcome::Fine,
+            Err(refusal) => Outcome::Refused(refusal),
+        }
+    }
+
+    // Reads an object; answers how the call ended.
+    fn call_read(&mut self, alloc: Global, object: &ObjectId) -> Outcome
+        ensures ends { result ≢ Outcome.Refused Refusal.NoMemory → Ends self.old.client self.new.client (Call.Read object.now) result }
+        ensures rest { self.new ≡ record self.old { client = self.new.client } }
+    {
+        match self.session.read(alloc, object) {
+            Ok(value) => Outcome::Got(value),
             Err(refusal) => Outcome::Refused(refusal),
         }
     }
@@ -143,13 +173,13 @@ impl Player {
         }
     }
 
-    // Reads an object; answers how the call ended.
-    fn call_read(&mut self, alloc: Global, object: &ObjectId) -> Outcome
-        ensures ends { result ≢ Outcome.Refused Refusal.NoMemory → Ends self.old.client self.new.client (Call.Read object.now) result }
+    // Ends the open transaction; answers how the call ended.
+    fn call_abort(&mut self) -> Outcome
+        ensures ends { Ends self.old.client self.new.client Call.Abort result }
         ensures rest { self.new ≡ record self.old { client = self.new.client } }
     {
-        match self.session.read(alloc, object) {
-            Ok(value) => Outcome::Got(value),
+        match self.session.abort() {
+            Ok(()) => Outcome::Fine,
             Err(refusal) => Outcome::Refused(refusal),
         }
     }
@@ -159,34 +189,21 @@ impl Player {
         ensures { OnOk result (Takes Begin self.old self.new) }
     {
         let client = self.session.client();
-        let outcome = self.call_begin(alloc);
+        let outcome = self.call(alloc, &Call::Begin);
+        if is_no_memory(&outcome) {
+            return Err(NoMemory);
+        }
         let line = begin_line(client, &outcome);
         self.noted(Call::Begin, outcome, line)?;
         Ok(())
     }
 
-    // The step `inc`.
-    fn inc(&mut self, object: &ObjectId, delta: i64) -> Result<(), NoMemory>
-        ensures { OnOk result (Takes (Inc object.now delta) self.old self.new) }
-    {
-        let client = self.session.client();
-        let change = Change::Inc { delta };
-        let outcome = self.call_change(object, &change);
-        if is_no_memory(&outcome) {
-            return Err(NoMemory);
-        }
-        let line = change_line(client, StepWord::Inc, object, &outcome);
-        let object = *object;
-        self.noted(Call::Change { object, change }, outcome, line)?;
-        Ok(())
-    }
-
     // The step `commit`.
-    fn commit(&mut self) -> Result<(), NoMemory>
+    fn commit(&mut self, alloc: Global) -> Result<(), NoMemory>
         ensures { OnOk result (Takes Commit self.old self.new) }
     {
         let client = self.session.client();
-        let outcome = self.call_commit();
+        let outcome = self.call(alloc, &Call::Commit);
         if is_no_memory(&outcome) {
             return Err(NoMemory);
         }
@@ -252,44 +269,87 @@ impl Player {
         }
     }
 
-    // A read call with its note, and its line where it has a value. Answers whether it has one.
-    fn try_read(&mut self, alloc: Global, object: &ObjectId) -> Result<bool, NoMemory>
-        ensures { IfOk result (λ got. TriesRead object.now self.old self.new got) }
+    // A call on an object with its note, and its line where it has one. Answers whether the object has
+    // to be fetched for it.
+    fn try_call(
+        &mut self,
+        alloc: Global,
+        word: StepWord,
+        object: &ObjectId,
+        call: &Call,
+    ) -> Result<bool, NoMemory>
+        ensures { IfOk result (λ needs. TriesCall word object.now call.now self.old self.new needs) }
     {
         let client = self.session.client();
-        let outcome = self.call_read(alloc, object);
+        let outcome = self.call(alloc, call);
         if is_no_memory(&outcome) {
             return Err(NoMemory);
         }
-        let line = read_line(client, object, &outcome)?;
-        let got = line.is_some();
-        let object = *object;
-        self.noted(Call::Read { object }, outcome, line)?;
-        Ok(got)
+        let needs = has_to_fetch(&outcome);
+        let line = call_line(client, word, object, &outcome)?;
+        let call = *call;
+        self.noted(call, outcome, line)?;
+        Ok(needs)
+    }
+
+    // A step that makes a call on an object: where the object is needed, it is fetched, and the call
+    // made again.
+    fn call_step(
+        &mut self,
+        alloc: Global,
+        word: StepWord,
+        object: &ObjectId,
+        call: &Call,
+    ) -> Result<(), NoMemory>
+        ensures { OnOk result (TakesCall word object.now call.now self.old self.new) }
+    {
+        if self.try_call(alloc, word, object, call)? {
+            self.fetch(alloc, word, object, call)?;
+        }
+        Ok(())
+    }
+
+    // The steps that change an object.
+    fn change(&mut self, alloc: Global, object: &ObjectId, change: &Change) -> Result<(), NoMemory>
+        ensures { OnOk result (Takes (ChangeStep object.now change.now) self.old self.new) }
+    {
+        let word = word_of_change(change);
+        let call = Call::Change {
+            object: *object,
+            change: *change,
+        };
+        self.call_step(alloc, word, object, &call)?;
+        Ok(())
     }
 
     // The step `read`.
     fn read(&mut self, alloc: Global, object: &ObjectId) -> Result<(), NoMemory>
         ensures { OnOk result (Takes (Read object.now) self.old self.new) }
     {
-        if self.try_read(alloc, object)? {
-            return Ok(());
-        }
-        self.fetch(alloc, object)?;
+        let call = Call::Read { object: *object };
+        self.call_step(alloc, StepWord::Read, object, &call)?;
         Ok(())
     }
 
-    // Fetches the state of an object for a read, and reads it again.
-    fn fetch(&mut self, alloc: Global, object: &ObjectId) -> Result<(), NoMemory>
-        ensures { OnOk result (FetchesFor object.now self.old self.new) }
+    // Fetches the state of an object for a call, and makes the call again.
+    fn fetch(
+        &mut self,
+        alloc: Global,
+        word: StepWord,
+        object: &ObjectId,
+        call: &Call,
+    ) -> Result<(), NoMemory>
+        ensures { OnOk result (FetchesFor word object.now call.now self.old self.new) }
     {
         let client = self.session.client();
-        let word = StepWord::Read;
         match self.session.ask_fetch(object) {
             Ok((centre, ask)) => {
-                let purpose = Purpose::Fetch { object: *object };
+                let purpose = Purpose::Fetch {
+                    word,
+                    object: *object,
+                };
                 if self.exchange(alloc, purpose, centre, ask)? {
-                    self.try_read(alloc, object)?;
+                    self.try_call(alloc, word, object, call)?;
                 }
                 Ok(())
             }
@@ -335,9 +395,9 @@ impl Player {
         match step {
             ClientStep::Connect { centre } => self.connect(alloc, *centre),
             ClientStep::Begin => self.begin(alloc),
-            ClientStep::Inc { object, delta } => self.inc(object, *delta),
+            ClientStep::Change { object, change } => self.change(alloc, object, change),
             ClientStep::Read { object } => self.read(alloc, object),
-            ClientStep::Commit => self.commit(),
+            ClientStep::Commit => self.commit(alloc),
             ClientStep::Push => self.push(alloc),
             ClientStep::Refresh => self.refresh(alloc),
         }
@@ -369,6 +429,13 @@ fn is_no_memory(outcome: &Outcome) -> bool
     ensures other { result ≡ false → outcome.now ≢ Outcome.Refused Refusal.NoMemory }
 {
     matches!(outcome, Outcome::Refused(Refusal::NoMemory))
+}
+
+// Whether a call ended since its object has to be fetched.
+fn has_to_fetch(outcome: &Outcome) -> bool
+    ensures { result ≡ needs_fetch outcome.now }
+{
+    matches!(outcome, Outcome::Refused(Refusal::NeedsFetch { .. }))
 }
 
 // Whether a session refused for want of memory.

@@ -9,7 +9,8 @@ use ids_core::ObjectId;
 #[derive(Clone, Copy, Debug)]
 pub enum Purpose {
     Connect,
-    Fetch { object: ObjectId },
+    /// For a call on the object, in a step of this word.
+    Fetch { word: StepWord, object: ObjectId },
     Push { number: u64 },
     Refresh,
 }
@@ -19,17 +20,17 @@ impl Purpose {
     ghost use Rattle.swift_sim.specs.Purposes.{told_after};
 
     /// The line that comes of the answer, by whether the session took it; none where a state was
-    /// fetched, since the read goes on then.
+    /// fetched, since the call is made again then.
     pub fn line(self, client: u32, centre: u8, took: bool, say: &Say) -> Option<Line>
         ensures { told_of result ≡ told_after self client centre took say.now }
     {
         match self {
             Purpose::Connect => Some(connect_line(client, centre, say)),
-            Purpose::Fetch { object } => {
+            Purpose::Fetch { word, object } => {
                 if took {
                     None
                 } else {
-                    Some(missed_fetch(client, StepWord::Read, &object, say))
+                    Some(missed_fetch(client, word, &object, say))
                 }
             }
             Purpose::Push { number } => Some(Line::Push {

@@ -138,11 +138,11 @@ pub fn swift_main<S: Source, W: Sink, G: Gate>(
 
     ensures read_to_end { result.status ≡ 0 → IfSome (S.left source.new) IsNothing }
 
-    // Each value read is that of its counter over a causally closed set of transactions and the open
-    // updates, and the set holds those of the session's earlier reads.
+    // Each read stands on a causally closed set of transactions, which holds those of the session's
+    // earlier reads. A counter has the value that was read over this set and the open updates.
     ensures causal { result.status ≡ 0 → IsCausal result.book 1 1024 }
 
-    // Before the first commit each value read is the sum of the open transaction's deltas.
+    // Before the first commit each value read of a counter is the sum of the open transaction's deltas.
     ensures read_values { result.status ≡ 0 → FirstSums result.book 1 1024 }
 
     // 2: words of no form. 3: an input that is no script.

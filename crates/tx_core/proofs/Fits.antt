@@ -11,13 +11,16 @@ use Rattle.std.proofs.Math.Dec.{eqb-suc-zero}
 use Rattle.std.proofs.lemmas.Iterator.Adapters.{position_from-zero}
 use Rattle.std.proofs.lemmas.List.Elements.{All-head, All-tail, All-cons}
 use Rattle.list_core.specs.Choices.{when, first_of}
+use Rattle.ids_core.specs.Ids.{same_sort}
+use Rattle.ids_core.specs.Same.{same_sort-true, same_sort-itself}
 use Rattle.tx_core.specs.declared.op.Op.{Op}
-use Rattle.tx_core.specs.declared.op.Op.TheVariants.{Inc}
+use Rattle.tx_core.specs.declared.op.Op.TheVariants.{Inc, Write, Add, Remove, Put, Erase}
 use Rattle.tx_core.specs.declared.tx.Update.{Update}
 use Rattle.tx_core.specs.declared.tx.Tx.{Tx}
 use Rattle.tx_core.specs.declared.check.TxFault.{TxFault}
-use Rattle.tx_core.specs.declared.check.TxFault.TheVariants.{NoUpdates, TooManyUpdates, BadDot, BadRank, WrongWidth, BadSnap, DeltaTooLarge}
-use Rattle.tx_core.specs.Checks.{is_within, is_dot, is_small, snap_fault, update_fault, updates_fault, fault_of, HasSmallDelta, IsFit}
+use Rattle.tx_core.specs.declared.check.TxFault.TheVariants.{NoUpdates, TooManyUpdates, BadDot, BadRank, WrongWidth, BadSnap, WrongKind, DeltaTooLarge, TooManyTags}
+use Rattle.tx_core.specs.Ops.{sort_of_op, over_of}
+use Rattle.tx_core.specs.Checks.{is_within, is_dot, is_small, snap_fault, update_fault, updates_fault, fault_of, HasSmallDelta, IsFitUpdate, IsFit}
 
 -- a choice that is not there
 passed : (test : Bool) (fault : TxFault) (rest : List (Option (Option TxFault))) (last : Option TxFault) → first_of (when test (Some fault) ∷ rest) last ≡ None → (test ≡ false) × (first_of rest last ≡ None)
@@ -49,6 +52,11 @@ is_within-Decides low high number = (λ h. let parts = and_parts (nat_le low num
 
 is_small-Decides : (op : Op) → Decides (is_small op) (HasSmallDelta op)
 is_small-Decides (Inc delta) = (λ h. let le = leb-true (unsigned_abs delta) 1000000000000 h in (omega (arith, ints, le), omega (arith, ints, le)), λ h. let low = h.0 in let high = h.1 in le-leb (unsigned_abs delta) 1000000000000 (omega (arith, ints, low, high)))
+is_small-Decides (Write word) = (λ h. tt, λ h. refl)
+is_small-Decides (Add word over) = (λ h. tt, λ h. refl)
+is_small-Decides (Remove word over) = (λ h. tt, λ h. refl)
+is_small-Decides (Put key word over) = (λ h. tt, λ h. refl)
+is_small-Decides (Erase key over) = (λ h. tt, λ h. refl)
 
 nat_lt-false : (low high : ℕ) → nat_lt low high ≡ false → high ≤ low
 nat_lt-false low high h = grind (arith, leb_tells)
@@ -86,22 +94,35 @@ snap_fault-none snap h =
 none-snap_fault : (snap : List ℕ) → All (λ entry. entry ≤ 1000000) snap → snap_fault snap ≡ None
 none-snap_fault snap h = ap (option_map (λ place. BadSnap (place + 1))) (position_from-zero (nat_lt 1000000) snap ∙ none_found (nat_lt 1000000) 0 snap (λ k d below. false-nat_lt 1000000 _ (h k d below)))
 
-update_passed : (place : ℕ) (op : Op) (small : Bool) → cond small None (Some (DeltaTooLarge place)) ≡ None → small ≡ true
-update_passed place op true h = refl
-update_passed place op false h = cc
+update_fault-none : (place : ℕ) (update : Update) → update_fault place update ≡ None → IsFitUpdate update
+update_fault-none place update h =
+    let kind = passed (not (same_sort (sort_of_op update.op) update.object.sort)) (WrongKind place) _ _ h in
+    let delta = passed (not (is_small update.op)) (DeltaTooLarge place) _ _ kind.1 in
+    let tags = passed (nat_lt 4096 (length (over_of update.op))) (TooManyTags place (length (over_of update.op))) _ _ delta.1 in
+    record {
+      kind = same_sort-true (sort_of_op update.op) update.object.sort (true_of (same_sort (sort_of_op update.op) update.object.sort) kind.0);
+      delta = (is_small-Decides update.op).0 (true_of (is_small update.op) delta.0);
+      tags = nat_lt-false 4096 (length (over_of update.op)) tags.0;
+    }
 
-updates_fault-none : (place : ℕ) (updates : List Update) → updates_fault place updates ≡ None → All (λ update. HasSmallDelta update.op) updates
+none-update_fault : (place : ℕ) (update : Update) → IsFitUpdate update → update_fault place update ≡ None
+none-update_fault place update fit =
+    let kind : same_sort (sort_of_op update.op) update.object.sort ≡ true = ap (same_sort (sort_of_op update.op)) (sym fit.kind) ∙ same_sort-itself (sort_of_op update.op) in
+    passes (not (same_sort (sort_of_op update.op) update.object.sort)) (WrongKind place) _ _ (false_of (same_sort (sort_of_op update.op) update.object.sort) kind)
+    (passes (not (is_small update.op)) (DeltaTooLarge place) _ _ (false_of (is_small update.op) ((is_small-Decides update.op).1 fit.delta))
+    (passes (nat_lt 4096 (length (over_of update.op))) (TooManyTags place (length (over_of update.op))) _ _ (false-nat_lt 4096 (length (over_of update.op)) fit.tags)
+    refl))
+
+updates_fault-none : (place : ℕ) (updates : List Update) → updates_fault place updates ≡ None → All IsFitUpdate updates
 updates_fault-none place [] h = λ k d below. absurd (omega (arith, below))
 updates_fault-none place (update ∷ updates) h =
     let both = both_none (update_fault place update) (updates_fault (place + 1) updates) h in
-    let small = update_passed place update.op (is_small update.op) both.0 in
-    All-cons (λ update. HasSmallDelta update.op) update updates ((is_small-Decides update.op).0 small) (updates_fault-none (place + 1) updates both.1)
+    All-cons IsFitUpdate update updates (update_fault-none place update both.0) (updates_fault-none (place + 1) updates both.1)
 
-none-updates_fault : (place : ℕ) (updates : List Update) → All (λ update. HasSmallDelta update.op) updates → updates_fault place updates ≡ None
+none-updates_fault : (place : ℕ) (updates : List Update) → All IsFitUpdate updates → updates_fault place updates ≡ None
 none-updates_fault place [] h = refl
 none-updates_fault place (update ∷ updates) h =
-    let small = (is_small-Decides update.op).1 (All-head (λ update. HasSmallDelta update.op) update updates h) in
-    none_of_both (update_fault place update) (updates_fault (place + 1) updates) (rw small refl) (none-updates_fault (place + 1) updates (All-tail (λ update. HasSmallDelta update.op) update updates h))
+    none_of_both (update_fault place update) (updates_fault (place + 1) updates) (none-update_fault place update (All-head IsFitUpdate update updates h)) (none-updates_fault (place + 1) updates (All-tail IsFitUpdate update updates h))
 
 pub fault_of-none : (n : ℕ) (tx : Tx) → fault_of n tx ≡ None → IsFit n tx
 fault_of-none n tx h =
@@ -121,7 +142,7 @@ fault_of-none n tx h =
       rank = (is_within-Decides 1 (2 ^ 62) tx.rank).0 (true_of (is_within 1 (2 ^ 62) tx.rank) rank.0);
       width = (Decides-eqb (length tx.snap) n).0 (true_of (length tx.snap == n) width.0);
       snap = snap_fault-none tx.snap rest.0;
-      deltas = updates_fault-none 0 tx.updates rest.1;
+      updates = updates_fault-none 0 tx.updates rest.1;
     }
 
 pub none-fault_of : (n : ℕ) (tx : Tx) → IsFit n tx → fault_of n tx ≡ None
@@ -137,4 +158,4 @@ none-fault_of n tx fit =
     (passes (not (is_dot tx.dot)) BadDot _ _ (false_of (is_dot tx.dot) dot)
     (passes (not (is_within 1 (2 ^ 62) tx.rank)) BadRank _ _ (false_of (is_within 1 (2 ^ 62) tx.rank) rank)
     (passes (not (length tx.snap == n)) (WrongWidth (length tx.snap)) _ _ (false_of (length tx.snap == n) width)
-    (none_of_both (snap_fault tx.snap) (updates_fault 0 tx.updates) (none-snap_fault tx.snap fit.snap) (none-updates_fault 0 tx.updates fit.deltas))))))
+    (none_of_both (snap_fault tx.snap) (updates_fault 0 tx.updates) (none-snap_fault tx.snap fit.snap) (none-updates_fault 0 tx.updates fit.updates))))))

@@ -1,14 +1,16 @@
 -- Which transactions are fit, and what is wrong with the others.
-use Rattle.std.specs.Prelude.{◌≡◌, ◌≤◌, ◌==◌, ◌&&◌, ◌+◌, ◌^◌, ℕ, neg_ℤ, pos, ◌≤ℤ◌, Bool, not, nat_le, nat_lt, unsigned_abs, if◌then◌else◌, Option, Some, None, List, [], ◌∷◌, length, position, All}
+use Rattle.std.specs.Prelude.{◌≡◌, ◌≤◌, ◌==◌, ◌&&◌, ◌+◌, ◌^◌, ℕ, neg_ℤ, pos, ◌≤ℤ◌, Bool, true, not, nat_le, nat_lt, unsigned_abs, Option, Some, None, List, [], ◌∷◌, length, position, All}
 use Rattle.std.specs.Option.{option_or, option_map}
 use Rattle.list_core.specs.Choices.{when, first_of}
 use Rattle.ids_core.specs.declared.ids.Dot.{Dot}
+use Rattle.ids_core.specs.Ids.{same_sort}
 use Rattle.tx_core.specs.declared.op.Op.{Op}
 use Rattle.tx_core.specs.declared.op.Op.TheVariants.{Inc}
 use Rattle.tx_core.specs.declared.tx.Update.{Update}
 use Rattle.tx_core.specs.declared.tx.Tx.{Tx}
 use Rattle.tx_core.specs.declared.check.TxFault.{TxFault}
-use Rattle.tx_core.specs.declared.check.TxFault.TheVariants.{NoUpdates, TooManyUpdates, BadDot, BadRank, WrongWidth, BadSnap, DeltaTooLarge}
+use Rattle.tx_core.specs.declared.check.TxFault.TheVariants.{NoUpdates, TooManyUpdates, BadDot, BadRank, WrongWidth, BadSnap, WrongKind, DeltaTooLarge, TooManyTags}
+use Rattle.tx_core.specs.Ops.{sort_of_op, over_of}
 
 -- from low to high, both included
 abbrev pub is_within : ℕ → ℕ → ℕ → Bool
@@ -18,9 +20,10 @@ is_within low high number = nat_le low number && nat_le number high
 abbrev pub is_dot : Dot → Bool
 is_dot dot = is_within 1 1024 dot.client && is_within 1 (2 ^ 62) dot.number
 
--- a delta of at most 10^12, up or down
+-- a delta of at most 10^12, up or down, if there is one
 abbrev pub is_small : Op → Bool
 is_small (Inc delta) = nat_le (unsigned_abs delta) 1000000000000
+is_small _ = true
 
 -- the least centre with an entry above 1,000,000 is at fault
 abbrev pub snap_fault : List ℕ → Option TxFault
@@ -28,7 +31,13 @@ snap_fault snap = option_map (λ place. BadSnap (place + 1)) (position (nat_lt 1
 
 -- what is wrong with the update at a place
 abbrev pub update_fault : ℕ → Update → Option TxFault
-update_fault place update = if is_small update.op then None else Some (DeltaTooLarge place)
+update_fault place update =
+    first_of (
+    when (not (same_sort (sort_of_op update.op) update.object.sort)) (Some (WrongKind place))
+    ∷ when (not (is_small update.op)) (Some (DeltaTooLarge place))
+    ∷ when (nat_lt 4096 (length (over_of update.op))) (Some (TooManyTags place (length (over_of update.op))))
+    ∷ [])
+    None
 
 -- what is wrong with the first update at fault, where the first of all has that place
 abbrev pub updates_fault : ℕ → List Update → Option TxFault
@@ -47,9 +56,16 @@ fault_of n tx =
     ∷ [])
     (option_or (snap_fault tx.snap) (updates_fault 0 tx.updates))
 
--- the delta lies in ±10^12
+-- the delta, if there is one, lies in ±10^12
 abbrev pub HasSmallDelta : Op → Type 0
 HasSmallDelta (Inc delta) = (neg_ℤ (pos 1000000000000) ≤ℤ delta) × (delta ≤ℤ pos 1000000000000)
+HasSmallDelta _ = Unit {0}
+
+-- the operation is of its object's kind, its delta is small, and it is over at most 4,096 identifiers
+pub record IsFitUpdate (update : Update) : Type 0 where
+  pub kind : sort_of_op update.op ≡ update.object.sort
+  pub delta : HasSmallDelta update.op
+  pub tags : length (over_of update.op) ≤ 4096
 
 -- a transaction that is fit for n centres
 pub record IsFit (n : ℕ) (tx : Tx) : Type 0 where
@@ -60,4 +76,4 @@ pub record IsFit (n : ℕ) (tx : Tx) : Type 0 where
   pub rank : (1 ≤ tx.rank) × (tx.rank ≤ 2 ^ 62)
   pub width : length tx.snap ≡ n
   pub snap : All (λ entry. entry ≤ 1000000) tx.snap
-  pub deltas : All (λ update. HasSmallDelta update.op) tx.updates
+  pub updates : All IsFitUpdate tx.updates

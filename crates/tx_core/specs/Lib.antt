@@ -1,2 +1,5 @@
 pub mod Checks
+pub mod Objects
+pub mod Ops
+pub mod Same
 pub mod States

@@ -1,6 +1,6 @@
 // Which transactions are taken.
 ghost use Rattle.std.specs.Prelude.{◌≡◌, ◌≤◌, ◌<◌, ◌↔◌, Some, None, OnOk, IfErr, IfSome, IsOk, length, nat_lt, position};
-ghost use Rattle.tx_core.specs.Checks.{fault_of, is_dot, is_within, snap_fault, updates_fault, update_fault, IsFit};
+ghost use Rattle.tx_core.specs.Checks.{fault_of, is_dot, is_small, is_within, snap_fault, updates_fault, update_fault, IsFit};
 
 use crate::op::Op;
 use crate::tx::{Tx, Update};
@@ -22,13 +22,17 @@ pub enum TxFault {
     WrongWidth { width: u8 },
     /// An entry of the snapshot is above 1,000,000; the least such centre.
     BadSnap { centre: u8 },
+    /// The operation of the update at that place is not of its object's kind.
+    WrongKind { place: u16 },
     /// The delta of the update at that place is outside ±10^12.
     DeltaTooLarge { place: u16 },
+    /// The operation of the update at that place is over more than 4,096 identifiers.
+    TooManyTags { place: u16, count: u64 },
 }
 
 impl Tx {
     /// Whether the transaction is fit for a system of `n` centres. An `Err` names the first fault,
-    /// in the order of `TxFault`, and among the updates that of the least place.
+    /// in the order of `TxFault`, where the last three are those of the least place that has one.
     pub fn check(&self, n: u8) -> Result<(), TxFault>
         ensures taken { OnOk result (fault_of n self.now ≡ None) }
         ensures refused { IfErr result (λ fault. fault_of n self.now ≡ Some fault) }
@@ -112,13 +116,23 @@ fn updates_fault(updates: &[Update]) -> Option<TxFault>
 fn update_fault(place: u16, update: &Update) -> Option<TxFault>
     ensures { result ≡ update_fault place update.now }
 {
-    match update.op {
-        Op::Inc { delta } => {
-            if delta.unsigned_abs() <= 1_000_000_000_000 {
-                None
-            } else {
-                Some(TxFault::DeltaTooLarge { place })
-            }
-        }
+    let count = update.op.tag_count() as u64;
+    if update.op.sort() != update.object.sort {
+        Some(TxFault::WrongKind { place })
+    } else if !is_small(&update.op) {
+        Some(TxFault::DeltaTooLarge { place })
+    } else if count > 4_096 {
+        Some(TxFault::TooManyTags { place, count })
+    } else {
+        None
+    }
+}
+
+fn is_small(op: &Op) -> bool
+    ensures { result ≡ is_small op.now }
+{
+    match op {
+        Op::Inc { delta } => delta.unsigned_abs() <= 1_000_000_000_000,
+        _ => true,
     }
 }

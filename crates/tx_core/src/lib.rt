@@ -2,11 +2,15 @@
 #![tactic(auto)]
 
 mod check;
+mod laws;
+mod names;
 mod op;
 mod state;
 mod tx;
 
 pub use check::TxFault;
+pub use laws::{law_state_order, law_state_tags, law_state_value};
+pub use names::{NamePairs, Names};
 pub use op::Op;
 pub use state::{State, Value};
 pub use tx::{Record, Tx, Update, Updates};

@@ -1,10 +1,11 @@
 -- What is written is the first entry and the later ones, which is the vector's text.
 use Rattle.std.proofs.Common.{◌++◌, ◌∙◌, ap}
+use Rattle.std.specs.Prelude.{decimal}
 use Rattle.print_text.specs.Text.{vector_text}
-use Rattle.print_text.proofs.Texts.{vector_written}
+use Rattle.print_text.proofs.Texts.{joined_written}
 use Rattle.print_text.proofs.text.write_vector.Goals as goal
 
 pub returns-in_ok-write_later : goal.returns-in_ok-write_later
 returns-in_ok-write_later c =
-    vector_written c.args.text.now.items c.write_number.new.text.items c.write_later.new.text.items c.as_slice.result.now c.in-len1-up.len_at_least c.in_ok-write_number.ensures c.in_ok-write_later.ensures
+    joined_written 44 decimal 0 c.args.text.now.items c.write_number.new.text.items c.write_later.new.text.items c.as_slice.result.now c.in-len1-up.len_at_least c.in_ok-write_number.ensures c.in_ok-write_later.ensures
     ∙ ap (λ vector. c.args.text.now.items ++ vector_text vector) c.as_slice.ensures.value

@@ -1,18 +1,17 @@
 use Rattle.std.proofs.Common.{refl}
-use Rattle.script_text.proofs.Spellings.{no_line, one_connect}
+use Rattle.script_text.proofs.Spellings.{change_left, one_connect}
 use Rattle.script_text.proofs.line.read_line.Goals as goal
 
 pub returns-then-same_bytes-clause-taken : goal.returns-then-same_bytes-clause-taken
 returns-then-same_bytes-clause-taken c = (refl, one_connect c.args.text.now (c.if-same_bytes.ensures.0 refl))
 
-pub returns-in-None-clause-exact : goal.returns-in-None-clause-exact
-returns-in-None-clause-exact c = λ step is e. absurd (
-    no_line step c.args.text.now is e
+pub returns-in-Some-behind-clause-exact : goal.returns-in-Some-behind-clause-exact
+returns-in-Some-behind-clause-exact c = λ step is e. change_left
+    step c.args.text.now c.in-Some-behind.change.now c.change_of.result is e c.in-Some-behind.ensures.found
     (λ same. let yes = c.if-same_bytes.ensures.1 same in cc)
     (λ same. let yes = c.if-same_bytes-2.ensures.1 same in cc)
     (λ same. let yes = c.if-same_bytes-3.ensures.1 same in cc)
     (λ same. let yes = c.if-same_bytes-4.ensures.1 same in cc)
     (λ same. let yes = c.if-same_bytes-5.ensures.1 same in cc)
     c.in_default.ensures.none
-    c.in-None.ensures.none
-    )
+    c.change_of.ensures.exact

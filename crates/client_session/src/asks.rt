@@ -1,0 +1,86 @@
+// What a session asks of a centre.
+ghost use Rattle.std.specs.Prelude.{◌≡◌, ◌≢◌, ◌↔◌, ℕ, IfOk, IfSome};
+ghost use Rattle.dc_talk.specs.Clients.{settled};
+ghost use Rattle.dc_talk.specs.Rule.{hello_of, Gives};
+ghost use Rattle.client_session.specs.SessionAnswers.{refresh_ask, fetch_ask, commit_ask};
+
+use crate::session::Session;
+use dc_talk::{Ask, Refusal};
+use ids_core::ObjectId;
+
+impl Session {
+    /// The ask by which the session comes to a centre. It takes no memory.
+    pub fn ask_hello(&self) -> Ask
+        ensures ask { result ≡ hello_of self.now }
+        ensures gives { (centre : ℕ) → Gives self.now centre result }
+    {
+        Ask::Hello {
+            client: self.client,
+            need: self.vector,
+        }
+    }
+
+    /// The ask for a newer snapshot, and the centre that is asked. It takes no memory.
+    pub fn ask_refresh(&self) -> Result<(u8, Ask), Refusal>
+        ensures ask { result ≡ refresh_ask self.now }
+        ensures gives { IfOk result (λ asked. Gives self.now asked.0 asked.1) }
+        ensures not_connected { (result ≡ Err Refusal.NotConnected) ↔ (self.now.link ≡ None) }
+    {
+        match self.link {
+            None => Err(Refusal::NotConnected),
+            Some(link) => {
+                if self.draft.is_some() {
+                    return Err(Refusal::AlreadyOpen);
+                }
+                let ask = Ask::Refresh {
+                    client: self.client,
+                    at: self.vector,
+                };
+                Ok((link.centre, ask))
+            }
+        }
+    }
+
+    /// The ask for the state of an object at the snapshot, and the centre that is asked. It takes
+    /// no memory.
+    pub fn ask_fetch(&self, object: &ObjectId) -> Result<(u8, Ask), Refusal>
+        ensures ask { result ≡ fetch_ask self.now object.now }
+        ensures gives { IfOk result (λ asked. Gives self.now asked.0 asked.1) }
+        ensures not_connected { (result ≡ Err Refusal.NotConnected) ↔ (self.now.link ≡ None) }
+    {
+        match self.link {
+            None => Err(Refusal::NotConnected),
+            Some(link) => {
+                let ask = Ask::Fetch {
+                    object: *object,
+                    at: self.vector,
+                };
+                Ok((link.centre, ask))
+            }
+        }
+    }
+
+    /// The next commit for the connected centre, and that centre. `None` says that none is left: the
+    /// greater of the number that the centre is known to have and that of the snapshot is that of the
+    /// last commit. Only the copy of a commit takes memory.
+    pub fn ask_commit(&self) -> Result<Option<(u8, Ask)>, Refusal>
+        ensures ask { result ≢ Err Refusal.NoMemory → result ≡ commit_ask self.now }
+        ensures gives { IfOk result (λ asked. IfSome asked (λ asked. Gives self.now asked.0 asked.1)) }
+        ensures not_connected { (result ≡ Err Refusal.NotConnected) ↔ (self.now.link ≡ None) }
+        ensures none { IfSome self.now.link (λ link. (result ≡ Ok None) ↔ (settled self.now link ≡ self.now.own)) }
+    {
+        match self.link {
+            None => Err(Refusal::NotConnected),
+            Some(link) => {
+                let settled = link.sent.max(self.mine);
+                match self.pending.get((settled - self.mine) as usize) {
+                    None => Ok(None),
+                    Some(tx) => match tx.copy() {
+                        Ok(tx) => Ok(Some((link.centre, Ask::Commit { tx }))),
+                        Err(_) => Err(Refusal::NoMemory),
+                    },
+                }
+            }
+        }
+    }
+}

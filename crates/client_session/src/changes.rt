@@ -1,0 +1,172 @@
+// Changes of objects in the open transaction.
+ghost use Rattle.std.specs.Prelude.{◌≡◌, ◌≢◌, ◌≤◌, ◌<◌, ◌++◌, ◌∷◌, [], length, true, Some, None, IsSome, IfOk, IfErr, OnOk, OnErr, IfSome, IfNone};
+ghost use Rattle.std.specs.Option.{unwrap_or};
+ghost use Rattle.tx_core.specs.Checks.{IsFitUpdate};
+ghost use Rattle.dc_talk.specs.Calls.{kind_of, is_modest, named, op_of, tags_in, most_tags};
+
+use crate::session::Session;
+use dc_talk::{Call, Change, Outcome, Refusal};
+use ids_core::{Name, NoMemory, ObjectId, Sort, Tags};
+use std::alloc::Global;
+use tx_core::{Op, Update, Updates};
+
+/// The most updates of one transaction.
+const MOST_UPDATES: u64 = 256;
+
+/// The most live identifiers that a change may be over.
+const MOST_TAGS: u64 = 4_096;
+
+impl Session {
+    ghost use Rattle.dc_talk.specs.Clients.{promoted, draft_updates};
+    ghost use Rattle.dc_talk.specs.Calls.{Ends, most_updates, over, viewed, look_up_outcome, change_outcome, looked_up};
+
+    /// Changes an object in the open transaction. A change of a set or a map is over the live
+    /// identifiers of its word or key in what the client has of the object, and looks it up: the
+    /// object's entry becomes the first of the cache, where there is one. After each refusal all else is
+    /// as it was.
+    pub fn update(
+        &mut self,
+        alloc: Global,
+        object: &ObjectId,
+        change: &Change,
+    ) -> Result<(), Refusal>
+        ensures taken { OnOk result (Ends self.old self.new (Call.Change object.now change.now) Outcome.Fine) }
+        ensures refused { IfErr result (λ refusal. refusal ≢ Refusal.NoMemory → Ends self.old self.new (Call.Change object.now change.now) (Outcome.Refused refusal)) }
+        ensures memory { result ≡ Err Refusal.NoMemory → self.new ≡ record self.old { cache = looked_up self.old object.now change.now } }
+    {
+        match self.update_refusal(object, change) {
+            Some(refusal) => Err(refusal),
+            None => match self.op_of(alloc, object, change) {
+                Err(refusal) => Err(refusal),
+                Ok(op) => {
+                    let update = Update {
+                        object: *object,
+                        op,
+                    };
+                    push_update(&mut self.draft, update)
+                }
+            },
+        }
+    }
+
+    // Why a change is refused before any look-up.
+    fn update_refusal(&self, object: &ObjectId, change: &Change) -> Option<Refusal>
+        ensures none { IfNone result (change_outcome self.now object.now change.now ≡ look_up_outcome object.now (named change.now) (viewed self.now object.now)) }
+        ensures fits { IfNone result ((kind_of change.now ≡ object.now.sort) × (is_modest change.now ≡ true)) }
+        ensures open { IfNone result (IsSome self.now.draft × (length (draft_updates self.now) < most_updates)) }
+        ensures some { IfSome result (λ refusal. Ends self.now self.now (Call.Change object.now change.now) (Outcome.Refused refusal)) }
+        ensures known { IfSome result (λ refusal. refusal ≢ Refusal.NoMemory) }
+    {
+        match &self.draft {
+            None => Some(Refusal::NotOpen),
+            Some(updates) => {
+                if kind_of(change) != object.sort {
+                    Some(Refusal::WrongKind)
+                } else if !is_modest(change) {
+                    Some(Refusal::DeltaTooLarge)
+                } else if MOST_UPDATES <= updates.len() as u64 {
+                    Some(Refusal::TooManyUpdates {
+                        limit: MOST_UPDATES,
+                    })
+                } else {
+                    None
+                }
+            }
+        }
+    }
+
+    // The operation of a change, over what is live of its word or key.
+    fn op_of(&mut self, alloc: Global, object: &ObjectId, change: &Change) -> Result<Op, Refusal>
+        ensures ok { IfOk result (λ op. (look_up_outcome object.now (named change.now) (viewed self.old object.now) ≡ Outcome.Fine) × (op ≡ op_of change.now (over self.old object.now change.now))) }
+        ensures few { IfOk result (λ op. length (over self.old object.now change.now) ≤ most_tags) }
+        ensures refused { IfErr result (λ refusal. refusal ≢ Refusal.NoMemory → look_up_outcome object.now (named change.now) (viewed self.old object.now) ≡ Outcome.Refused refusal) }
+        ensures cache { self.new ≡ record self.old { cache = looked_up self.old object.now change.now } }
+    {
+        match *change {
+            Change::Inc { delta } => Ok(Op::Inc { delta }),
+            Change::Write { word } => Ok(Op::Write { word }),
+            Change::Add { word } => {
+                let over = self.live(alloc, object, &word)?;
+                Ok(Op::Add { word, over })
+            }
+            Change::Remove { word } => {
+                let over = self.live(alloc, object, &word)?;
+                Ok(Op::Remove { word, over })
+            }
+            Change::Put { key, word } => {
+                let over = self.live(alloc, object, &key)?;
+                Ok(Op::Put { key, word, over })
+            }
+            Change::Erase { key } => {
+                let over = self.live(alloc, object, &key)?;
+                Ok(Op::Erase { key, over })
+            }
+        }
+    }
+
+    // What is live of a word or key in what the client has of the object.
+    fn live(&mut self, alloc: Global, object: &ObjectId, name: &Name) -> Result<Tags, Refusal>
+        ensures ok { IfOk result (λ tags. (look_up_outcome object.now (Some name.now) (viewed self.old object.now) ≡ Outcome.Fine) × (tags ≡ tags_in (Some name.now) (viewed self.old object.now))) }
+        ensures few { IfOk result (λ tags. length tags ≤ most_tags) }
+        ensures refused { IfErr result (λ refusal. refusal ≢ Refusal.NoMemory → look_up_outcome object.now (Some name.now) (viewed self.old object.now) ≡ Outcome.Refused refusal) }
+        ensures cache { self.new ≡ record self.old { cache = promoted object.now self.old.vector self.old.cache } }
+    {
+        match self.look_up(object) {
+            Err(refusal) => Err(refusal),
+            Ok(state) => match state.tags_of(alloc, name) {
+                Err(NoMemory) => Err(Refusal::NoMemory),
+                Ok(tags) => few(tags),
+            },
+        }
+    }
+}
+
+// The identifiers, where they are few enough.
+fn few(tags: Tags) -> Result<Tags, Refusal>
+    ensures ok { IfOk result (λ same. (same ≡ tags) × (length tags ≤ most_tags)) }
+    ensures refused { IfErr result (λ refusal. (most_tags < length tags) × (refusal ≡ Refusal.TooManyTags (length tags))) }
+{
+    let count = tags.as_slice().len() as u64;
+    if MOST_TAGS < count {
+        Err(Refusal::TooManyTags { count })
+    } else {
+        Ok(tags)
+    }
+}
+
+// The kind of objects that a change is of.
+fn kind_of(change: &Change) -> Sort
+    ensures { result ≡ kind_of change.now }
+{
+    match change {
+        Change::Inc { .. } => Sort::Counter,
+        Change::Write { .. } => Sort::Register,
+        Change::Add { .. } | Change::Remove { .. } => Sort::Set,
+        Change::Put { .. } | Change::Erase { .. } => Sort::Map,
+    }
+}
+
+// Whether the delta, if there is one, lies in -10^12 to 10^12.
+fn is_modest(change: &Change) -> bool
+    ensures { result ≡ is_modest change.now }
+{
+    match change {
+        Change::Inc { delta } => delta.unsigned_abs() <= 1_000_000_000_000,
+        _ => true,
+    }
+}
+
+// Puts an update at the end of the open ones.
+fn push_update(draft: &mut Option<Updates>, update: Update) -> Result<(), Refusal>
+    requires { IsSome draft.old }
+    ensures ok { OnOk result (draft.new ≡ Some (unwrap_or draft.old [] ++ update ∷ [])) }
+    ensures err { IfErr result (λ refusal. (refusal ≡ Refusal.NoMemory) × (draft.new ≡ draft.old)) }
+{
+    match draft {
+        None => Ok(()),
+        Some(updates) => match updates.push(update) {
+            Ok(()) => Ok(()),
+            Err(_) => Err(Refusal::NoMemory),
+        },
+    }
+}
