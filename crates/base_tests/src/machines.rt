@@ -1,44 +1,10 @@
 // A gate as a machine, kept by generic code.
 ghost use Rattle.hist_lock.specs.History.{IsKept};
 
+use crate::gate::Gate;
 use hist_lock::{Kept, Machine};
 use ids_core::NoMemory;
 use std::test::Fail;
-
-// It lets the first so many guests in.
-#[derive(Drop)]
-struct Gate {
-    most: u64,
-    inside: u64,
-}
-
-impl Machine for Gate {
-    type Ask = u32;
-
-    type Say = bool;
-
-    type Settings = u64;
-
-    ghost use Rattle.std.specs.Prelude.{◌≡◌, length, min, nat_lt};
-
-    ghost settings = { λ gate. gate.most };
-
-    ghost reply = { λ most log guest. nat_lt (length log) most };
-
-    ghost stands = { λ gate log. gate.inside ≡ min (length log) gate.most };
-
-    fn step(&mut self, _guest: &u32) -> Result<(bool, bool), NoMemory> {
-        let open = self.inside < self.most;
-        if open {
-            self.inside += 1;
-        }
-        Ok((open, open))
-    }
-
-    fn copy_ask(guest: &u32) -> Result<u32, NoMemory> {
-        Ok(*guest)
-    }
-}
 
 // Whatever the machine is, it stays kept over two asks.
 fn ask_both<M: Machine>(
@@ -56,7 +22,7 @@ fn ask_both<M: Machine>(
 
 #[test]
 fn a_gate_lets_so_many_in(rt: HostRuntime) -> Result<(), Fail> {
-    let mut kept = Kept::new(rt.alloc(), Gate { most: 1, inside: 0 });
+    let mut kept = Kept::new(rt.alloc(), Gate::new(1));
     assert_eq!(rt; kept.trail.len(), 0);
     assert!(rt; kept.trail.get(0).is_none());
     assert_eq!(rt; ask_both(&mut kept, &70, &71)?, (true, false));

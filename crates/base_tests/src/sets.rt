@@ -1,16 +1,14 @@
 // Tallies and sets.
-use ids_core::{Dot, Kind, Mark, Name, NoMemory, OpId, Tags, fold_all, law_order};
+use crate::samples::id;
+use ids_core::{Kind, Mark, Name, NoMemory, OpId, Tags, fold_all, law_order};
 use obj_set::{SetOp, SetState, law_live};
 use std::alloc::Global;
 use std::test::Fail;
 use tally_core::{Tallies, law_sees, law_tallies};
 
+// The mark of the first operation of a transaction, whose rank is its number.
 fn mark(client: u32, number: u64) -> Mark {
-    let dot = Dot { client, number };
-    Mark {
-        rank: number,
-        id: OpId { dot, place: 0 },
-    }
+    crate::samples::mark(number, id(client, number, 0))
 }
 
 // The tags of these identifiers, which ascend.

@@ -1,15 +1,10 @@
 // Names, identifiers, marks and objects.
-use crate::samples::counter;
+use crate::samples::{id, mark};
 use ids_core::{
-    BadName, Dot, Mark, Name, OpId, Tags, id_order, law_id_order, law_mark_order, law_name_order,
-    mark_order,
+    BadName, Name, ObjectId, OpId, Sort, Tags, id_order, law_id_order, law_mark_order,
+    law_name_order, mark_order,
 };
 use std::test::Fail;
-
-fn id(client: u32, number: u64, place: u16) -> OpId {
-    let dot = Dot { client, number };
-    OpId { dot, place }
-}
 
 #[test]
 fn marks_go_by_rank_then_client_then_number_then_place(rt: HostRuntime) {
@@ -24,14 +19,8 @@ fn marks_go_by_rank_then_client_then_number_then_place(rt: HostRuntime) {
     ];
     for (i, low) in marks.iter().enumerate() {
         for (j, high) in marks.iter().enumerate() {
-            let first = Mark {
-                rank: low.0,
-                id: low.1,
-            };
-            let second = Mark {
-                rank: high.0,
-                id: high.1,
-            };
+            let first = mark(low.0, low.1);
+            let second = mark(high.0, high.1);
             assert_eq!(rt; mark_order(&first, &second), i.cmp(&j), "at {i} and {j}");
             if low.0 == high.0 {
                 assert_eq!(rt; id_order(&low.1, &high.1), i.cmp(&j), "at {i} and {j}");
@@ -49,8 +38,30 @@ fn names_alone_are_read(rt: HostRuntime) -> Result<(), Fail> {
     for text in ["", "A", "a-b", "a b", "abcdefghijklmnopqrstuvwxyz_012345"] {
         assert_eq!(rt; Name::read(text.as_bytes()), Err(BadName), "at {text}");
     }
-    assert_eq!(rt; counter("a")?, counter("a")?);
-    assert_ne!(rt; counter("a")?, counter("ab")?);
+    Ok(())
+}
+
+#[test]
+fn objects_differ_by_kind_and_name(rt: HostRuntime) -> Result<(), Fail> {
+    let objects = [
+        (Sort::Counter, "a"),
+        (Sort::Counter, "ab"),
+        (Sort::Set, "a"),
+        (Sort::Map, "a"),
+    ];
+    for (i, low) in objects.iter().enumerate() {
+        for (j, high) in objects.iter().enumerate() {
+            let low = ObjectId {
+                sort: low.0,
+                name: Name::read(low.1.as_bytes())?,
+            };
+            let high = ObjectId {
+                sort: high.0,
+                name: Name::read(high.1.as_bytes())?,
+            };
+            assert_eq!(rt; low == high, i == j, "at {i} and {j}");
+        }
+    }
     Ok(())
 }
 

@@ -1,18 +1,13 @@
 // Counters and registers as kinds of replicated objects.
-use ids_core::{Dot, Kind, Mark, Name, NoMemory, OpId, fold_all, law_order};
+use crate::samples::{id, mark};
+use ids_core::{Kind, Mark, Name, NoMemory, fold_all, law_order};
 use obj_counter::{CounterOp, CounterState, law_counter};
 use obj_register::{RegisterOp, RegisterState, law_register};
 use std::alloc::Global;
 use std::test::Fail;
 
-fn mark(rank: u64, client: u32, number: u64, place: u16) -> Mark {
-    let dot = Dot { client, number };
-    let id = OpId { dot, place };
-    Mark { rank, id }
-}
-
 fn inc(place: u16, delta: i64) -> (Mark, CounterOp) {
-    (mark(1, 1, 1, place), CounterOp { delta })
+    (mark(1, id(1, 1, place)), CounterOp { delta })
 }
 
 #[test]
@@ -45,10 +40,10 @@ fn the_greatest_mark_wins_in_either_order(rt: HostRuntime) -> Result<(), Fail> {
     let low = Name::read(b"low")?;
     let high = Name::read(b"high")?;
     for (below, above) in [
-        (mark(1, 9, 9, 9), mark(2, 1, 1, 0)),
-        (mark(2, 1, 9, 9), mark(2, 2, 1, 0)),
-        (mark(2, 2, 1, 9), mark(2, 2, 2, 0)),
-        (mark(2, 2, 2, 1), mark(2, 2, 2, 3)),
+        (mark(1, id(9, 9, 9)), mark(2, id(1, 1, 0))),
+        (mark(2, id(1, 9, 9)), mark(2, id(2, 1, 0))),
+        (mark(2, id(2, 1, 9)), mark(2, id(2, 2, 0))),
+        (mark(2, id(2, 2, 1)), mark(2, id(2, 2, 3))),
     ] {
         let up = [write(&below, &low), write(&above, &high)];
         let down = [write(&above, &high), write(&below, &low)];
