@@ -1,4 +1,6 @@
 // A machine that lets guests in.
+ghost use Rattle.std.specs.Prelude.{◌≡◌};
+
 use hist_lock::Machine;
 use ids_core::NoMemory;
 
@@ -25,7 +27,7 @@ impl Machine for Gate {
 
     type Settings = u64;
 
-    ghost use Rattle.std.specs.Prelude.{◌≡◌, length, min, nat_lt};
+    ghost use Rattle.std.specs.Prelude.{length, min, nat_lt};
 
     ghost settings = { λ gate. gate.most };
 
