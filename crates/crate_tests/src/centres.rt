@@ -27,12 +27,18 @@ fn commit_of(alloc: Global, number: u64, snap: Vector) -> Result<Ask, Fail> {
 
 // What the centre answers, as it is printed; of a state its value.
 fn said(alloc: Global, centre: &mut Centre, ask: &Ask) -> Result<String, Fail> {
-    match centre.step(alloc, ask)? {
-        (Say::Object { state }, _) => {
+    let (say, _twin) = centre.step(alloc, ask)?;
+    shown(alloc, &say)
+}
+
+// An answer as it is printed; of a state its value.
+fn shown(alloc: Global, say: &Say) -> Result<String, Fail> {
+    match say {
+        Say::Object { state } => {
             let value = state.value(alloc)?;
             Ok(format!(in alloc; "{value:?}")?)
         }
-        (say, _) => Ok(format!(in alloc; "{say:?}")?),
+        other => Ok(format!(in alloc; "{other:?}")?),
     }
 }
 
