@@ -73,7 +73,7 @@ impl Session {
             None => Err(Refusal::NotConnected),
             Some(link) => {
                 let settled = link.sent.max(self.mine);
-                match self.pending.get((settled - self.mine) as usize) {
+                match self.pending.as_slice().get((settled - self.mine) as usize) {
                     None => Ok(None),
                     Some(tx) => match tx.copy() {
                         Ok(tx) => Ok(Some((link.centre, Ask::Commit { tx }))),

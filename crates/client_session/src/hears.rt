@@ -72,7 +72,7 @@ impl Session {
         ensures new { self.new ≡ (if (client == self.old.client) && is_linked centre self.old.link && can_follow self.old vector.now mine top then record self.old { vector = vector.now; mine = mine; clock = max self.old.clock top; pending = drop (mine - self.old.mine) self.old.pending } else self.old) }
     {
         if client == self.client && self.is_linked(centre) && self.can_follow(vector, mine, top) {
-            drop_front(&mut self.pending, (mine - self.mine) as usize);
+            self.pending.drop_front((mine - self.mine) as usize);
             self.vector = *vector;
             self.mine = mine;
             self.clock = self.clock.max(top);
@@ -141,14 +141,4 @@ impl Session {
             && self.mine <= mine
             && mine <= self.own
     }
-}
-
-// Drops so many transactions at the front.
-fn drop_front(pending: &mut Vec<Tx>, count: usize)
-    requires { count ≤ vec_len pending.old }
-    ensures { pending.new.items ≡ drop count pending.old.items }
-{
-    let left = pending.len() - count;
-    pending.as_mut_slice().rotate_left(count);
-    pending.truncate(left);
 }

@@ -2,6 +2,7 @@
 ghost use Rattle.std.specs.Prelude.{◌≡◌, ◌≢◌, ◌≤◌, ◌<◌, ◌↔◌, ◌++◌, ◌∷◌, [], ◌+◌, length, vec_len, vec_capacity, IsSome, IsTrue, IfOk, IfErr, OnOk, OnErr, IfSome, IfNone};
 
 use client_cache::Cache;
+use client_pending::Pending;
 use dc_talk::{Call, Link, Outcome, Refusal};
 use ids_core::{Dot, NoMemory};
 use std::alloc::Global;
@@ -45,7 +46,7 @@ pub struct Session {
     pub(crate) mine: u64,
     pub(crate) clock: u64,
     // The commits `mine + 1` to `own`.
-    pub(crate) pending: Vec<Tx>,
+    pub(crate) pending: Pending,
     pub(crate) link: Option<Link>,
     pub(crate) draft: Option<Updates>,
     pub(crate) cache: Cache,
@@ -62,9 +63,9 @@ impl Model for Session {
 
     ghost coded = { Prim.hlevel (codes, set_code, map_code) };
 
-    ghost view = { λ s. record { client = s.client; vector = s.vector; own = s.own; mine = s.mine; clock = s.clock; pending = s.pending.items; link = s.link; draft = s.draft; cache = s.cache.entries; capacity = s.cache.capacity } };
+    ghost view = { λ s. record { client = s.client; vector = s.vector; own = s.own; mine = s.mine; clock = s.clock; pending = s.pending; link = s.link; draft = s.draft; cache = s.cache.entries; capacity = s.cache.capacity } };
 
-    ghost invariant = { λ s. IsClient (record { client = s.client; vector = s.vector; own = s.own; mine = s.mine; clock = s.clock; pending = s.pending.items; link = s.link; draft = s.draft; cache = s.cache.entries; capacity = s.cache.capacity }) };
+    ghost invariant = { λ s. IsClient (record { client = s.client; vector = s.vector; own = s.own; mine = s.mine; clock = s.clock; pending = s.pending; link = s.link; draft = s.draft; cache = s.cache.entries; capacity = s.cache.capacity }) };
 }
 
 impl Session {
@@ -86,7 +87,7 @@ impl Session {
             own: 0,
             mine: 0,
             clock: 0,
-            pending: Vec::new(alloc),
+            pending: Pending::new(alloc),
             link: None,
             draft: None,
             cache: Cache::new(alloc, cache)?,
@@ -116,7 +117,7 @@ impl Session {
             is_open: self.draft.is_some(),
             centre,
             sent,
-            pending: self.pending.len() as u64,
+            pending: self.pending.as_slice().len() as u64,
         }
     }
 
@@ -188,7 +189,7 @@ impl Session {
         match &self.draft {
             None => Some(Refusal::NotOpen),
             Some(updates) => {
-                if !updates.is_empty() && MOST_PENDING <= self.pending.len() as u64 {
+                if !updates.is_empty() && MOST_PENDING <= self.pending.as_slice().len() as u64 {
                     Some(Refusal::PendingFull {
                         limit: MOST_PENDING,
                     })
@@ -215,35 +216,31 @@ impl Session {
         ensures ok { IfOk result (λ number. (number ≡ self.old.own + 1) × (self.new ≡ committed self.old)) }
         ensures err { IfErr result (λ refusal. (refusal ≡ Refusal.NoMemory) × (self.new ≡ self.old)) }
     {
-        if self.pending.reserve(1).is_err() {
-            return Err(Refusal::NoMemory);
-        }
         match self.draft.take() {
             None => unreachable!(),
             Some(updates) => {
-                self.own += 1;
-                self.clock += 1;
                 let dot = Dot {
                     client: self.client,
-                    number: self.own,
+                    number: self.own + 1,
                 };
                 let tx = Tx {
                     dot,
-                    rank: self.clock,
+                    rank: self.clock + 1,
                     snap: self.vector,
                     updates,
                 };
-                push_reserved(&mut self.pending, tx);
-                Ok(self.own)
+                match self.pending.push(tx) {
+                    Ok(()) => {
+                        self.own += 1;
+                        self.clock += 1;
+                        Ok(self.own)
+                    }
+                    Err(Tx { updates, .. }) => {
+                        self.draft = Some(updates);
+                        Err(Refusal::NoMemory)
+                    }
+                }
             }
         }
     }
-}
-
-// Puts a transaction at the end, where there is room for it.
-fn push_reserved(pending: &mut Vec<Tx>, tx: Tx)
-    requires { vec_len pending.old < vec_capacity pending.old }
-    ensures { pending.new.items ≡ pending.old.items ++ tx ∷ [] }
-{
-    let _ = pending.push(tx);
 }

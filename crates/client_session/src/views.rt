@@ -53,7 +53,7 @@ impl Session {
         ensures { IfOk result (λ seen. seen ≡ view self.now object.now state) }
     {
         let mut state = state;
-        fold_pending(&mut state, object, self.pending.as_slice())?;
+        self.pending.fold(object, &mut state)?;
         if let Some(updates) = &self.draft {
             let dot = Dot {
                 client: self.client,
@@ -63,17 +63,6 @@ impl Session {
         }
         Ok(state)
     }
-}
-
-// Folds the updates of an object, out of those of the transactions in order, into its state.
-fn fold_pending(state: &mut State, object: &ObjectId, pending: &[Tx]) -> Result<(), NoMemory>
-    requires { All (λ tx. length tx.updates ≤ 256) pending.now }
-    ensures { OnOk result (state.new ≡ fold_of state.old (flat_map (ops_of object.now) pending.now)) }
-{
-    for tx in pending {
-        fold_updates(state, object, tx.rank, &tx.dot, tx.updates.as_slice())?;
-    }
-    Ok(())
 }
 
 // The state of an object at the vector, whose entry becomes the first of the cache.

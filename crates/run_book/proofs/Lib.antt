@@ -3,6 +3,7 @@ pub mod Numbered
 pub mod Inversions
 pub mod Sessions
 pub mod Held
+pub mod Growth
 pub mod Pairing
 pub mod Dots
 pub mod Copies

@@ -6,3 +6,4 @@ pub mod Nodes
 pub mod Values
 pub mod Graphs
 pub mod Alone
+pub mod Numbers

@@ -6,4 +6,4 @@ mod book;
 mod laws;
 
 pub use book::{Book, Logs, Trails};
-pub use laws::law_one_client;
+pub use laws::{law_one_client, law_session};
