@@ -1,12 +1,13 @@
 // Books.
 use dc_talk::{Log, Trail};
-use run_book::{Book, Logs, Trails, law_one_client};
+use run_book::{Book, Logs, Trails, law_one_client, law_session};
 use std::test::Fail;
 
 #[test]
 fn a_book_has_its_trails_and_logs(rt: HostRuntime) -> Result<(), Fail> {
     let alloc = rt.alloc();
     law_one_client();
+    law_session();
     let mut book = Book::new(alloc, 2, 1);
     book.trails.push(Trail::new(alloc))?;
     book.logs.push(Log::new(alloc, 1))?;

@@ -182,6 +182,7 @@ fn each_refusal_of_a_change_has_its_cause(rt: HostRuntime) -> Result<(), Fail> {
     let mut session = connected(alloc)?;
     fetch(&mut session, &many, crowded(alloc, word, 4_097)?)?;
     let add = Change::Add { word };
+    let remove = Change::Remove { word };
     let large = Change::Inc {
         delta: 1_000_000_000_001,
     };
@@ -192,6 +193,7 @@ fn each_refusal_of_a_change_has_its_cause(rt: HostRuntime) -> Result<(), Fail> {
         (sum, large, Refusal::DeltaTooLarge),
         (absent, add, Refusal::NeedsFetch { object: absent }),
         (many, add, Refusal::TooManyTags { count: 4_097 }),
+        (many, remove, Refusal::TooManyTags { count: 4_097 }),
     ] {
         assert_eq!(rt; session.update(alloc, &object, &change), Err(refusal));
     }
@@ -206,5 +208,55 @@ fn each_refusal_of_a_change_has_its_cause(rt: HostRuntime) -> Result<(), Fail> {
     session.abort()?;
     assert_eq!(rt; session.abort(), Err(Refusal::NotOpen));
     assert_eq!(rt; session.facts().own, 0);
+    Ok(())
+}
+
+#[test]
+fn each_refusal_of_an_ask_has_its_cause(rt: HostRuntime) -> Result<(), Fail> {
+    let alloc = rt.alloc();
+    let object = counter("a")?;
+    let alone = Session::new(alloc, 1, 1, 2)?;
+    assert!(rt; matches!(alone.ask_refresh(), Err(Refusal::NotConnected)));
+    assert!(rt; matches!(alone.ask_fetch(&object), Err(Refusal::NotConnected)));
+    assert!(rt; matches!(alone.ask_commit(), Err(Refusal::NotConnected)));
+    let mut session = connected(alloc)?;
+    assert!(rt; matches!(session.ask_commit(), Ok(None)));
+    session.begin(alloc)?;
+    assert!(rt; matches!(session.ask_refresh(), Err(Refusal::AlreadyOpen)));
+    assert_eq!(rt; session.begin(alloc), Err(Refusal::AlreadyOpen));
+    session.abort()?;
+    assert_eq!(rt; session.commit(), Err(Refusal::NotOpen));
+    Ok(())
+}
+
+// Commits a transaction that adds 1 to a counter.
+fn commit_inc(alloc: Global, session: &mut Session, object: &ObjectId) -> Result<(), Refusal> {
+    session.begin(alloc)?;
+    session.update(alloc, object, &Change::Inc { delta: 1 })?;
+    session.commit()?;
+    Ok(())
+}
+
+#[test]
+fn at_most_1024_commits_are_pending(rt: HostRuntime) -> Result<(), Fail> {
+    let alloc = rt.alloc();
+    let object = counter("a")?;
+    let mut session = connected(alloc)?;
+    for _turn in 0..1_024 {
+        commit_inc(alloc, &mut session, &object)?;
+    }
+    let limit = 1_024;
+    assert_eq!(rt;
+        commit_inc(alloc, &mut session, &object),
+        Err(Refusal::PendingFull { limit })
+    );
+    let facts = session.facts();
+    assert_eq!(rt;
+        (facts.own, facts.pending, facts.is_open),
+        (limit, limit, true)
+    );
+    session.abort()?;
+    fetch(&mut session, &object, State::empty(alloc, Sort::Counter)?)?;
+    assert_eq!(rt; session.read(alloc, &object)?, Value::Number(1_024));
     Ok(())
 }

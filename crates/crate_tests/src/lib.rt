@@ -18,5 +18,7 @@ mod talk;
 mod texts;
 #[cfg(test)]
 mod transactions;
+#[cfg(test)]
+mod waiting;
 
 pub use samples::{counter, inc, inc_tx};
