@@ -211,52 +211,98 @@ fn each_refusal_of_a_change_has_its_cause(rt: HostRuntime) -> Result<(), Fail> {
     Ok(())
 }
 
+// Why the session makes no refresh, if it does not.
+fn refresh_refusal(session: &Session) -> Option<Refusal> {
+    match session.ask_refresh() {
+        Ok(_asked) => None,
+        Err(refusal) => Some(refusal),
+    }
+}
+
+// Why the session makes no fetch, if it does not.
+fn fetch_refusal(session: &Session, object: &ObjectId) -> Option<Refusal> {
+    match session.ask_fetch(object) {
+        Ok(_asked) => None,
+        Err(refusal) => Some(refusal),
+    }
+}
+
+// Why the session sends no commit, if it is refused.
+fn push_refusal(session: &Session) -> Option<Refusal> {
+    match session.ask_commit() {
+        Ok(_asked) => None,
+        Err(refusal) => Some(refusal),
+    }
+}
+
 #[test]
-fn each_refusal_of_an_ask_has_its_cause(rt: HostRuntime) -> Result<(), Fail> {
-    let alloc = rt.alloc();
+fn nothing_is_asked_without_a_centre(rt: HostRuntime) -> Result<(), Fail> {
     let object = counter("a")?;
-    let alone = Session::new(alloc, 1, 1, 2)?;
-    assert!(rt; matches!(alone.ask_refresh(), Err(Refusal::NotConnected)));
-    assert!(rt; matches!(alone.ask_fetch(&object), Err(Refusal::NotConnected)));
-    assert!(rt; matches!(alone.ask_commit(), Err(Refusal::NotConnected)));
+    let session = Session::new(rt.alloc(), 1, 1, 2)?;
+    let refusal = Some(Refusal::NotConnected);
+    assert_eq!(rt; refresh_refusal(&session), refusal);
+    assert_eq!(rt; fetch_refusal(&session, &object), refusal);
+    assert_eq!(rt; push_refusal(&session), refusal);
+    Ok(())
+}
+
+#[test]
+fn a_transaction_is_opened_and_ended_once(rt: HostRuntime) -> Result<(), Fail> {
+    let alloc = rt.alloc();
     let mut session = connected(alloc)?;
-    assert!(rt; matches!(session.ask_commit(), Ok(None)));
+    assert_eq!(rt; push_refusal(&session), None);
     session.begin(alloc)?;
-    assert!(rt; matches!(session.ask_refresh(), Err(Refusal::AlreadyOpen)));
+    assert_eq!(rt; refresh_refusal(&session), Some(Refusal::AlreadyOpen));
     assert_eq!(rt; session.begin(alloc), Err(Refusal::AlreadyOpen));
     session.abort()?;
     assert_eq!(rt; session.commit(), Err(Refusal::NotOpen));
     Ok(())
 }
 
-// Commits a transaction that adds 1 to a counter.
-fn commit_inc(alloc: Global, session: &mut Session, object: &ObjectId) -> Result<(), Refusal> {
-    session.begin(alloc)?;
-    session.update(alloc, object, &Change::Inc { delta: 1 })?;
-    session.commit()?;
+// Commits so many transactions that each add 1 to a counter, or as many as are taken.
+fn commit_incs(
+    alloc: Global,
+    session: &mut Session,
+    object: &ObjectId,
+    count: u32,
+) -> Result<(), Refusal> {
+    for _turn in 0..count {
+        session.begin(alloc)?;
+        session.update(alloc, object, &Change::Inc { delta: 1 })?;
+        session.commit()?;
+    }
     Ok(())
+}
+
+// A session with 1,024 commits on a counter, all of them pending.
+fn full(alloc: Global, object: &ObjectId) -> Result<Session, Fail> {
+    let mut session = connected(alloc)?;
+    commit_incs(alloc, &mut session, object, 1_024)?;
+    Ok(session)
 }
 
 #[test]
 fn at_most_1024_commits_are_pending(rt: HostRuntime) -> Result<(), Fail> {
-    let alloc = rt.alloc();
     let object = counter("a")?;
-    let mut session = connected(alloc)?;
-    for _turn in 0..1_024 {
-        commit_inc(alloc, &mut session, &object)?;
-    }
+    let mut session = full(rt.alloc(), &object)?;
     let limit = 1_024;
-    assert_eq!(rt;
-        commit_inc(alloc, &mut session, &object),
-        Err(Refusal::PendingFull { limit })
-    );
+    let more = commit_incs(rt.alloc(), &mut session, &object, 1);
+    assert_eq!(rt; more, Err(Refusal::PendingFull { limit }));
     let facts = session.facts();
     assert_eq!(rt;
         (facts.own, facts.pending, facts.is_open),
         (limit, limit, true)
     );
-    session.abort()?;
-    fetch(&mut session, &object, State::empty(alloc, Sort::Counter)?)?;
-    assert_eq!(rt; session.read(alloc, &object)?, Value::Number(1_024));
+    Ok(())
+}
+
+#[test]
+fn all_that_is_pending_is_read(rt: HostRuntime) -> Result<(), Fail> {
+    let alloc = rt.alloc();
+    let object = counter("a")?;
+    let mut session = full(alloc, &object)?;
+    fetch(&mut session, &object, state_of(alloc, 2)?)?;
+    let read = session.read(alloc, &object);
+    assert_eq!(rt; read, Ok(Value::Number(1_026)));
     Ok(())
 }
