@@ -2,8 +2,9 @@
 use Rattle.std.proofs.Common.{◌≡◌, ◌⊎◌, inl, inr, true, false, cond, Option, Some, None, List, [], refl, sym, ap, ◌∙◌}
 use Rattle.std.specs.Map.{lookup}
 use Rattle.std.specs.BTreeMap.{is_at}
+use Rattle.std.specs.Cmp.{Equal-is}
 use Rattle.std.specs.FinMap.{nat_cmp-IsAntisymmetric}
-use Rattle.std.specs.Ordering.{ordering_then, nat_cmp, is_eq}
+use Rattle.std.specs.Ordering.{ordering_then, nat_cmp}
 use Rattle.std.specs.declared.cmp.Ordering.{Ordering}
 use Rattle.std.specs.declared.cmp.Ordering.TheVariants.{Less, Equal, Greater}
 use Rattle.std.specs.declared.collections.VecDeque.{VecDeque}
@@ -31,15 +32,10 @@ same_number Set Set e = refl
 same_number Map Map e = refl
 same_number _ _ e = cc
 
-is_equal : (r : Ordering) → is_eq r ≡ true → r ≡ Equal
-is_equal Less e = cc
-is_equal Equal e = refl
-is_equal Greater e = cc
-
 -- keys that compare as equal are
 same_key : (a b : Key) → is_at (key_cmp a) b ≡ true → a ≡ b
 same_key a b e =
-    let parts = both_equal (nat_cmp a.sort b.sort) (name_cmp a.name b.name) (is_equal (key_cmp a b) e) in
+    let parts = both_equal (nat_cmp a.sort b.sort) (name_cmp a.name b.name) ((Equal-is (key_cmp a b)).0 e) in
     let sort = nat_cmp-IsAntisymmetric a.sort b.sort parts.0 in
     let name = name_cmp_same a.name b.name parts.1 in
     λ i. record { sort = sort i; name = name i }

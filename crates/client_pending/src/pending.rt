@@ -1,5 +1,5 @@
 // Commits that are pending.
-ghost use Rattle.std.specs.Prelude.{◌≡◌, ◌≤◌, ◌++◌, ◌∷◌, [], length, drop, vec_len, vec_capacity, ◌<◌, flat_map, IfErr, OnOk};
+ghost use Rattle.std.specs.Prelude.{◌≡◌, ◌≤◌, ◌++◌, ◌∷◌, [], length, drop, vec_len, flat_map, IfErr, OnOk};
 ghost use Rattle.std.specs.Option.{option_copied};
 ghost use Rattle.tx_core.specs.States.{fold_of};
 ghost use Rattle.dc_talk.specs.Objects.{ops_of};
@@ -63,7 +63,7 @@ impl Pending {
         if self.txs.reserve(1).is_err() || put_tx(&mut self.index, self.alloc, &tx).is_err() {
             return Err(tx);
         }
-        push_reserved(&mut self.txs, tx);
+        self.txs.push_reserved(tx);
         Ok(())
     }
 
@@ -96,14 +96,6 @@ fn fold_line(line: &Line, state: &mut State) -> Result<(), NoMemory>
         state.fold(mark, op)?;
     }
     Ok(())
-}
-
-// Puts a transaction at the end, where there is room for it.
-fn push_reserved(txs: &mut Vec<Tx>, tx: Tx)
-    requires { vec_len txs.old < vec_capacity txs.old }
-    ensures { txs.new.items ≡ txs.old.items ++ tx ∷ [] }
-{
-    let _ = txs.push(tx);
 }
 
 // Drops so many transactions at the front.

@@ -50,6 +50,7 @@ impl Session {
                 Say::Known { through } => Ok(self.hear_sent(centre, &tx.dot, *through)),
                 _ => Ok(Heard::Ignored),
             },
+            _ => Ok(Heard::Ignored),
         }
     }
 

@@ -4,6 +4,7 @@ ghost use Rattle.std.specs.Prelude.{◌≡◌, length};
 use crate::samples::{counter, inc_tx};
 use dc_centre::{Centre, Desk};
 use dc_talk::{Ask, Say};
+use hist_lock::Kept;
 use ids_core::Dot;
 use std::alloc::Global;
 use std::test::Fail;
@@ -127,5 +128,16 @@ fn the_trail_has_each_ask_with_its_answer(rt: HostRuntime) -> Result<(), Fail> {
     assert_eq!(rt; (entries[0].caller, entries[1].caller), (2, 5));
     assert!(rt; matches!(&entries[0].say, Say::Snap { mine: 0, .. }));
     assert!(rt; matches!(&entries[1].say, Say::Misfit));
+    Ok(())
+}
+
+#[test]
+fn a_centre_is_a_machine(rt: HostRuntime) -> Result<(), Fail> {
+    let alloc = rt.alloc();
+    let mut kept = Kept::new(alloc, Centre::new(alloc, 1, 1, 1, 1)?);
+    let commit = commit_of(alloc, 1, at(0))?;
+    assert!(rt; matches!(kept.answer(2, &commit)?, Say::Stamped { .. }));
+    assert!(rt; matches!(kept.answer(2, &commit)?, Say::Known { through: 1 }));
+    assert_eq!(rt; kept.trail.len(), 2);
     Ok(())
 }

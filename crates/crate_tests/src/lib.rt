@@ -9,6 +9,8 @@ mod books;
 mod centres;
 #[cfg(test)]
 mod clients;
+#[cfg(test)]
+mod mail;
 mod samples;
 #[cfg(test)]
 mod scripts;

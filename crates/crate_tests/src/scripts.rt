@@ -1,7 +1,7 @@
 // Scripts that are taken, and others.
 use dc_talk::{Change, StepWord};
 use ids_core::{Name, Sort};
-use script_text::{ClientStep, Input, ScriptFault, parse};
+use script_text::{ClientStep, Input, ScriptFault, Step, parse};
 use std::alloc::Global;
 use std::test::Fail;
 
@@ -54,16 +54,37 @@ fn a_whole_block_is_taken(rt: HostRuntime) -> Result<(), Fail> {
     assert_eq!(rt; (script.cache, script.limit), (1_024, 1_000_000));
     match script.steps.as_slice() {
         [
-            ClientStep::Connect { centre },
-            ClientStep::Begin,
-            ClientStep::Read { object: read },
-            ClientStep::Change {
-                object,
-                change: Change::Inc { delta },
+            Step {
+                client: 1,
+                does: ClientStep::Connect { centre },
             },
-            ClientStep::Commit,
-            ClientStep::Push,
-            ClientStep::Refresh,
+            Step {
+                does: ClientStep::Begin,
+                ..
+            },
+            Step {
+                does: ClientStep::Read { object: read },
+                ..
+            },
+            Step {
+                does: ClientStep::Change {
+                    object,
+                    change: Change::Inc { delta },
+                },
+                ..
+            },
+            Step {
+                does: ClientStep::Commit,
+                ..
+            },
+            Step {
+                does: ClientStep::Push,
+                ..
+            },
+            Step {
+                does: ClientStep::Refresh,
+                ..
+            },
         ] => {
             assert_eq!(rt; *centre, 1);
             assert_eq!(rt; read.name.as_slice(), b"b".as_slice());
@@ -84,7 +105,14 @@ fn change_in(
     bytes.extend_from_slice(line)?;
     let script = parse(alloc, &Input::of(bytes))?;
     match script.steps.as_slice() {
-        [_, _, ClientStep::Change { object, change }] => match *change {
+        [
+            _,
+            _,
+            Step {
+                does: ClientStep::Change { object, change },
+                ..
+            },
+        ] => match *change {
             Change::Inc { .. } => Ok(Some((object.sort, StepWord::Inc, object.name, None))),
             Change::Write { word } => Ok(Some((object.sort, StepWord::Set, word, None))),
             Change::Add { word } => Ok(Some((object.sort, StepWord::Add, word, None))),
@@ -165,6 +193,9 @@ fn other_changes_and_reads_are_refused(rt: HostRuntime) -> Result<(), Fail> {
         b"c1 read m.a k\n",
         b"c1 read a\n",
         b"c2 add s.a w\n",
+        b"c0 add s.a w\n",
+        b"c01 add s.a w\n",
+        b"c add s.a w\n",
     ] {
         let got = steps_of(alloc, OPEN, line, CLOSE)?;
         assert_eq!(rt; got, Err(ScriptFault::Refused), "{line:?}");
@@ -184,34 +215,85 @@ fn a_script_without_a_block_is_taken(rt: HostRuntime) -> Result<(), Fail> {
 }
 
 #[test]
-fn blocks_are_taken_in_any_number(rt: HostRuntime) -> Result<(), Fail> {
+fn steps_are_taken_in_any_order(rt: HostRuntime) -> Result<(), Fail> {
     let alloc = rt.alloc();
-    for (blocks, steps) in [(0, 1), (1, 6), (2, 11), (50, 251)] {
-        let lines = repeated(alloc, BLOCK, blocks)?;
-        let got = steps_of(alloc, CONNECT, &lines, b"")?;
-        assert_eq!(rt; got, Ok(steps), "{blocks} blocks");
+    for (lines, steps) in [
+        (b"c1 begin\n".as_slice(), 1),
+        (b"c1 commit\nc1 abort\nc1 abort", 3),
+        (b"c1 flush\nc1 refresh\nc1 push\nc1 connect 1\n", 4),
+        (b"c1 connect 1\nc1 connect 1\n", 2),
+        (b"c1 begin\nc1 begin\nc1 inc c.a 1\n", 3),
+        (b"c1 read c.a\nc1 commit\nc1 flush", 3),
+    ] {
+        assert_eq!(rt; steps_of(alloc, HEAD, lines, b"")?, Ok(steps), "{lines:?}");
+        let second = steps_of(alloc, CONNECT, BLOCK, lines)?;
+        assert_eq!(rt; second, Ok(6 + steps), "{lines:?}");
+    }
+    let incs = repeated(alloc, INC, 300)?;
+    assert_eq!(rt; steps_of(alloc, OPEN, &incs, CLOSE)?, Ok(305));
+    Ok(())
+}
+
+#[test]
+fn the_steps_of_many_clients_are_taken(rt: HostRuntime) -> Result<(), Fail> {
+    let alloc = rt.alloc();
+    let text =
+        b"centres 1 k 1\nclients 1024\nlimit 7\ncache 100000\nc1024 abort\nc10 flush\nc1 commit";
+    let script = parse(alloc, &Input::of(text.to_vec(alloc)?))?;
+    assert_eq!(rt;
+        (script.clients, script.cache, script.limit),
+        (1_024, 100_000, 7)
+    );
+    match script.steps.as_slice() {
+        [
+            Step {
+                client: first,
+                does: ClientStep::Abort,
+            },
+            Step {
+                client: second,
+                does: ClientStep::Flush,
+            },
+            Step {
+                client: third,
+                does: ClientStep::Commit,
+            },
+        ] => assert_eq!(rt; (*first, *second, *third), (1_024, 10, 1)),
+        _ => assert!(rt; false, "other steps"),
     }
     Ok(())
 }
 
 #[test]
-fn a_last_block_may_break_off_after_each_line(rt: HostRuntime) -> Result<(), Fail> {
+fn settings_stand_once_and_before_the_steps(rt: HostRuntime) -> Result<(), Fail> {
     let alloc = rt.alloc();
-    let mut front = Vec::new(alloc);
-    for (line, steps) in [
-        (b"c1 begin\n".as_slice(), 1),
-        (b"c1 read c.a\n", 2),
-        (b"c1 inc c.a 1\n", 3),
-        (b"c1 read c.b\n", 4),
-        (b"c1 commit\n", 5),
-        (b"c1 push\n", 6),
-        (b"c1 refresh\n", 7),
+    for lines in [
+        b"cache 1\n".as_slice(),
+        b"limit 1000000\n",
+        b"cache 100000\nlimit 1\n",
+        b"limit 1\ncache 2\n",
     ] {
-        front.extend_from_slice(line)?;
-        let first = steps_of(alloc, CONNECT, &front, b"")?;
-        assert_eq!(rt; first, Ok(1 + steps), "{line:?}");
-        let second = steps_of(alloc, CONNECT, BLOCK, &front)?;
-        assert_eq!(rt; second, Ok(6 + steps), "{line:?}");
+        let got = steps_of(alloc, HEAD, lines, b"c1 begin\n")?;
+        assert_eq!(rt; got, Ok(1), "{lines:?}");
+    }
+    for lines in [
+        b"cache 0\n".as_slice(),
+        b"cache 100001\n",
+        b"cache 01\n",
+        b"cache\n",
+        b"limit 0\n",
+        b"limit 1000001\n",
+        b"limit 1 \n",
+        b"limit -1\n",
+        b"cache 1\ncache 1\n",
+        b"limit 1\nlimit 2\n",
+        b"cache 1\nlimit 2\ncache 1\n",
+        b"c1 begin\ncache 1\n",
+        b"cache 1\nc1 begin\nlimit 2\n",
+        b"threads 1\n",
+    ] {
+        let got = steps_of(alloc, HEAD, lines, b"c1 begin\n")?;
+        assert_eq!(rt; got, Err(ScriptFault::Refused), "{lines:?}");
     }
     Ok(())
 }
@@ -231,12 +313,10 @@ fn incs_are_taken_in_their_range(rt: HostRuntime) -> Result<(), Fail> {
 }
 
 #[test]
-fn other_lines_of_a_block_are_refused(rt: HostRuntime) -> Result<(), Fail> {
+fn other_incs_are_refused(rt: HostRuntime) -> Result<(), Fail> {
     let alloc = rt.alloc();
     for line in [
-        b"".as_slice(),
-        b"c1 read c.a\n",
-        b"c1 inc c.a -0\n",
+        b"c1 inc c.a -0\n".as_slice(),
         b"c1 inc c.a 01\n",
         b"c1 inc c.a +1\n",
         b"c1 inc c.a 1000000000001\n",
@@ -258,8 +338,15 @@ fn other_lines_behind_the_header_are_refused(rt: HostRuntime) -> Result<(), Fail
     for lines in [
         b"\n".as_slice(),
         b"# none\n",
-        b"c1 begin\n",
+        b"c1 begin 1\n",
+        b"c1 commits\n",
+        b"c1 connect\n",
         b"c1 connect 2\n",
+        b"c1 again 1 1\n",
+        b"c1 lose ask\n",
+        b"c1 twice\n",
+        b"settle\n",
+        b"down 1\n",
         b"c1 connect 1\r\n",
         b"c1  connect 1\n",
         b"c1\tconnect 1\n",
@@ -267,30 +354,6 @@ fn other_lines_behind_the_header_are_refused(rt: HostRuntime) -> Result<(), Fail
     ] {
         let got = steps_of(alloc, HEAD, lines, b"")?;
         assert_eq!(rt; got, Err(ScriptFault::Refused), "{lines:?}");
-    }
-    Ok(())
-}
-
-#[test]
-fn steps_in_another_order_are_refused(rt: HostRuntime) -> Result<(), Fail> {
-    let alloc = rt.alloc();
-    for lines in [
-        b"c1 connect 1\n".as_slice(),
-        b"c1 read c.a\n",
-        b"c1 commit\n",
-        b"c1 refresh\n",
-        b"c1 begin\nc1 commit\n",
-        b"c1 begin\nc1 begin\n",
-        b"c1 begin\nc1 inc c.a 1\nc1 connect 1\n",
-        b"c1 begin\nc1 inc c.a 1\nc1 push\n",
-        b"c1 begin\nc1 inc c.a 1\nc1 commit\nc1 refresh\n",
-        b"c1 begin\nc1 inc c.a 1\nc1 commit\nc1 begin\n",
-        b"c1 begin\nc1 inc c.a 1\nc1 commit\nc1 push\nc1 push\n",
-    ] {
-        let first = steps_of(alloc, CONNECT, lines, b"")?;
-        assert_eq!(rt; first, Err(ScriptFault::Refused), "{lines:?}");
-        let second = steps_of(alloc, CONNECT, BLOCK, lines)?;
-        assert_eq!(rt; second, Err(ScriptFault::Refused), "{lines:?}");
     }
     Ok(())
 }
@@ -304,27 +367,14 @@ fn other_headers_are_refused(rt: HostRuntime) -> Result<(), Fail> {
         b"centres 2 k 1\nclients 1\n",
         b"Centres 1 k 1\nclients 1\n",
         b"clients 1\ncentres 1 k 1\n",
+        b"centres 1 k 1\nclients 0\n",
+        b"centres 1 k 1\nclients 1025\n",
+        b"centres 1 k 1\nclients 01\n",
+        b"centres 1 k 1\ncache 1\nclients 1\n",
+        b"centres 1 k 1\nclients 1\nclients 1\n",
     ] {
         let got = steps_of(alloc, head, b"", b"")?;
         assert_eq!(rt; got, Err(ScriptFault::Refused), "{head:?}");
-    }
-    Ok(())
-}
-
-#[test]
-fn each_block_has_256_incs_at_most(rt: HostRuntime) -> Result<(), Fail> {
-    let alloc = rt.alloc();
-    let mut full = repeated(alloc, INC, 256)?;
-    full.extend_from_slice(CLOSE)?;
-    full.extend_from_slice(b"c1 begin\n")?;
-    for (incs, first, second) in [
-        (256, Ok(258), Ok(518)),
-        (257, Err(ScriptFault::Refused), Err(ScriptFault::Refused)),
-    ] {
-        let lines = repeated(alloc, INC, incs)?;
-        assert_eq!(rt; steps_of(alloc, OPEN, &lines, b"")?, first, "{incs} incs");
-        let got = steps_of(alloc, OPEN, &full, &lines)?;
-        assert_eq!(rt; got, second, "{incs} incs in a second block");
     }
     Ok(())
 }

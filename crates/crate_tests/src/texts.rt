@@ -2,7 +2,7 @@
 use crate::samples::counter;
 use dc_talk::{Call, Deed, Line, Log, Miss, Outcome, PushEnd, StepWord};
 use ids_core::{Name, NoMemory, ObjectId, Sort};
-use print_text::{log_text, write_line};
+use print_text::{write_line, write_notes};
 use std::alloc::Global;
 use std::process::Abort;
 use std::test::Fail;
@@ -48,6 +48,30 @@ fn lines_of_connects_and_transactions(rt: HostRuntime) -> Result<(), Fail> {
                 miss: Miss::Misfit,
             },
             "c2 connect 8 misfit",
+        ),
+        (
+            Line::ConnectMissed {
+                client: 2,
+                centre: 3,
+                miss: Miss::Unreachable,
+            },
+            "c2 connect 3 unreachable",
+        ),
+        (
+            Line::ConnectMissed {
+                client: 2,
+                centre: 3,
+                miss: Miss::Lost,
+            },
+            "c2 connect 3 lost",
+        ),
+        (Line::AbortClosed { client: 1_024 }, "c1024 abort closed"),
+        (
+            Line::Flushed {
+                client: 7,
+                own: 1_000,
+            },
+            "c7 flushed 1000",
         ),
         (Line::BeginOpen { client: 1 }, "c1 begin open"),
         (Line::BeginClock { client: 1 }, "c1 begin clock"),
@@ -131,6 +155,17 @@ fn lines_of_steps_on_objects(rt: HostRuntime) -> Result<(), Fail> {
                 lack,
             },
             "c5 read c.stock_7 lacks 2:11 has 0",
+        ),
+        (
+            Line::FetchPruned {
+                client,
+                word: read,
+                object,
+                centre: 2,
+                base: 12,
+                at: 3,
+            },
+            "c5 read c.stock_7 pruned 2:12 at 3",
         ),
         (
             Line::FetchIgnored {
@@ -350,7 +385,8 @@ fn a_log_tells_its_lines_alone(rt: HostRuntime) -> Result<(), Fail> {
         vector,
         mine: 1,
     }))?;
-    let text = log_text(rt.alloc(), &log)?;
+    let mut text = Vec::new(rt.alloc());
+    write_notes(&mut text, log.as_slice())?;
     assert_eq!(rt;
         text.as_slice(),
         "c1 at 1\nc1 read c.a 5\nc1 commit 1\nc1 push 1 stamp 1:1\nc1 sees 1 own 1\n".as_bytes()

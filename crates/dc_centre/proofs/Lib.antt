@@ -1,5 +1,5 @@
-pub mod Dots
-pub mod Rows
-pub mod Stamping
+pub mod Firsts
+pub mod Applying
+pub mod Records
 pub mod Standing
 pub mod Desks

@@ -1,2 +1,5 @@
+pub mod Dots
+pub mod Applied
 pub mod Centre
+pub mod Machines
 pub mod Desk

@@ -1,149 +1,31 @@
-// A centre on one thread. It keeps a flat list of the records that it applied.
-ghost use Rattle.std.specs.Prelude.{◌≡◌, ◌≤◌, ◌<◌, ℕ, IfOk, OnOk, OnErr, List, [], ◌∷◌, ◌++◌, length, cond, All, true};
-ghost use Rattle.dc_talk.specs.Records.{guard, top, mine, inside, first_stamp, count, vector as counts, deps_of as deps};
-ghost use Rattle.dc_talk.specs.declared.say.Say.TheVariants.{Lacks};
-ghost use Rattle.dc_talk.specs.declared.ask.Ask.TheVariants.{Commit};
-ghost use Rattle.dc_talk.specs.Objects.{state_at};
-ghost use Rattle.dc_talk.specs.Answers.{answer, fits, hello_answer, refresh_answer, fetch_answer, commit_answer};
+// A centre on one thread.
+ghost use Rattle.std.specs.Prelude.{◌≡◌, ◌&&◌, not, ◌≤◌, ◌↔◌, ℕ, IfOk, OnErr, IsTrue, List, [], ◌∷◌, ◌++◌, true, false};
+ghost use Rattle.list_core.specs.Members.{In};
+ghost use Rattle.tx_core.specs.declared.tx.Record.{Record};
+ghost use Rattle.dc_talk.specs.Answers.{answer, fits, is_switch};
 ghost use Rattle.dc_talk.specs.declared.trail.Entry.{Entry};
-ghost use Rattle.tx_core.specs.Checks.{IsFit};
-ghost use Rattle.dc_centre.specs.Centre.{IsStamped, HasFewUpdates, distinct, lone_stable};
 
-use dc_talk::{Ask, Say, fold_updates};
-use ids_core::{Dot, NoMemory, ObjectId};
+use crate::applied::Applied;
+use crate::settings::Settings;
+use dc_talk::{Ask, Say};
+use hist_lock::Machine;
+use ids_core::NoMemory;
+use k_stable::Told;
 use std::alloc::Global;
 use std::marker::Model;
-use tx_core::{Record, State, Tx};
-use vv_core::{Lack, Stamp, Vector};
-
-// The greatest number of a client's transactions among the records, 0 for none.
-fn guard_of(records: &[Record], client: u32) -> u64
-    ensures { result ≡ guard client records.now }
-{
-    let mut greatest = 0;
-    for record in records {
-        if record.tx.dot.client == client {
-            greatest = record.tx.dot.number.max(greatest);
-        }
-    }
-    greatest
-}
-
-// The greatest rank among the records, 0 for none.
-fn top_of(records: &[Record]) -> u64
-    ensures { result ≡ top records.now }
-{
-    let mut greatest = 0;
-    for record in records {
-        greatest = record.tx.rank.max(greatest);
-    }
-    greatest
-}
-
-// The greatest number of a client's transactions within a vector, 0 for none.
-fn mine_of(records: &[Record], client: u32, vector: &Vector) -> u64
-    requires { All (IsStamped (length vector.now)) records.now }
-    ensures { result ≡ mine client (inside records.now vector.now) }
-{
-    let mut greatest = 0;
-    for record in records {
-        if vector.has(&record.stamp) && record.tx.dot.client == client {
-            greatest = record.tx.dot.number.max(greatest);
-        }
-    }
-    greatest
-}
-
-// The stamp of the first record of a dot.
-fn first_stamp_of(records: &[Record], dot: &Dot) -> Option<Stamp>
-    ensures { result ≡ first_stamp dot.now records.now }
-{
-    for record in records {
-        if record.tx.dot == *dot {
-            return Some(record.stamp);
-        }
-    }
-    None
-}
-
-// The state of an object at a vector: the fold over the records within it.
-fn state_within(
-    alloc: Global,
-    records: &[Record],
-    object: &ObjectId,
-    vector: &Vector,
-) -> Result<State, NoMemory>
-    requires stamps { All (IsStamped (length vector.now)) records.now }
-    requires updates { All HasFewUpdates records.now }
-    requires apart { distinct records.now ≡ true }
-    ensures { IfOk result (λ state. state ≡ state_at object.now records.now vector.now) }
-{
-    let mut state = State::empty(alloc, object.sort)?;
-    for record in records {
-        if vector.has(&record.stamp) {
-            let tx = &record.tx;
-            fold_updates(&mut state, object, tx.rank, &tx.dot, tx.updates.as_slice())?;
-        }
-    }
-    Ok(state)
-}
-
-// The refusal that names a lack.
-fn lacks(lack: Lack) -> Say
-    ensures { result ≡ Lacks lack.centre lack.need lack.have }
-{
-    Say::Lacks {
-        centre: lack.centre,
-        need: lack.need,
-        have: lack.have,
-    }
-}
-
-// The stable vector of a centre whom nobody told anything.
-fn stable_of(me: u8, n: u8, k: u8, own: &Vector) -> Vector
-    requires centre { (1 ≤ me) × (me ≤ n) }
-    requires few { n ≤ 8 }
-    requires known { (1 ≤ k) × (k ≤ n) }
-    requires wide { length own.now ≡ n }
-    ensures entries { result ≡ lone_stable me n k own.now }
-    ensures width { length result ≡ n }
-{
-    let mut rows = [Vector::zero(n); 8];
-    rows[usize::from(me - 1)] = *own;
-    Vector::kth(&rows[..usize::from(n)], k).meet(own)
-}
-
-// The dependency vector of a transaction that is stamped after the records.
-fn deps_of(records: &[Record], n: u8, tx: &Tx) -> Vector
-    requires width { length tx.now.snap ≡ n }
-    requires few { (1 ≤ n) × (n ≤ 8) }
-    requires stamps { All (IsStamped n) records.now }
-    ensures entries { result ≡ deps n records.now tx.now }
-    ensures width { length result ≡ n }
-{
-    if tx.dot.number < 2 {
-        return tx.snap;
-    }
-    let before = Dot {
-        client: tx.dot.client,
-        number: guard_of(records, tx.dot.client),
-    };
-    match first_stamp_of(records, &before) {
-        Some(stamp) => tx.snap.raise(&stamp),
-        None => tx.snap,
-    }
-}
+use tx_core::Record;
+use vv_core::Stamp;
 
 /// A data centre: a full replica that answers one ask after another (Middleware 2015). Contracts see
-/// its settings and its applied list. It stands for the trail of what it was asked and answered.
+/// its settings, its applied list, what it was told of the other centres, and whether it is stopped.
+/// It stands for the trail of what it was asked and answered.
 #[derive(Drop)]
 pub struct Centre {
-    me: u8,
-    n: u8,
-    k: u8,
-    limit: u64,
-    vector: Vector,
-    records: Vec<Record>,
+    pub(crate) settings: Settings,
+    pub(crate) applied: Applied,
+    pub(crate) own: Vec<Record>,
+    pub(crate) told: Told,
+    pub(crate) stopped: bool,
 }
 
 impl Model for Centre {
@@ -151,13 +33,13 @@ impl Model for Centre {
 
     ghost Value = { Holds };
 
-    ghost view = { λ c. record { me = c.me; n = c.n; k = c.k; limit = c.limit; records = c.records.items } };
+    ghost view = { λ c. record { me = c.settings.me; n = c.settings.n; k = c.settings.k; limit = c.settings.limit; records = c.applied.records; told = c.told; down = c.stopped } };
 
-    ghost invariant = { λ c. IsCentre c.me c.n c.k c.limit c.vector c.records.items };
+    ghost invariant = { λ c. IsCentre c.settings c.applied c.own.items c.told };
 }
 
 impl Centre {
-    ghost use Rattle.dc_centre.specs.Centre.{StandsFor, row_over, next_stamp, with_record, after_commit, after_reply};
+    ghost use Rattle.dc_centre.specs.Centre.{StandsFor, Goes, settings_of, row_over, up_over};
 
     /// Centre `me` among `n`, with nothing applied. Updates are stable once `k` centres know them, and
     /// it stamps at most `limit` transactions.
@@ -166,164 +48,105 @@ impl Centre {
         requires width { n ≤ 8 }
         requires known { (1 ≤ k) × (k ≤ n) }
         requires most { (1 ≤ limit) × (limit ≤ 1000000) }
-        ensures { IfOk result (λ centre. centre ≡ record { me = me; n = n; k = k; limit = limit; records = [] }) }
+        ensures settings { IfOk result (λ centre. settings_of centre ≡ record { me = me; n = n; k = k; limit = limit }) }
+        ensures stands { IfOk result (λ centre. StandsFor centre []) }
     {
         Ok(Centre {
-            me,
-            n,
-            k,
-            limit,
-            vector: Vector::zero(n),
-            records: Vec::new(alloc),
+            settings: Settings { me, n, k, limit },
+            applied: Applied::new(alloc, n)?,
+            own: Vec::new(alloc),
+            told: Told::new(me, n, k),
+            stopped: false,
         })
     }
 
-    // What at least k centres are known to have, and this centre has.
-    fn stable(&self) -> Vector
-        ensures entries { result ≡ lone_stable self.now.me self.now.n self.now.k (counts self.now.n self.now.records) }
-        ensures width { length result ≡ self.now.n }
+    /// Whether the record of a stamp is here.
+    pub fn has(&self, stamp: &Stamp) -> bool
+        ensures { IsTrue result ↔ ((r : Record) × In r self.now.records × (r.stamp ≡ stamp.now)) }
     {
-        stable_of(self.me, self.n, self.k, &self.vector)
+        self.applied.has(stamp)
     }
 
-    // The answer to a hello, in two copies.
-    fn welcome(&self, client: u32, need: &Vector) -> (Say, Say)
-        requires { length need.now ≡ self.now.n }
-        ensures answer { result.0 ≡ hello_answer self.now.n self.now.records client need.now }
-        ensures copy { result.1 ≡ result.0 }
-    {
-        match Vector::first_lack(&self.vector, need) {
-            Some(lack) => (lacks(lack), lacks(lack)),
-            None => {
-                let through = guard_of(&self.records, client);
-                (Say::Welcome { through }, Say::Welcome { through })
-            }
-        }
-    }
-
-    // The answer to a refresh, in two copies.
-    fn snap(&self, client: u32, at: &Vector) -> (Say, Say)
-        requires { length at.now ≡ self.now.n }
-        ensures answer { result.0 ≡ refresh_answer self.now.n (lone_stable self.now.me self.now.n self.now.k (counts self.now.n self.now.records)) self.now.records client at.now }
-        ensures copy { result.1 ≡ result.0 }
-    {
-        match Vector::first_lack(&self.vector, at) {
-            Some(lack) => (lacks(lack), lacks(lack)),
-            None => {
-                let vector = at.join(&self.stable());
-                let mine = mine_of(&self.records, client, &vector);
-                let top = top_of(&self.records);
-                (
-                    Say::Snap { vector, mine, top },
-                    Say::Snap { vector, mine, top },
-                )
-            }
-        }
-    }
-
-    // The answer to a fetch, in two copies.
-    fn object(&self, alloc: Global, object: &ObjectId, at: &Vector) -> Result<(Say, Say), NoMemory>
-        requires { length at.now ≡ self.now.n }
-        ensures answer { IfOk result (λ says. says.0 ≡ fetch_answer self.now.n self.now.records object.now at.now) }
+    /// Answers an ask, in two equal copies: over every trail that the centre stands for, the answer
+    /// is the one that is defined for that trail, and the centre then stands for the trail with this
+    /// entry. Memory is taken before anything changes. Only a fetch and a refresh take time in the
+    /// number of records that are here: one pass.
+    pub fn step(&mut self, alloc: Global, ask: &Ask) -> Result<(Say, Say), NoMemory>
+        ensures answer { IfOk result (λ says. (trail : List Entry) → StandsFor self.old trail → says.0 ≡ answer self.old.me self.old.n self.old.k self.old.limit trail ask.now) }
         ensures copy { IfOk result (λ says. says.1 ≡ says.0) }
-    {
-        if let Some(lack) = Vector::first_lack(&self.vector, at) {
-            return Ok((lacks(lack), lacks(lack)));
-        }
-        let state = state_within(alloc, &self.records, object, at)?;
-        let copy = state.copy()?;
-        Ok((Say::Object { state: copy }, Say::Object { state }))
-    }
-
-    // How many transactions it has stamped.
-    fn stamped(&self) -> u64
-        ensures count { result ≡ count self.now.me self.now.records }
-        ensures most { result ≤ self.now.limit }
-    {
-        self.vector.get(self.me)
-    }
-
-    // Stamps a transaction that can be stamped; the memory is taken before anything changes.
-    fn stamp(&mut self, tx: &Tx) -> Result<Stamp, NoMemory>
-        requires fit { IsFit self.old.n tx.now }
-        requires new { guard tx.now.dot.client self.old.records < tx.now.dot.number }
-        requires room { count self.old.me self.old.records < self.old.limit }
-        ensures stamp { IfOk result (λ stamp. stamp ≡ next_stamp self.old) }
-        ensures ok { OnOk result (self.new ≡ with_record self.old tx.now) }
+        ensures stands { IfOk result (λ says. (trail : List Entry) (caller : ℕ) → StandsFor self.old trail → StandsFor self.new (trail ++ record { caller = caller; ask = ask.now; say = says.0 } ∷ [])) }
+        ensures settings { settings_of self.new ≡ settings_of self.old }
         ensures err { OnErr result (self.new ≡ self.old) }
     {
-        let record = Record {
-            stamp: Stamp {
-                centre: self.me,
-                seq: self.stamped() + 1,
-            },
-            deps: deps_of(&self.records, self.n, tx),
-            tx: tx.copy()?,
-        };
-        let stamp = record.stamp;
-        self.records.push(record)?;
-        self.vector = self.vector.raise(&stamp);
-        Ok(stamp)
+        if !ask.fits(self.settings.n) {
+            return Ok((Say::Misfit, Say::Misfit));
+        }
+        if self.is_down_to(ask) {
+            return Ok((Say::Down, Say::Down));
+        }
+        self.reply(alloc, ask)
     }
 
-    // The answer to a commit that fits.
-    fn commit(&mut self, tx: &Tx) -> Result<(Say, Say), NoMemory>
-        requires fit { IsFit self.old.n tx.now }
-        ensures answer { IfOk result (λ says. says.0 ≡ commit_answer self.old.me self.old.n self.old.limit self.old.records tx.now) }
-        ensures copy { IfOk result (λ says. says.1 ≡ says.0) }
-        ensures grows { IfOk result (λ says. self.new ≡ after_commit self.old tx.now says.0) }
-        ensures err { OnErr result (self.new ≡ self.old) }
+    // Whether the centre is stopped, and the ask neither stops nor starts it.
+    fn is_down_to(&self, ask: &Ask) -> bool
+        ensures { result ≡ (self.now.down && not (is_switch ask.now)) }
     {
-        let through = guard_of(&self.records, tx.dot.client);
-        if tx.dot.number <= through {
-            return Ok((Say::Known { through }, Say::Known { through }));
-        }
-        if tx.dot.number - through > 1 {
-            return Ok((
-                Say::OutOfOrder { have: through },
-                Say::OutOfOrder { have: through },
-            ));
-        }
-        if let Some(lack) = Vector::first_lack(&self.vector, &tx.snap) {
-            return Ok((lacks(lack), lacks(lack)));
-        }
-        if self.limit <= self.stamped() {
-            let limit = self.limit;
-            return Ok((Say::Full { limit }, Say::Full { limit }));
-        }
-        let stamp = self.stamp(tx)?;
-        Ok((Say::Stamped { stamp }, Say::Stamped { stamp }))
+        self.stopped && !is_switch(ask)
     }
 
-    // The answer to an ask that fits, in two copies.
+    // The answer of a running centre to an ask that fits, in two copies.
     fn reply(&mut self, alloc: Global, ask: &Ask) -> Result<(Say, Say), NoMemory>
         requires { fits self.old.n ask.now ≡ true }
         ensures answer { IfOk result (λ says. says.0 ≡ row_over self.old ask.now) }
         ensures copy { IfOk result (λ says. says.1 ≡ says.0) }
-        ensures grows { IfOk result (λ says. self.new ≡ after_reply self.old ask.now says.0) }
+        ensures goes { IfOk result (λ says. Goes self.old self.new ask.now says.0) }
+        ensures settings { settings_of self.new ≡ settings_of self.old }
         ensures err { OnErr result (self.new ≡ self.old) }
     {
         match ask {
             Ask::Hello { client, need } => Ok(self.welcome(*client, need)),
             Ask::Refresh { client, at } => Ok(self.snap(*client, at)),
             Ask::Fetch { object, at } => self.object(alloc, object, at),
-            Ask::Commit { tx } => self.commit(tx),
+            Ask::Commit { tx } => self.commit(alloc, tx),
+            Ask::Send { after, most } => self.send(alloc, *after, *most),
+            Ask::Deliver { item } => self.deliver(alloc, item),
+            Ask::Report => Ok(self.report()),
+            Ask::Learn { from, vector } => Ok(self.learn(*from, vector)),
+            Ask::Stop => Ok(self.stop()),
+            Ask::Start => Ok(self.start()),
         }
     }
+}
 
-    /// Answers an ask, in two equal copies: over every trail that the centre stands for, the answer
-    /// is the one that is defined for that trail, and the centre then stands for the trail with this
-    /// entry. Memory is taken before anything changes.
-    pub fn step(&mut self, alloc: Global, ask: &Ask) -> Result<(Say, Say), NoMemory>
-        ensures answer { IfOk result (λ says. (trail : List Entry) → StandsFor self.old trail → says.0 ≡ answer self.old.me self.old.n self.old.k self.old.limit trail ask.now) }
-        ensures copy { IfOk result (λ says. says.1 ≡ says.0) }
-        ensures stands { IfOk result (λ says. (trail : List Entry) (caller : ℕ) → StandsFor self.old trail → StandsFor self.new (trail ++ record { caller = caller; ask = ask.now; say = says.0 } ∷ [])) }
-        ensures settings { self.new ≡ record self.old { records = self.new.records } }
-        ensures err { OnErr result (self.new ≡ self.old) }
-    {
-        if !ask.fits(self.n) {
-            return Ok((Say::Misfit, Say::Misfit));
-        }
-        self.reply(alloc, ask)
+// Whether a stopped centre answers the ask.
+fn is_switch(ask: &Ask) -> bool
+    ensures { result ≡ is_switch ask.now }
+{
+    matches!(ask, Ask::Stop | Ask::Start)
+}
+
+impl Machine for Centre {
+    type Ask = Ask;
+
+    type Say = Say;
+
+    type Settings = Settings;
+
+    ghost use Rattle.dc_centre.specs.Centre.{settings_of};
+    ghost use Rattle.dc_centre.specs.Machines.{reply_after, StandsForLog};
+
+    ghost settings = { settings_of };
+
+    ghost reply = { reply_after };
+
+    ghost stands = { StandsForLog };
+
+    fn step(&mut self, ask: &Ask) -> Result<(Say, Say), NoMemory> {
+        let alloc = *self.own.allocator();
+        Centre::step(self, alloc, ask)
+    }
+
+    fn copy_ask(ask: &Ask) -> Result<Ask, NoMemory> {
+        ask.copy()
     }
 }

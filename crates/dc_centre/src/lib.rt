@@ -1,8 +1,14 @@
 //! A data centre on one thread: what it holds, what it answers, and the trail that it stands for.
 #![tactic(auto)]
 
+mod applied;
+mod asks;
 mod centre;
 mod desk;
+mod dots;
+mod mail;
+mod settings;
 
 pub use centre::Centre;
 pub use desk::Desk;
+pub use settings::Settings;

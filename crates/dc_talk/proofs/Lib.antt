@@ -1,0 +1,4 @@
+pub mod Moments
+pub mod Inversions
+pub mod Applied
+pub mod Growing

@@ -119,6 +119,7 @@ Gives s i (Hello client need) = Hello client need ≡ hello_of s
 Gives s i (Refresh client here) = (Refresh client here ≡ refresh_of s) × IsLinked s i × (s.draft ≡ None)
 Gives s i (Fetch o here) = (Fetch o here ≡ fetch_of s o) × IsLinked s i
 Gives s i (Commit tx) = Sends s i tx
+Gives s i _ = ⊥
 
 -- a late copy: a commit ask that equals an earlier one of the log, to whatever centre
 pub record IsLate (before : List Note) (ask : Ask) (fate : Fate) : Type 0 where

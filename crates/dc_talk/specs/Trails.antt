@@ -1,14 +1,15 @@
 -- What a centre has after a trail: the list of the records that it applied, and what the other
 -- centres told it.
-use Rattle.std.specs.Prelude.{ℕ, cond, ◌==◌, List, [], ◌∷◌, ◌++◌, map, fold, Option, Some, None}
+use Rattle.std.specs.Prelude.{ℕ, Bool, true, false, cond, ◌==◌, List, [], ◌∷◌, ◌++◌, map, fold, Option, Some, None}
+use Rattle.std.specs.Option.{unwrap_or}
 use Rattle.vv_core.specs.declared.stamp.Stamp.{Stamp}
 use Rattle.vv_core.specs.Vectors.{zeros, centres, join_of, meet_of, kth_largest}
 use Rattle.tx_core.specs.declared.tx.Tx.{Tx}
 use Rattle.tx_core.specs.declared.tx.Record.{Record}
 use Rattle.dc_talk.specs.declared.ask.Ask.{Ask}
-use Rattle.dc_talk.specs.declared.ask.Ask.TheVariants.{Commit}
+use Rattle.dc_talk.specs.declared.ask.Ask.TheVariants.{Commit, Deliver, Learn, Stop, Start}
 use Rattle.dc_talk.specs.declared.say.Say.{Say}
-use Rattle.dc_talk.specs.declared.say.Say.TheVariants.{Stamped}
+use Rattle.dc_talk.specs.declared.say.Say.TheVariants.{Stamped, Applied, Learned, Stopped, Started}
 use Rattle.dc_talk.specs.declared.trail.Entry.{Entry}
 use Rattle.dc_talk.specs.Records.{vector, deps_of}
 
@@ -22,22 +23,49 @@ abbrev pub stamp_in : Say → Option Stamp
 stamp_in (Stamped stamp) = Some stamp
 stamp_in _ = None
 
--- the vector that an ask teaches, with the centre that it is of; no ask teaches one yet
+-- the record of a delivery
+abbrev pub delivered_in : Ask → Option Record
+delivered_in (Deliver item) = Some item
+delivered_in _ = None
+
+-- whether an answer says that a record was applied
+abbrev pub is_applied : Say → Bool
+is_applied (Applied fresh) = true
+is_applied _ = false
+
+-- the vector that an ask taught, with the centre that it is of
 abbrev pub taught_in : Ask → Say → Option (ℕ × List ℕ)
-taught_in ask say = None
+taught_in (Learn from news) (Learned fresh) = Some (from, news)
+taught_in _ _ = None
+
+-- whether the centre is stopped from then on, where an ask stopped or started it
+abbrev pub switched_in : Ask → Say → Option Bool
+switched_in Stop Stopped = Some true
+switched_in Start Started = Some false
+switched_in _ _ = None
 
 -- the records after a transaction got a stamp
 abbrev pub stamped : ℕ → List Record → Option Tx → Option Stamp → List Record
 stamped n A (Some tx) (Some stamp) = A ++ record { stamp = stamp; deps = deps_of n A tx; tx = tx } ∷ []
 stamped n A _ _ = A
 
+-- the records after one was delivered, where it was applied
+abbrev pub received : List Record → Option Record → Bool → List Record
+received A (Some item) true = A ++ item ∷ []
+received A _ _ = A
+
 -- the applied list after one more entry
 abbrev pub grown : ℕ → List Record → Entry → List Record
-grown n A entry = stamped n A (committed_in entry.ask) (stamp_in entry.say)
+grown n A entry = received (stamped n A (committed_in entry.ask) (stamp_in entry.say)) (delivered_in entry.ask) (is_applied entry.say)
 
--- the applied list of a trail: the records that its centre stamped, in order
+-- the applied list of a trail: the records that its centre stamped and those that were delivered and
+-- applied, in order
 abbrev pub applied : ℕ → List Entry → List Record
 applied n trail = fold (grown n) [] trail
+
+-- whether the centre is stopped: whether the last stop or start was a stop
+abbrev pub stopped : List Entry → Bool
+stopped trail = fold (λ down entry. unwrap_or (switched_in entry.ask entry.say) down) false trail
 
 -- a row of the told table after a vector of centre e was taught
 abbrev pub taught : ℕ → List ℕ → Option (ℕ × List ℕ) → List ℕ

@@ -1,11 +1,14 @@
 // What is asked of a centre.
 ghost use Rattle.std.specs.Prelude.{◌≡◌, ◌≤◌, IfOk};
-ghost use Rattle.dc_talk.specs.Answers.{is_client_number};
+ghost use Rattle.dc_talk.specs.Answers.{is_client_number, are_modest, is_fit_item};
 
 use ids_core::{NoMemory, ObjectId};
 use std::alloc::AllocError;
-use tx_core::Tx;
+use tx_core::{Record, Tx};
 use vv_core::Vector;
+
+// The most records that a centre stamps.
+const MOST_RECORDS: u64 = 1_000_000;
 
 /// One ask of a centre (Middleware 2015, sections 4 and 5). Clients are numbered from 1 to 1,024.
 #[derive(Debug, Drop)]
@@ -18,6 +21,18 @@ pub enum Ask {
     Fetch { object: ObjectId, at: Vector },
     /// A transaction that a client has committed.
     Commit { tx: Tx },
+    /// The centre's own records, at most so many, from the one after the first `after`.
+    Send { after: u64, most: u32 },
+    /// A record that another centre stamped.
+    Deliver { item: Record },
+    /// How many records of each centre are here.
+    Report,
+    /// What a centre reported.
+    Learn { from: u8, vector: Vector },
+    /// The centre is to answer nothing until it is started.
+    Stop,
+    /// The centre is to answer again.
+    Start,
 }
 
 impl Clone for Ask {
@@ -38,6 +53,20 @@ impl Clone for Ask {
                 at: *at,
             }),
             Ask::Commit { tx } => Ok(Ask::Commit { tx: tx.clone()? }),
+            Ask::Send { after, most } => Ok(Ask::Send {
+                after: *after,
+                most: *most,
+            }),
+            Ask::Deliver { item } => Ok(Ask::Deliver {
+                item: item.clone()?,
+            }),
+            Ask::Report => Ok(Ask::Report),
+            Ask::Learn { from, vector } => Ok(Ask::Learn {
+                from: *from,
+                vector: *vector,
+            }),
+            Ask::Stop => Ok(Ask::Stop),
+            Ask::Start => Ok(Ask::Start),
         }
     }
 }
@@ -52,8 +81,9 @@ impl Ask {
         Ok(self.clone()?)
     }
 
-    /// Whether the ask can be made of a centre among `n`: its vectors have `n` entries, its client
-    /// is in 1 to 1,024, and its transaction passes `Tx::check`.
+    /// Whether the ask can be made of a centre among `n`: its vectors have `n` entries, its centre is
+    /// in 1 to `n`, its client in 1 to 1,024, and its transaction passes `Tx::check`; a send asks for
+    /// 1 to 1,024 records, and what is delivered or learned has numbers of at most 1,000,000.
     pub fn fits(&self, n: u8) -> bool
         requires { (1 ≤ n) × (n ≤ 8) }
         ensures { result ≡ fits n self.now }
@@ -63,6 +93,12 @@ impl Ask {
             Ask::Refresh { client, at } => is_client(*client) && at.width() == n,
             Ask::Fetch { object: _, at } => at.width() == n,
             Ask::Commit { tx } => tx.check(n).is_ok(),
+            Ask::Send { after: _, most } => (1..=1024).contains(most),
+            Ask::Deliver { item } => is_fit_item(item, n),
+            Ask::Report | Ask::Stop | Ask::Start => true,
+            Ask::Learn { from, vector } => {
+                (1..=n).contains(from) && vector.width() == n && are_modest(vector)
+            }
         }
     }
 }
@@ -72,4 +108,23 @@ fn is_client(client: u32) -> bool
     ensures { result ≡ is_client_number client }
 {
     (1..=1024).contains(&client)
+}
+
+// Whether a record can be delivered to a centre among `n`.
+fn is_fit_item(item: &Record, n: u8) -> bool
+    requires { (1 ≤ n) × (n ≤ 8) }
+    ensures { result ≡ is_fit_item n item.now }
+{
+    (1..=n).contains(&item.stamp.centre)
+        && (1..=MOST_RECORDS).contains(&item.stamp.seq)
+        && item.deps.width() == n
+        && are_modest(&item.deps)
+        && item.tx.check(n).is_ok()
+}
+
+// Whether no centre is said to have more records than it may stamp.
+fn are_modest(vector: &Vector) -> bool
+    ensures { result ≡ are_modest vector.now }
+{
+    vector.as_slice().iter().all(|entry| *entry <= MOST_RECORDS)
 }

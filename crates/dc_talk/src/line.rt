@@ -6,6 +6,10 @@ use vv_core::{Lack, Stamp, Vector};
 /// Why an ask has no reply that counts.
 #[derive(Clone, Copy, Debug, PartialEq, Eq)]
 pub enum Miss {
+    /// The centre is stopped.
+    Unreachable,
+    /// The ask or the answer was lost.
+    Lost,
     /// The ask does not fit the system.
     Misfit,
 }
@@ -113,6 +117,16 @@ pub enum Line {
         object: ObjectId,
         lack: Lack,
     },
+    /// The centre keeps the object's state from the base on alone, and the client's snapshot is
+    /// lower: the entry of that centre in the base, and in the snapshot.
+    FetchPruned {
+        client: u32,
+        word: StepWord,
+        object: ObjectId,
+        centre: u8,
+        base: u64,
+        at: u64,
+    },
     /// The session did not take the state that it fetched.
     FetchIgnored {
         client: u32,
@@ -142,6 +156,10 @@ pub enum Line {
     CommitPending {
         client: u32,
     },
+    /// An abort was refused: no transaction is open.
+    AbortClosed {
+        client: u32,
+    },
     /// A push was made with no centre connected.
     PushUnconnected {
         client: u32,
@@ -155,6 +173,11 @@ pub enum Line {
         client: u32,
         number: u64,
         end: PushEnd,
+    },
+    /// A flush left nothing to push. The client has committed so many transactions.
+    Flushed {
+        client: u32,
+        own: u64,
     },
     /// The client has this snapshot now, and within it so many commits of its own.
     Sees {

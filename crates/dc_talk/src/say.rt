@@ -1,6 +1,7 @@
 // What a centre answers.
 ghost use Rattle.std.specs.Prelude.{◌≡◌, IfOk};
 
+use crate::records::Records;
 use ids_core::NoMemory;
 use std::alloc::AllocError;
 use tx_core::State;
@@ -11,6 +12,8 @@ use vv_core::{Stamp, Vector};
 pub enum Say {
     /// The ask does not fit a system of this many centres.
     Misfit,
+    /// The centre is stopped.
+    Down,
     /// The least centre of which the ask needs more records than the answering centre has.
     Lacks { centre: u8, need: u64, have: u64 },
     /// To a hello: the greatest number of the client's transactions that is here, 0 for none.
@@ -28,6 +31,27 @@ pub enum Say {
     Full { limit: u64 },
     /// The transaction has this stamp now.
     Stamped { stamp: Stamp },
+    /// To a send: the centre's own records that were asked for.
+    Records { list: Records },
+    /// The record is here: as many of its origin are.
+    Old { have: u64 },
+    /// An earlier record of its origin is missing, of which so many are here, or the record is the
+    /// centre's own.
+    Gap { have: u64 },
+    /// The least centre of which the record depends on more records than are here.
+    Waits { centre: u8, need: u64, have: u64 },
+    /// An earlier transaction of its client is missing: the number asked and the greatest here.
+    Orphan { number: u64, have: u64 },
+    /// The record is here now; whether its transaction is new.
+    Applied { fresh: bool },
+    /// To a report: how many records of each centre are here.
+    Vector { vector: Vector },
+    /// The vector is taken in; whether it told anything new.
+    Learned { fresh: bool },
+    /// The centre is stopped now.
+    Stopped,
+    /// The centre is running now.
+    Started,
 }
 
 impl Clone for Say {
@@ -36,6 +60,7 @@ impl Clone for Say {
     fn clone(&self) -> Result<Say, AllocError> {
         match self {
             Say::Misfit => Ok(Say::Misfit),
+            Say::Down => Ok(Say::Down),
             Say::Lacks { centre, need, have } => Ok(Say::Lacks {
                 centre: *centre,
                 need: *need,
@@ -54,6 +79,25 @@ impl Clone for Say {
             Say::OutOfOrder { have } => Ok(Say::OutOfOrder { have: *have }),
             Say::Full { limit } => Ok(Say::Full { limit: *limit }),
             Say::Stamped { stamp } => Ok(Say::Stamped { stamp: *stamp }),
+            Say::Records { list } => Ok(Say::Records {
+                list: list.clone()?,
+            }),
+            Say::Old { have } => Ok(Say::Old { have: *have }),
+            Say::Gap { have } => Ok(Say::Gap { have: *have }),
+            Say::Waits { centre, need, have } => Ok(Say::Waits {
+                centre: *centre,
+                need: *need,
+                have: *have,
+            }),
+            Say::Orphan { number, have } => Ok(Say::Orphan {
+                number: *number,
+                have: *have,
+            }),
+            Say::Applied { fresh } => Ok(Say::Applied { fresh: *fresh }),
+            Say::Vector { vector } => Ok(Say::Vector { vector: *vector }),
+            Say::Learned { fresh } => Ok(Say::Learned { fresh: *fresh }),
+            Say::Stopped => Ok(Say::Stopped),
+            Say::Started => Ok(Say::Started),
         }
     }
 }

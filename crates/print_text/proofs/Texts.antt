@@ -1,15 +1,16 @@
--- Texts with a byte between them, and the text of logs of which one alone tells lines.
-use Rattle.std.specs.Prelude.{◌≡◌, ℕ, ◌+◌, ◌≤◌, ◌<◌, ◌==◌, cond, true, false, zero, suc, List, [], ◌∷◌, ◌++◌, All, map, flat_map, refl}
+-- Texts with a byte between them, and the text of logs of which one alone tells the lines of a section.
+use Rattle.std.specs.Prelude.{◌≡◌, ℕ, ◌+◌, ◌≤◌, ◌<◌, ◌==◌, cond, true, false, zero, suc, slice_get, Some, List, [], ◌∷◌, ◌++◌, map, flat_map, refl}
 use Rattle.std.specs.List.{join_with_byte, range_with_len}
 use Rattle.std.proofs.Common.{ap, sym, ◌∙◌, inl, inr, arith, append-nil, append_assoc, take_all, subst, length, get_or, take, drop, ◌-◌}
 use Rattle.std.proofs.lemmas.Bool.{cases_Bool}
 use Rattle.std.proofs.lemmas.Grind.{flat_map-append}
 use Rattle.std.proofs.lemmas.List.{map-id}
-use Rattle.std.proofs.lemmas.List.Elements.{All-head, All-tail, All-nil}
+use Rattle.std.proofs.lemmas.Option.{none-some, same_Some}
+use Rattle.list_core.specs.Members.{In}
 use Rattle.vv_core.specs.Vectors.{most}
 use Rattle.dc_talk.specs.declared.log.Note.{Note}
 use Rattle.dc_talk.specs.Logs.{Logged, Ascend}
-use Rattle.print_text.specs.Text.{later, told_text, notes_text, notes_in, section_text, last_section, text_of, IsSilent}
+use Rattle.print_text.specs.Text.{later, told_text, notes_text, notes_in, section_text, last_section, text_of}
 
 -- texts with a byte between them are the first one and the later ones, each behind the byte
 joined_parts : (byte : ℕ) (first : List ℕ) (rest : List (List ℕ)) → join_with_byte byte (first ∷ rest) ≡ first ++ later byte rest
@@ -40,10 +41,10 @@ ascend_most first last higher [] le h = tt
 ascend_most first last higher (note ∷ notes) le h = (h.0, omega arith, ascend_most note.section last higher notes (omega arith) h.2)
 
 -- the lines of a section where the first note is of it, and where it is not
-own_section : (section : ℕ) (note : Note) (notes : List Note) → (note.section == section) ≡ true → section_text section (note ∷ notes) ≡ told_text note.deed ++ section_text section notes
+pub own_section : (section : ℕ) (note : Note) (notes : List Note) → (note.section == section) ≡ true → section_text section (note ∷ notes) ≡ told_text note.deed ++ section_text section notes
 own_section section note notes e = ap (λ b. notes_text (cond b (note ∷ notes_in section notes) (notes_in section notes))) e
 
-other_section : (section : ℕ) (note : Note) (notes : List Note) → (note.section == section) ≡ false → section_text section (note ∷ notes) ≡ section_text section notes
+pub other_section : (section : ℕ) (note : Note) (notes : List Note) → (note.section == section) ≡ false → section_text section (note ∷ notes) ≡ section_text section notes
 other_section section note notes e = ap (λ b. notes_text (cond b (note ∷ notes_in section notes) (notes_in section notes))) e
 
 -- a section before all notes has no lines
@@ -80,42 +81,74 @@ sections_text (suc count) section last (note ∷ notes) lt h =
           ∙ sections_text count (section + 1) last (note ∷ notes) (omega arith) (omega arith, h.1, h.2)
     ]
 
--- of logs without notes nothing is told
-silent : {A : Type 0} (lines : List Note → List A) → lines [] ≡ [] → (logs : List Logged) → All IsSilent logs → flat_map (λ log. lines log.notes) logs ≡ []
-silent lines none [] h = refl
-silent lines none (log ∷ logs) h =
-    ap (λ told. told ++ flat_map (λ log. lines log.notes) logs) (ap lines (All-head IsSilent log logs h) ∙ none) ∙ silent lines none logs (All-tail IsSilent log logs h)
+-- ---- logs of which one alone tells the lines of a section
 
--- where one log alone has notes, all lines are of it
-alone : {A : Type 0} (lines : List Note → List A) → lines [] ≡ [] → (before : List Logged) (log : Logged) (after : List Logged) → All IsSilent before → All IsSilent after → flat_map (λ log. lines log.notes) (before ++ log ∷ after) ≡ lines log.notes
-alone lines none before log after b a =
-    flat_map-append (λ log. lines log.notes) before (log ∷ after)
-    ∙ ap (λ told. told ++ flat_map (λ log. lines log.notes) (log ∷ after)) (silent lines none before b)
-    ∙ ap (λ told. lines log.notes ++ told) (silent lines none after a)
-    ∙ append-nil (lines log.notes)
+-- where no element gives anything, nothing is given
+given_none : {X A : Type 0} (f : X → List A) (xs : List X) → ((place : ℕ) (x : X) → slice_get xs place ≡ Some x → f x ≡ []) → flat_map f xs ≡ []
+given_none f [] none = refl
+given_none f (x ∷ xs) none = ap (λ given. given ++ flat_map f xs) (none 0 x refl) ∙ given_none f xs (λ place y there. none (suc place) y there)
 
--- the greatest section is that of the one log with notes
-last_alone : (operator client : Logged) (before after : List Logged) → IsSilent operator → All IsSilent before → All IsSilent after → last_section (operator ∷ (before ++ client ∷ after)) ≡ most (map (λ note. note.section) client.notes)
-last_alone operator client before after o b a =
-    ap (λ notes. most (map (λ note. note.section) notes)) (ap (λ notes. notes ++ flat_map (λ log. log.notes) (before ++ client ∷ after)) o ∙ alone (λ notes. notes) refl before client after b a)
+-- where one element alone gives anything, all is of it
+pub given_once : {X A : Type 0} (f : X → List A) (xs : List X) (at : ℕ) (x : X) → slice_get xs at ≡ Some x → ((place : ℕ) (y : X) → slice_get xs place ≡ Some y → (place ≡ at → ⊥) → f y ≡ []) → flat_map f xs ≡ f x
+given_once f [] at x there others = absurd (none-some x there)
+given_once f (y ∷ xs) zero x there others =
+    ap (λ given. given ++ flat_map f xs) (ap f (same_Some y x there))
+    ∙ ap (λ given. f x ++ given) (given_none f xs (λ place z found. others (suc place) z found (λ e. omega (arith, e))))
+    ∙ append-nil (f x)
+given_once f (y ∷ xs) (suc at) x there others =
+    ap (λ given. given ++ flat_map f xs) (others 0 y refl (λ e. omega (arith, e)))
+    ∙ given_once f xs at x there (λ place z found other. others (suc place) z found (λ e. other (omega (arith, e))))
 
--- the lines of a section, the operator's last, are those of the one log with notes
-section_alone : (section : ℕ) (operator client : Logged) (before after : List Logged) → IsSilent operator → All IsSilent before → All IsSilent after → flat_map (λ log. section_text section log.notes) ((before ++ client ∷ after) ++ operator ∷ []) ≡ section_text section client.notes
-section_alone section operator client before after o b a =
-    flat_map-append (λ log. section_text section log.notes) (before ++ client ∷ after) (operator ∷ [])
-    ∙ ap (λ told. flat_map (λ log. section_text section log.notes) (before ++ client ∷ after) ++ told) (append-nil (section_text section operator.notes) ∙ ap (section_text section) o)
+-- a log of the others tells all lines of a section, and no other log tells any
+pub record IsToldBy (section : ℕ) (others : List Logged) (notes : List Note) : Type 0 where
+  pub place : ℕ
+  pub log : Logged
+  pub there : slice_get others place ≡ Some log
+  pub all : section_text section log.notes ≡ section_text section notes
+  pub rest : (q : ℕ) (other : Logged) → slice_get others q ≡ Some other → (q ≡ place → ⊥) → section_text section other.notes ≡ []
+
+-- the lines of a section, the operator's last
+section_told : (section : ℕ) (operator : Logged) (others : List Logged) (notes : List Note) → operator.notes ≡ [] → IsToldBy section others notes → flat_map (λ log. section_text section log.notes) (others ++ operator ∷ []) ≡ section_text section notes
+section_told section operator others notes idle told =
+    flat_map-append (λ log. section_text section log.notes) others (operator ∷ [])
+    ∙ ap (λ lines. flat_map (λ log. section_text section log.notes) others ++ lines) (append-nil (section_text section operator.notes) ∙ ap (section_text section) idle)
     ∙ append-nil _
-    ∙ alone (section_text section) refl before client after b a
+    ∙ given_once (λ log. section_text section log.notes) others told.place told.log told.there told.rest
+    ∙ told.all
 
--- where the operator and all clients but one have no notes, and the sections of that one never fall,
--- the text is that client's lines
-pub text_alone : (last : ℕ) (operator client : Logged) (before after : List Logged) → IsSilent operator → All IsSilent before → All IsSilent after → Ascend 1 last client.notes → text_of (operator ∷ (before ++ client ∷ after)) ≡ notes_text client.notes
-text_alone last operator client before after o b a h =
-    let greatest = most (map (λ note. note.section) client.notes) in
-    ap (λ sections. flat_map (λ section. flat_map (λ log. section_text section log.notes) ((before ++ client ∷ after) ++ operator ∷ [])) (range_with_len 1 sections)) (last_alone operator client before after o b a)
-    ∙ (λ i. flat_map (λ section. section_alone section operator client before after o b a i) (range_with_len 1 greatest))
-    ∙ sections_text greatest 1 greatest client.notes (omega arith) (ascend_most 1 last greatest client.notes (omega arith) h)
+-- where the operator has no notes, the notes of the others stand among these, whose sections never
+-- fall, and each section is told by one log alone, the text is the lines of these notes
+pub text_shared : (last : ℕ) (operator : Logged) (others : List Logged) (notes : List Note) → operator.notes ≡ [] → ((section : ℕ) → IsToldBy section others notes) → most (map (λ note. note.section) notes) ≤ last_section (operator ∷ others) → Ascend 1 last notes → text_of (operator ∷ others) ≡ notes_text notes
+text_shared last operator others notes idle told within ascend =
+    let sections = last_section (operator ∷ others) in
+    (λ i. flat_map (λ section. section_told section operator others notes idle (told section) i) (range_with_len 1 sections))
+    ∙ sections_text sections 1 sections notes (omega arith) (ascend_most 1 last sections notes within ascend)
 
--- the same of a book with one client, whose log is the second
-pub text_one_client : (last : ℕ) (operator client : Logged) (workers : List Logged) → IsSilent operator → All IsSilent workers → Ascend 1 last client.notes → text_of (operator ∷ client ∷ workers) ≡ notes_text client.notes
-text_one_client last operator client workers o w h = text_alone last operator client [] workers o (All-nil IsSilent) w h
+-- ---- the greatest section
+
+pub most_within : (limit : ℕ) (notes : List Note) → ((note : Note) → In note notes → note.section ≤ limit) → most (map (λ note. note.section) notes) ≤ limit
+most_within limit [] all = omega arith
+most_within limit (note ∷ notes) all = let here = all note (inl refl) in let rest = most_within limit notes (λ other i. all other (inr i)) in omega (arith, here, rest)
+
+most_least : (notes : List Note) (note : Note) → In note notes → note.section ≤ most (map (λ note. note.section) notes)
+most_least [] note i = absurd i
+most_least (other ∷ notes) note (inl same) = let here = ap (λ (n : Note). n.section) same in omega (arith, here)
+most_least (other ∷ notes) note (inr i) = let rest = most_least notes note i in omega (arith, rest)
+
+in_front : {X : Type 0} (xs ys : List X) (x : X) → In x xs → In x (xs ++ ys)
+in_front [] ys x i = absurd i
+in_front (y ∷ xs) ys x (inl same) = inl same
+in_front (y ∷ xs) ys x (inr i) = inr (in_front xs ys x i)
+
+behind : {X : Type 0} (xs ys : List X) (x : X) → In x ys → In x (xs ++ ys)
+behind [] ys x i = i
+behind (y ∷ xs) ys x i = inr (behind xs ys x i)
+
+given_In : (logs : List Logged) (place : ℕ) (log : Logged) (note : Note) → slice_get logs place ≡ Some log → In note log.notes → In note (flat_map (λ log. log.notes) logs)
+given_In [] place log note there i = absurd (none-some log there)
+given_In (other ∷ logs) zero log note there i = in_front other.notes (flat_map (λ log. log.notes) logs) note (subst (λ (l : Logged). In note l.notes) (sym (same_Some other log there)) i)
+given_In (other ∷ logs) (suc place) log note there i = behind other.notes (flat_map (λ log. log.notes) logs) note (given_In logs place log note there i)
+
+-- the section of each note of a log is within the greatest
+pub section_within : (logs : List Logged) (place : ℕ) (log : Logged) (note : Note) → slice_get logs place ≡ Some log → In note log.notes → note.section ≤ last_section logs
+section_within logs place log note there i = most_least (flat_map (λ log. log.notes) logs) note (given_In logs place log note there i)

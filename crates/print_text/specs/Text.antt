@@ -1,5 +1,5 @@
 -- The text of a book.
-use Rattle.std.specs.Prelude.{◌≡◌, ℕ, ◌==◌, List, [], ◌∷◌, ◌++◌, Option, Some, None, map, filter, flat_map, codes, decimal}
+use Rattle.std.specs.Prelude.{ℕ, ◌==◌, List, [], ◌∷◌, ◌++◌, Option, Some, None, map, filter, flat_map, codes, decimal}
 use Rattle.std.specs.List.{join_with_byte, range_with_len}
 use Rattle.std.specs.Fmt.{signed_decimal}
 use Rattle.ids_core.specs.declared.object.ObjectId.{ObjectId}
@@ -11,9 +11,9 @@ use Rattle.vv_core.specs.Vectors.{most}
 use Rattle.tx_core.specs.declared.state.Value.{Value}
 use Rattle.tx_core.specs.declared.state.Value.TheVariants.{Number, Word, Words, Pairs}
 use Rattle.dc_talk.specs.declared.line.Line.{Line}
-use Rattle.dc_talk.specs.declared.line.Line.TheVariants.{At, Refused, ConnectMissed, BeginOpen, BeginClock, Closed, ManyUpdates, ManyTags, Unconnected, FetchMissed, FetchLacks, FetchIgnored, ReadValue, CommitNumber, CommitNone, CommitClosed, CommitPending, PushUnconnected, PushNone, Push, Sees, RefreshUnconnected, RefreshOpen, RefreshLacks, RefreshMissed, RefreshIgnored}
+use Rattle.dc_talk.specs.declared.line.Line.TheVariants.{At, Refused, ConnectMissed, BeginOpen, BeginClock, Closed, ManyUpdates, ManyTags, Unconnected, FetchMissed, FetchLacks, FetchPruned, FetchIgnored, ReadValue, CommitNumber, CommitNone, CommitClosed, CommitPending, AbortClosed, PushUnconnected, PushNone, Push, Flushed, Sees, RefreshUnconnected, RefreshOpen, RefreshLacks, RefreshMissed, RefreshIgnored}
 use Rattle.dc_talk.specs.declared.line.Miss.{Miss}
-use Rattle.dc_talk.specs.declared.line.Miss.TheVariants.{Misfit}
+use Rattle.dc_talk.specs.declared.line.Miss.TheVariants.{Unreachable, Lost, Misfit}
 use Rattle.dc_talk.specs.declared.line.PushEnd.{PushEnd}
 use Rattle.dc_talk.specs.declared.line.PushEnd.TheVariants.{Stamped, Known, Full, Order, Lacks, Missed}
 use Rattle.dc_talk.specs.declared.line.StepWord.{StepWord}
@@ -77,6 +77,8 @@ lack_text lack = codes "lacks " ++ decimal lack.centre ++ codes ":" ++ decimal l
 
 -- why an ask has no reply that counts
 abbrev pub miss_text : Miss → List ℕ
+miss_text Unreachable = codes "unreachable"
+miss_text Lost = codes "lost"
 miss_text Misfit = codes "misfit"
 
 -- the word of a step on an object
@@ -115,15 +117,18 @@ line_text (ManyTags client word object count) = step_text client word object ++ 
 line_text (Unconnected client word object) = step_text client word object ++ codes " unconnected"
 line_text (FetchMissed client word object miss) = step_text client word object ++ codes " " ++ miss_text miss
 line_text (FetchLacks client word object lack) = step_text client word object ++ codes " " ++ lack_text lack
+line_text (FetchPruned client word object centre base at) = step_text client word object ++ codes " pruned " ++ decimal centre ++ codes ":" ++ decimal base ++ codes " at " ++ decimal at
 line_text (FetchIgnored client word object) = step_text client word object ++ codes " ignored"
 line_text (ReadValue client object value) = step_text client Read object ++ codes " " ++ value_text value
 line_text (CommitNumber client number) = client_text client ++ codes " commit " ++ decimal number
 line_text (CommitNone client) = client_text client ++ codes " commit none"
 line_text (CommitClosed client) = client_text client ++ codes " commit closed"
 line_text (CommitPending client) = client_text client ++ codes " commit pending 1024"
+line_text (AbortClosed client) = client_text client ++ codes " abort closed"
 line_text (PushUnconnected client) = client_text client ++ codes " push unconnected"
 line_text (PushNone client) = client_text client ++ codes " push none"
 line_text (Push client number end) = client_text client ++ codes " push " ++ decimal number ++ codes " " ++ end_text end
+line_text (Flushed client own) = client_text client ++ codes " flushed " ++ decimal own
 line_text (Sees client vector mine) = client_text client ++ codes " sees " ++ vector_text vector ++ codes " own " ++ decimal mine
 line_text (RefreshUnconnected client) = client_text client ++ codes " refresh unconnected"
 line_text (RefreshOpen client) = client_text client ++ codes " refresh open"
@@ -161,7 +166,3 @@ last_section logs = most (map (λ note. note.section) (flat_map (λ log. log.not
 -- the clients, and those of the operator last
 abbrev pub text_of : List Logged → List ℕ
 text_of logs = flat_map (λ section. flat_map (λ log. section_text section log.notes) (operator_last logs)) (range_with_len 1 (last_section logs))
-
--- a log without notes
-abbrev pub IsSilent : Logged → Type 0
-IsSilent log = log.notes ≡ []

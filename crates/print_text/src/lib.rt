@@ -1,7 +1,7 @@
-//! The text of lines, of logs and of books.
+//! The text of lines, of notes and of books.
 #![tactic(auto)]
 
 mod text;
 mod value;
 
-pub use text::{log_text, write_deed, write_line};
+pub use text::{write_deed, write_line, write_notes};

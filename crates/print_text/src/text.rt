@@ -1,24 +1,23 @@
-// The lines of a log as bytes.
-ghost use Rattle.std.specs.Prelude.{◌≡◌, ◌++◌, IfOk, OnOk, IsTrue, codes, decimal, map};
+// The lines of notes as bytes.
+ghost use Rattle.std.specs.Prelude.{◌≡◌, ◌++◌, OnOk, IsTrue, codes, decimal, map};
 ghost use Rattle.print_text.specs.Text.{client_text, end_text, lack_text, later, line_text, miss_text, notes_text, object_text, stamp_text, step_text, told_text, vector_text};
 ghost use Rattle.print_text.specs.Forms.{is_of_call, is_of_connect, is_of_fetch, is_of_push, is_of_refresh, is_of_transaction};
 
 use crate::value::write_value;
-use dc_talk::{Deed, Line, Log, Miss, PushEnd, StepWord};
+use dc_talk::{Deed, Line, Miss, Note, PushEnd, StepWord};
 use ids_core::{NoMemory, ObjectId, Sort};
 use itoa::Buffer;
-use std::alloc::Global;
 use vv_core::{Lack, Stamp, Vector};
 
-/// The lines that a log tells, in their order, each with its line feed.
-pub fn log_text(alloc: Global, log: &Log) -> Result<Vec<u8>, NoMemory>
-    ensures { IfOk result (λ text. text.items ≡ notes_text log.now.notes) }
+/// Writes the lines that notes tell, in their order, each with its line feed. An `Err` leaves a part
+/// of them at the end.
+pub fn write_notes(text: &mut Vec<u8>, notes: &[Note]) -> Result<(), NoMemory>
+    ensures { OnOk result (text.new.items ≡ text.old.items ++ notes_text notes.now) }
 {
-    let mut text = Vec::new(alloc);
-    for note in log.as_slice() {
-        write_deed(&mut text, &note.deed)?;
+    for note in notes {
+        write_deed(text, &note.deed)?;
     }
-    Ok(text)
+    Ok(())
 }
 
 /// Writes the line that a deed tells, with its line feed, and nothing of another deed. An `Err`
@@ -46,7 +45,8 @@ pub fn write_line(text: &mut Vec<u8>, line: &Line) -> Result<(), NoMemory>
         | Line::CommitNumber { .. }
         | Line::CommitNone { .. }
         | Line::CommitClosed { .. }
-        | Line::CommitPending { .. } => write_transaction(text, line),
+        | Line::CommitPending { .. }
+        | Line::AbortClosed { .. } => write_transaction(text, line),
         Line::Closed { .. }
         | Line::ManyUpdates { .. }
         | Line::ManyTags { .. }
@@ -54,10 +54,12 @@ pub fn write_line(text: &mut Vec<u8>, line: &Line) -> Result<(), NoMemory>
         Line::Unconnected { .. }
         | Line::FetchMissed { .. }
         | Line::FetchLacks { .. }
+        | Line::FetchPruned { .. }
         | Line::FetchIgnored { .. } => write_fetch(text, line),
-        Line::PushUnconnected { .. } | Line::PushNone { .. } | Line::Push { .. } => {
-            write_push(text, line)
-        }
+        Line::PushUnconnected { .. }
+        | Line::PushNone { .. }
+        | Line::Push { .. }
+        | Line::Flushed { .. } => write_push(text, line),
         Line::Sees { .. }
         | Line::RefreshUnconnected { .. }
         | Line::RefreshOpen { .. }
@@ -110,6 +112,7 @@ fn write_transaction(text: &mut Vec<u8>, line: &Line) -> Result<(), NoMemory>
         Line::CommitNone { client } => write_words(text, *client, b" commit none"),
         Line::CommitClosed { client } => write_words(text, *client, b" commit closed"),
         Line::CommitPending { client } => write_words(text, *client, b" commit pending 1024"),
+        Line::AbortClosed { client } => write_words(text, *client, b" abort closed"),
         _ => unreachable!(),
     }
 }
@@ -178,6 +181,19 @@ fn write_fetch(text: &mut Vec<u8>, line: &Line) -> Result<(), NoMemory>
             write_step(text, *client, *word, object, b" ")?;
             write_lack(text, lack)
         }
+        Line::FetchPruned {
+            client,
+            word,
+            object,
+            centre,
+            base,
+            at,
+        } => {
+            write_step(text, *client, *word, object, b" pruned ")?;
+            write_number(text, u64::from(*centre))?;
+            write_named(text, b":", *base)?;
+            write_named(text, b" at ", *at)
+        }
         Line::FetchIgnored {
             client,
             word,
@@ -203,6 +219,7 @@ fn write_push(text: &mut Vec<u8>, line: &Line) -> Result<(), NoMemory>
             text.extend_from_slice(b" ")?;
             write_end(text, end)
         }
+        Line::Flushed { client, own } => write_numbered(text, *client, b" flushed ", *own),
         _ => unreachable!(),
     }
 }
@@ -351,6 +368,8 @@ fn write_miss(text: &mut Vec<u8>, miss: Miss) -> Result<(), NoMemory>
     ensures { OnOk result (text.new.items ≡ text.old.items ++ miss_text miss) }
 {
     match miss {
+        Miss::Unreachable => text.extend_from_slice(b"unreachable")?,
+        Miss::Lost => text.extend_from_slice(b"lost")?,
         Miss::Misfit => text.extend_from_slice(b"misfit")?,
     }
     Ok(())

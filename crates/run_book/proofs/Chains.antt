@@ -5,7 +5,7 @@ use Rattle.std.proofs.lemmas.Option.{slice_get_within}
 use Rattle.list_core.specs.Members.{In}
 use Rattle.ids_core.specs.declared.ids.Dot.{Dot}
 use Rattle.run_book.specs.Nodes.{Node, Within, Closed, WellMade}
-use Rattle.run_book.proofs.Lists.{get_In, In_get}
+use Rattle.dc_talk.proofs.Moments.{get_In, In_get}
 use Rattle.run_book.proofs.Numbered.{Numbered, numbered_at}
 use Rattle.run_book.proofs.Held.{dot_at}
 use Rattle.run_book.proofs.Dots.{IsOwn, own_grows}

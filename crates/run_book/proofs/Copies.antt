@@ -1,5 +1,5 @@
 -- The applied list of a centre that stamps the commits of one client.
-use Rattle.std.proofs.Common.{◌≡◌, ℕ, zero, suc, ◌+◌, ◌≤◌, max, true, cond, List, [], ◌∷◌, ◌++◌, length, take, map, Option, Some, None, refl, sym, ap, ◌∙◌, subst, arith}
+use Rattle.std.proofs.Common.{◌≡◌, ℕ, zero, suc, ◌+◌, ◌≤◌, max, Bool, true, false, cond, List, [], ◌∷◌, ◌++◌, length, take, map, Option, Some, None, refl, sym, ap, ◌∙◌, subst, arith}
 use Rattle.std.specs.Prelude.{slice_get, ◌==◌}
 use Rattle.std.proofs.lemmas.Bool.{eq-eqb}
 use Rattle.std.proofs.lemmas.Option.{slice_get_within}
@@ -11,26 +11,39 @@ use Rattle.vv_core.specs.declared.stamp.Stamp.{Stamp}
 use Rattle.vv_core.proofs.Reaching.{count_by-cons}
 use Rattle.tx_core.specs.declared.tx.Tx.{Tx}
 use Rattle.tx_core.specs.declared.tx.Record.{Record}
-use Rattle.dc_talk.specs.declared.ask.Ask.TheVariants.{Commit}
-use Rattle.dc_talk.specs.declared.say.Say.TheVariants.{Stamped}
+use Rattle.dc_talk.specs.declared.ask.Ask.TheVariants.{Commit, Deliver}
+use Rattle.dc_talk.specs.declared.say.Say.TheVariants.{Stamped, Applied}
 use Rattle.dc_talk.specs.declared.trail.Entry.{Entry}
 use Rattle.dc_talk.specs.Records.{count, guard, deps_of}
-use Rattle.dc_talk.specs.Trails.{committed_in, stamp_in, stamped, grown, applied}
+use Rattle.dc_talk.specs.Trails.{committed_in, stamp_in, delivered_in, is_applied, stamped, received, grown, applied}
 use Rattle.dc_talk.specs.Answers.{answer, History}
-use Rattle.run_book.proofs.Lists.{by_moments, take_one_more, In_get}
+use Rattle.dc_talk.proofs.Moments.{by_moments, take_one_more, In_get}
 use Rattle.run_book.proofs.Numbered.{Numbered, numbered_more, numbered_at}
-use Rattle.run_book.proofs.Inversions.{committed_in_some, stamp_in_some, StampedBy, stamped_by}
+use Rattle.dc_talk.proofs.Inversions.{committed_in_some, stamp_in_some, StampedBy, stamped_by, applied_by, delivered_in_some, is_applied_true}
 use Rattle.run_book.proofs.Held.{dot_at}
 
 -- ---- what holds of the applied list at each moment of a trail
 
--- what holds of no record, and of one record more that is stamped, holds of the applied list at each moment
-pub by_stamps : (me n k limit : ℕ) (trail : List Entry) (Q : List Record → Type 0) → History me n k limit trail → Q [] → ((p : ℕ) (entry : Entry) (tx : Tx) (stamp : Stamp) → slice_get trail p ≡ Some entry → entry.ask ≡ Commit tx → StampedBy me n limit (applied n (take p trail)) tx stamp → Q (applied n (take p trail)) → Q (applied n (take p trail) ++ record { stamp = stamp; deps = deps_of n (applied n (take p trail)) tx; tx = tx } ∷ [])) → (p : ℕ) → Q (applied n (take p trail))
-by_stamps me n k limit trail Q history start more = by_moments (λ X. Q (applied n X)) trail start step
+-- no entry of the trail is a delivery that was applied
+abbrev pub NoneApplied : List Entry → Type 0
+NoneApplied trail = (p : ℕ) (entry : Entry) (item : Record) → slice_get trail p ≡ Some entry → delivered_in entry.ask ≡ Some item → is_applied entry.say ≡ true → ⊥
+
+-- what holds of no record, and of one record more that is stamped, holds of the applied list at each
+-- moment, where nothing that was delivered was applied
+pub by_stamps : (me n k limit : ℕ) (trail : List Entry) (Q : List Record → Type 0) → History me n k limit trail → NoneApplied trail → Q [] → ((p : ℕ) (entry : Entry) (tx : Tx) (stamp : Stamp) → slice_get trail p ≡ Some entry → entry.ask ≡ Commit tx → StampedBy me n limit (applied n (take p trail)) tx stamp → Q (applied n (take p trail)) → Q (applied n (take p trail) ++ record { stamp = stamp; deps = deps_of n (applied n (take p trail)) tx; tx = tx } ∷ [])) → (p : ℕ) → Q (applied n (take p trail))
+by_stamps me n k limit trail Q history none start more = by_moments (λ X. Q (applied n X)) trail start step
   where
     step : (p : ℕ) (entry : Entry) → slice_get trail p ≡ Some entry → Q (applied n (take p trail)) → Q (applied n (take p trail ++ entry ∷ []))
-    step p entry there h = subst Q (sym (fold_push (grown n) [] (take p trail) entry)) (go (committed_in entry.ask) refl (stamp_in entry.say) refl)
+    step p entry there h = subst Q (sym (fold_push (grown n) [] (take p trail) entry)) (came (delivered_in entry.ask) refl (is_applied entry.say) refl (go (committed_in entry.ask) refl (stamp_in entry.say) refl))
       where
+        A : List Record
+        A = stamped n (applied n (take p trail)) (committed_in entry.ask) (stamp_in entry.say)
+
+        came : (d : Option Record) → delivered_in entry.ask ≡ d → (b : Bool) → is_applied entry.say ≡ b → Q A → Q (received A d b)
+        came (Some item) asks true says h = absurd (none p entry item there asks says)
+        came (Some item) asks false says h = h
+        came None asks b says h = h
+
         go : (c : Option Tx) → committed_in entry.ask ≡ c → (s : Option Stamp) → stamp_in entry.say ≡ s → Q (stamped n (applied n (take p trail)) c s)
         go (Some tx) asks (Some stamp) says =
             let ask : entry.ask ≡ Commit tx = committed_in_some entry.ask tx asks in
@@ -39,6 +52,16 @@ by_stamps me n k limit trail Q history start more = by_moments (λ X. Q (applied
             more p entry tx stamp there ask (stamped_by me n k limit (take p trail) tx stamp is) h
         go (Some tx) asks None says = h
         go None asks s says = h
+
+-- in a group of one centre nothing that is delivered is applied
+pub none_applied : (k limit : ℕ) (trail : List Entry) → History 1 1 k limit trail → NoneApplied trail
+none_applied k limit trail history p entry item there asks says =
+    let fresh = is_applied_true entry.say says in
+    let is : Applied fresh.0 ≡ answer 1 1 k limit (take p trail) (Deliver item) = sym fresh.1 ∙ (history.by p entry there ∙ ap (answer 1 1 k limit (take p trail)) (delivered_in_some entry.ask item asks)) in
+    let by = applied_by 1 1 k limit (take p trail) item fresh.0 is in
+    let low = by.fit.centre.0 in
+    let high = by.fit.centre.1 in
+    by.other (omega (arith, low, high))
 
 -- ---- a centre that applied the first of a client's commits
 
@@ -86,8 +109,8 @@ copy_more me n limit client C A tx stamp deps dots who there by copy =
     }
 
 -- where all commits that reach the centre are of C, it has the first of C, in order
-pub copies : (me n k limit client : ℕ) (trail : List Entry) (C : List Tx) → Numbered (λ t. t.dot) (dot_at client) 1 C → History me n k limit trail → ((p : ℕ) (entry : Entry) (tx : Tx) → slice_get trail p ≡ Some entry → entry.ask ≡ Commit tx → (tx.dot.client ≡ client) × In tx C) → (p : ℕ) → IsCopy me client C (applied n (take p trail))
-copies me n k limit client trail C dots history home = by_stamps me n k limit trail (IsCopy me client C) history start step
+pub copies : (me n k limit client : ℕ) (trail : List Entry) (C : List Tx) → Numbered (λ t. t.dot) (dot_at client) 1 C → History me n k limit trail → NoneApplied trail → ((p : ℕ) (entry : Entry) (tx : Tx) → slice_get trail p ≡ Some entry → entry.ask ≡ Commit tx → (tx.dot.client ≡ client) × In tx C) → (p : ℕ) → IsCopy me client C (applied n (take p trail))
+copies me n k limit client trail C dots history none home = by_stamps me n k limit trail (IsCopy me client C) history none start step
   where
     start : IsCopy me client C []
     start = record { few = omega arith; stamps = tt; txs = refl; dots = tt }

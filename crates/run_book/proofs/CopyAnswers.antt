@@ -18,7 +18,8 @@ use Rattle.tx_core.specs.declared.tx.Record.{Record}
 use Rattle.tx_core.specs.States.{empty_of, fold_of}
 use Rattle.dc_talk.specs.Records.{own, has, inside, mine, firsts, firsts_past}
 use Rattle.dc_talk.specs.Objects.{ops_of, state_at}
-use Rattle.run_book.proofs.Lists.{In_map, In_from_map, In_get}
+use Rattle.dc_talk.proofs.Moments.{In_get}
+use Rattle.run_book.proofs.Lists.{In_map, In_from_map}
 use Rattle.run_book.proofs.Numbered.{Numbered, numbered_In, numbered_at, numbered_take, numbered_after, filter_numbered}
 use Rattle.run_book.proofs.Held.{dot_at}
 use Rattle.run_book.proofs.Dots.{has_is, mine_numbered}

@@ -28,7 +28,7 @@ use Rattle.dc_talk.specs.declared.log.Note.{Note}
 use Rattle.dc_talk.specs.Clients.{Client, new_client, next_tx, next_dot, draft_updates}
 use Rattle.dc_talk.specs.Calls.{most_rank, op_of, over, looked_up, outcome_of, did, committed}
 use Rattle.dc_talk.specs.Rule.{after, heard, takes, taken, is_linked, can_follow, client_after, commit_in, commits_of, Allows, Follows}
-use Rattle.run_book.proofs.Lists.{by_moments, get_last}
+use Rattle.dc_talk.proofs.Moments.{by_moments, get_last}
 use Rattle.run_book.proofs.Numbered.{Numbered, numbered_more}
 use Rattle.run_book.proofs.Sessions.{IsModest, modest_none, modest_more, begin_fine, ChangeFine, change_fine, commit_number, CanFollow, can_follow-true, commits_of_more, small_delta}
 

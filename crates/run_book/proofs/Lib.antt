@@ -1,6 +1,5 @@
 pub mod Lists
 pub mod Numbered
-pub mod Inversions
 pub mod Sessions
 pub mod Held
 pub mod Growth
@@ -14,6 +13,7 @@ pub mod Stands
 pub mod Chains
 pub mod OneClient
 pub mod OneClientReads
-pub mod AloneSteps
-pub mod Alone
-pub mod AloneFits
+pub mod Happened
+pub mod Reached
+pub mod TogetherFits
+pub mod TogetherSteps

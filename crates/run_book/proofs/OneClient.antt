@@ -23,13 +23,14 @@ use Rattle.run_book.specs.Parts.{trail_of, notes_of, IsClient}
 use Rattle.run_book.specs.Fit.{FitsWith}
 use Rattle.run_book.specs.Nodes.{Node}
 use Rattle.run_book.specs.Graphs.{own_list, cover, own_dots, node_of, graph, client_at, basis_at}
-use Rattle.run_book.proofs.Lists.{In_right, In_either, In_from_map}
+use Rattle.dc_talk.proofs.Moments.{In_right, In_either}
+use Rattle.run_book.proofs.Lists.{In_from_map}
 use Rattle.run_book.proofs.Numbered.{Numbered, numbered_at, numbered_In, numbered_take, map_numbered}
 use Rattle.run_book.proofs.Held.{Held, dot_at, held_after}
 use Rattle.run_book.proofs.Pairing.{entry_committed, heard_answered}
 use Rattle.run_book.proofs.Chains.{AreFirst, IsChain}
 use Rattle.run_book.proofs.Dots.{IsOwn, own_dots_are, are_own_dots}
-use Rattle.run_book.proofs.Copies.{IsCopy, copies}
+use Rattle.run_book.proofs.Copies.{IsCopy, NoneApplied, none_applied, copies}
 use Rattle.run_book.proofs.CopyAnswers.{own_copy}
 use Rattle.run_book.proofs.Stands.{Stands, IsAnswer, stands_after}
 
@@ -79,9 +80,13 @@ module _ (b : Book) (limit capacity : ℕ) (one : b.n ≡ 1) (fit : FitsWith b 1
   history : History 1 b.n b.k limit (trail_of b 1)
   history = fit.histories 1 (omega arith) (omega (arith, one))
 
+  -- nothing that was delivered was applied
+  alone : NoneApplied (trail_of b 1)
+  alone = none_applied b.k limit (trail_of b 1) (subst (λ n. History 1 n b.k limit (trail_of b 1)) one history)
+
   -- the centre has the first of them at each moment
   copy_at : (p : ℕ) → IsCopy 1 1 commits (applied b.n (take p (trail_of b 1)))
-  copy_at p = copies 1 b.n b.k limit 1 (trail_of b 1) commits dots history home p
+  copy_at p = copies 1 b.n b.k limit 1 (trail_of b 1) commits dots history alone home p
 
   -- and at the end
   copy : IsCopy 1 1 commits (applied b.n (trail_of b 1))

@@ -20,7 +20,7 @@ use Rattle.dc_talk.specs.Rule.{commits_of}
 use Rattle.run_book.specs.declared.book.Book.{Book}
 use Rattle.run_book.specs.Parts.{trail_of, notes_of, answered, exchange, exchanged_in, entry_by, IsClient}
 use Rattle.run_book.specs.Fit.{FitsWith}
-use Rattle.run_book.proofs.Lists.{In_left}
+use Rattle.dc_talk.proofs.Moments.{In_left}
 use Rattle.run_book.proofs.Sessions.{commits_of_prefix}
 
 -- ---- two filters that give one list

@@ -22,7 +22,7 @@ use Rattle.dc_talk.specs.Trails.{applied, rows, stable}
 use Rattle.dc_talk.specs.Clients.{Client, same_vector, is_entry, cached, kept, promoted}
 use Rattle.dc_talk.specs.Calls.{named, looked_up}
 use Rattle.run_book.proofs.Lists.{In_take}
-use Rattle.run_book.proofs.Inversions.{SnapBy}
+use Rattle.dc_talk.proofs.Inversions.{SnapBy}
 
 -- ---- a snapshot
 

@@ -36,8 +36,8 @@ use Rattle.dc_talk.specs.Answers.{answer}
 use Rattle.dc_talk.specs.Clients.{Client, new_client, next_tx, draft_updates}
 use Rattle.dc_talk.specs.Calls.{did}
 use Rattle.dc_talk.specs.Rule.{after, heard, takes, taken, is_linked, can_follow, client_after, commit_in, commits_of, Follows}
-use Rattle.run_book.proofs.Lists.{by_moments, get_last}
-use Rattle.run_book.proofs.Inversions.{snap_by, object_by}
+use Rattle.dc_talk.proofs.Moments.{by_moments, get_last}
+use Rattle.dc_talk.proofs.Inversions.{snap_by, object_by}
 use Rattle.run_book.proofs.Sessions.{can_follow-true, commits_of_more}
 use Rattle.run_book.proofs.Held.{Held, held_after}
 use Rattle.run_book.proofs.Copies.{IsCopy, count_numbered}

@@ -4,14 +4,15 @@ use Rattle.list_core.specs.Members.{In}
 use Rattle.tx_core.specs.declared.tx.Tx.{Tx}
 use Rattle.tx_core.specs.declared.tx.Record.{Record}
 use Rattle.dc_talk.specs.declared.ask.Ask.{Ask}
-use Rattle.dc_talk.specs.declared.ask.Ask.TheVariants.{Refresh, Commit}
+use Rattle.dc_talk.specs.declared.ask.Ask.TheVariants.{Refresh, Commit, Learn}
+use Rattle.dc_talk.specs.declared.say.Say.TheVariants.{Records, Vector}
 use Rattle.dc_talk.specs.declared.session.Call.{Call}
 use Rattle.dc_talk.specs.declared.session.Outcome.{Outcome}
 use Rattle.dc_talk.specs.declared.log.Fate.{Fate}
 use Rattle.dc_talk.specs.declared.log.Deed.TheVariants.{Did, Asked}
 use Rattle.dc_talk.specs.declared.log.Note.{Note}
 use Rattle.dc_talk.specs.declared.trail.Entry.{Entry}
-use Rattle.dc_talk.specs.Trails.{taught_in}
+use Rattle.dc_talk.specs.Trails.{delivered_in}
 use Rattle.dc_talk.specs.Answers.{History}
 use Rattle.dc_talk.specs.Rule.{Follows, commits_of}
 use Rattle.run_book.specs.declared.book.Book.{Book}
@@ -30,9 +31,28 @@ pub record InForm (b : Book) (clients : ℕ) : Type 0 where
   pub centres : (a m : ℕ) (note : Note) (i : ℕ) (ask : Ask) (fate : Fate) → slice_get (notes_of b a) m ≡ Some note → note.deed ≡ Asked i ask fate → (1 ≤ i) × (i ≤ b.n)
   pub calls : (a m : ℕ) (note : Note) (call : Call) (outcome : Outcome) → slice_get (notes_of b a) m ≡ Some note → note.deed ≡ Did call outcome → IsClient clients a
 
--- the record that an ask delivers; no ask delivers one yet
-abbrev pub delivered_in : Ask → Option Record
-delivered_in ask = None
+-- the record stands in an answer of its origin to a send
+pub record IsSent (b : Book) (item : Record) : Type 0 where
+  pub origin : (1 ≤ item.stamp.centre) × (item.stamp.centre ≤ b.n)
+  pub place : ℕ
+  pub entry : Entry
+  pub there : slice_get (trail_of b item.stamp.centre) place ≡ Some entry
+  pub list : List Record
+  pub says : entry.say ≡ Records list
+  pub has : In item list
+
+-- the vector stands in an answer of its centre to a report
+pub record IsReported (b : Book) (news : ℕ × List ℕ) : Type 0 where
+  pub origin : (1 ≤ news.0) × (news.0 ≤ b.n)
+  pub place : ℕ
+  pub entry : Entry
+  pub there : slice_get (trail_of b news.0) place ≡ Some entry
+  pub says : entry.say ≡ Vector news.1
+
+-- what an ask teaches, whatever it is answered
+abbrev pub news_in : Ask → Option (ℕ × List ℕ)
+news_in (Learn from news) = Some (from, news)
+news_in _ = None
 
 -- a transaction is one that a client committed among the first m notes of its log
 pub record IsOwnCommit (b : Book) (clients capacity a m : ℕ) (tx : Tx) : Type 0 where
@@ -50,8 +70,8 @@ pub record FitsWith (b : Book) (clients limit capacity : ℕ) : Type 0 where
   pub capacity_range : 1 ≤ capacity
   pub histories : (i : ℕ) → 1 ≤ i → i ≤ b.n → History i b.n b.k limit (trail_of b i)
   pub paired : (i a : ℕ) → 1 ≤ i → i ≤ b.n → 1 ≤ a → a ≤ length b.logs → entries_by a (trail_of b i) ≡ exchanged i (notes_of b a)
-  pub delivered : (i p : ℕ) (entry : Entry) (item : Record) → slice_get (trail_of b i) p ≡ Some entry → delivered_in entry.ask ≡ Some item → ⊥
-  pub learned : (i p : ℕ) (entry : Entry) (news : ℕ × List ℕ) → slice_get (trail_of b i) p ≡ Some entry → taught_in entry.ask entry.say ≡ Some news → ⊥
+  pub delivered : (i p : ℕ) (entry : Entry) (item : Record) → slice_get (trail_of b i) p ≡ Some entry → delivered_in entry.ask ≡ Some item → IsSent b item
+  pub learned : (i p : ℕ) (entry : Entry) (news : ℕ × List ℕ) → slice_get (trail_of b i) p ≡ Some entry → news_in entry.ask ≡ Some news → IsReported b news
   pub follows : (a : ℕ) → IsClient clients a → Follows b.n (a - 1) capacity (notes_of b a)
   pub commits_home : (a m : ℕ) (note : Note) (i : ℕ) (tx : Tx) (fate : Fate) → slice_get (notes_of b a) m ≡ Some note → note.deed ≡ Asked i (Commit tx) fate → IsOwnCommit b clients capacity a m tx
   pub refresh_home : (a m : ℕ) (note : Note) (i client : ℕ) (here : List ℕ) (fate : Fate) → slice_get (notes_of b a) m ≡ Some note → note.deed ≡ Asked i (Refresh client here) fate → IsClient clients a

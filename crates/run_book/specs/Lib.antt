@@ -5,5 +5,5 @@ pub mod Scripted
 pub mod Nodes
 pub mod Values
 pub mod Graphs
-pub mod Alone
 pub mod Numbers
+pub mod Together

@@ -11,6 +11,7 @@ use Rattle.dc_talk.specs.Clients.{Client, new_client}
 use Rattle.dc_talk.specs.Rule.{after}
 use Rattle.script_text.specs.declared.script.Script.{Script}
 use Rattle.script_text.specs.declared.steps.ClientStep.{ClientStep}
+use Rattle.script_text.specs.declared.steps.Step.{Step}
 use Rattle.script_text.specs.Deeds.{StepDeeds}
 use Rattle.run_book.specs.declared.book.Book.{Book}
 use Rattle.run_book.specs.Parts.{trail_of, notes_of, note_of}
@@ -21,14 +22,14 @@ pub record Placed : Type 0 where
   pub step : ℕ
   pub does : ClientStep
 
--- each step a section of its own, counted from a number on
-abbrev pub placed_from : ℕ → List ClientStep → List Placed
-placed_from section [] = []
-placed_from section (does ∷ steps) = record { section = section; step = 1; does = does } ∷ placed_from (section + 1) steps
+-- the steps of a client among these, of which each is a section of its own, counted from a number on
+abbrev pub placed_from : ℕ → ℕ → List Step → List Placed
+placed_from client section [] = []
+placed_from client section (step ∷ steps) = cond (step.client == client) (record { section = section; step = 1; does = step.does } ∷ placed_from client (section + 1) steps) (placed_from client (section + 1) steps)
 
--- the steps of a client in a script; client 1 makes them all
+-- the steps of a client in a script
 abbrev pub steps_of : ℕ → Script → List Placed
-steps_of client script = cond (client == 1) (placed_from 1 script.steps) []
+steps_of client script = placed_from client 1 script.steps
 
 -- the note is of this section and step
 pub record IsAt (section step : ℕ) (note : Note) : Type 0 where

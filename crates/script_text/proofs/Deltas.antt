@@ -1,11 +1,11 @@
--- Deltas fit 64 bits, and their texts are read again.
-use Rattle.std.proofs.Common.{◌≡◌, ◌<◌, ◌^◌, ℕ, List, arith, subst}
-use Rattle.std.specs.Prelude.{ℤ, pos, negsuc, FitsSigned}
+-- Deltas fit 64 bits and counts 32, and their texts are read again.
+use Rattle.std.proofs.Common.{◌≡◌, ◌<◌, ◌^◌, ◌≤◌, ℕ, List, arith, subst}
+use Rattle.std.specs.Prelude.{ℤ, pos, negsuc, FitsSigned, decimal}
 use Rattle.std.specs.Int.{w64}
 use Rattle.std.specs.Str.{IsUtf8}
 use Rattle.std.specs.Fmt.{signed_decimal}
 use Rattle.std.proofs.lemmas.Str.{IsUtf8-from_ascii}
-use Rattle.std.proofs.lemmas.Fmt.{IsAscii-signed}
+use Rattle.std.proofs.lemmas.Fmt.{IsAscii-signed, IsAscii-decimal}
 use Rattle.std.proofs.lemmas.Int.{ints}
 use lib.Signed.{mag}
 use Rattle.script_text.specs.Steps.{IsDelta}
@@ -19,3 +19,6 @@ delta_mag (negsuc n) h = omega (arith, ints, h.0, h.1)
 
 pub delta_utf8 : (delta : ℤ) (text : List ℕ) → IsDelta delta → signed_decimal delta ≡ text → IsUtf8 text
 delta_utf8 delta text h same = subst IsUtf8 same (IsUtf8-from_ascii _ (IsAscii-signed delta (delta_mag delta h)))
+
+pub count_utf8 : (n : ℕ) (text : List ℕ) → n ≤ 1000000 → decimal n ≡ text → IsUtf8 text
+count_utf8 n text few same = subst IsUtf8 same (IsUtf8-from_ascii _ (IsAscii-decimal n (omega arith)))

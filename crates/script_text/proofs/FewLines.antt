@@ -4,11 +4,12 @@ use Rattle.std.specs.Prelude.{◌==◌, cond, nat_le, if◌then◌else◌}
 use Rattle.std.proofs.lemmas.List.{length-append, length-map}
 use Rattle.std.proofs.lemmas.List.Sums.{sum_by-cons}
 use Rattle.std.proofs.lemmas.Bool.{leb-true, leb-false}
-use Rattle.script_text.specs.declared.steps.ClientStep.{ClientStep}
+use Rattle.script_text.specs.declared.row.Row.{Row}
+use Rattle.script_text.specs.declared.row.Row.TheVariants.{Cache, Limit, Does}
 use Rattle.script_text.specs.Limits.{line_feeds, HasManyLines, PassesLimits}
 use Rattle.script_text.specs.Lines.{lines_of, onto_first}
-use Rattle.script_text.specs.Steps.{spelling}
-use Rattle.script_text.specs.Scripts.{AreSteps, header}
+use Rattle.script_text.specs.Rows.{row_text, steps_in}
+use Rattle.script_text.specs.Scripts.{header}
 
 feeds_first : (b : ℕ) (bs : List ℕ) → line_feeds (b ∷ bs) ≡ cond (b == 10) 1 0 + line_feeds bs
 feeds_first b bs = sum_by-cons (λ x. cond (x == 10) 1 0) b bs
@@ -64,9 +65,15 @@ feeds_few bytes limits = go (nat_le (line_feeds bytes) 200000) refl
         let many : HasManyLines bytes = record { before = b.before; byte = b.byte; rest = b.rest; parts = b.parts; many = b.many } in
         absurd (limits (inr many))
 
+-- there are no more steps than lines
+steps_fewer : (rows : List Row) → length (steps_in rows) ≤ length rows
+steps_fewer [] = omega arith
+steps_fewer (Cache objects ∷ rows) = let fewer = steps_fewer rows in omega (arith, fewer)
+steps_fewer (Limit most ∷ rows) = let fewer = steps_fewer rows in omega (arith, fewer)
+steps_fewer (Does step ∷ rows) = let fewer = steps_fewer rows in omega (arith, fewer)
+
 -- a script has no more steps than lines
-pub steps_few : (bytes : List ℕ) (rest : List (List ℕ)) (steps : List ClientStep) → lines_of bytes ≡ header ++ rest → AreSteps rest steps → (PassesLimits bytes → ⊥) → length steps ≤ 200000
-steps_few bytes rest steps parts are limits =
-    let lines : length (lines_of bytes) ≡ length (header ++ rest) = ap (λ (l : List (List ℕ)). length l) parts in
-    let spelled : length rest ≡ length (map spelling steps) = ap (λ (l : List (List ℕ)). length l) are.spelled in
-    omega (arith, lines_few bytes, feeds_few bytes limits, lines, spelled, length-append header rest, length-map steps spelling)
+pub steps_few : (bytes : List ℕ) (clients : ℕ) (rows : List Row) → lines_of bytes ≡ header clients ++ map row_text rows → (PassesLimits bytes → ⊥) → length (steps_in rows) ≤ 200000
+steps_few bytes clients rows parts limits =
+    let lines : length (lines_of bytes) ≡ length (header clients ++ map row_text rows) = ap (λ (l : List (List ℕ)). length l) parts in
+    omega (arith, lines_few bytes, feeds_few bytes limits, lines, length-append (header clients) (map row_text rows), length-map rows row_text, steps_fewer rows)

@@ -1,8 +1,8 @@
 pub mod LongTexts
 pub mod CountedLines
-pub mod Blocks
 pub mod Cuts
 pub mod Deltas
 pub mod Spellings
+pub mod Rows
 pub mod Readings
 pub mod FewLines

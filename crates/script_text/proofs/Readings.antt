@@ -1,77 +1,116 @@
--- The steps that a text's lines spell, as they are read one by one.
-use Rattle.std.proofs.Common.{◌≡◌, ℕ, List, [], ◌∷◌, ◌++◌, Option, Some, None, drop, ap, sym, ◌∙◌, subst, append_assoc}
-use Rattle.std.specs.Prelude.{All, map, IfNone}
-use Rattle.std.proofs.lemmas.List.{map_push}
-use Rattle.std.proofs.lemmas.List.Elements.{All-push, All-head, All-tail}
-use Rattle.script_text.specs.Steps.{spelling, IsStep}
-use Rattle.script_text.specs.Shapes.{IsShape}
-use Rattle.script_text.specs.Reaches.{Reaches}
-use Rattle.script_text.specs.Scripts.{AreSteps}
-use Rattle.script_text.specs.declared.steps.ClientStep.{ClientStep}
-use Rattle.script_text.specs.declared.shape.Shape.{Shape}
+-- The rows that a text's lines spell, as they are read one by one.
+use Rattle.std.proofs.Common.{◌≡◌, ℕ, List, [], ◌∷◌, ◌++◌, Option, Some, None, drop, length, refl, ap, sym, ◌∙◌, subst, append_assoc}
+use Rattle.std.specs.Prelude.{All, map, IfNone, IfSome, slice_get, codes, decimal}
+use Rattle.std.proofs.lemmas.List.{map_push, append-nil}
+use Rattle.std.proofs.lemmas.List.Elements.{All-push, All-head, All-tail, All-nil}
+use Rattle.std.proofs.Math.Seq.{take-append_seam}
+use Rattle.list_core.specs.Moments.{Each}
+use Rattle.list_core.proofs.Moments.{each_none, each_more}
+use Rattle.script_text.specs.Rows.{row_text, IsRow, MayFollow}
+use Rattle.script_text.specs.Readings.{HasRead}
+use Rattle.script_text.specs.Scripts.{AreRows, AreClients}
+use Rattle.script_text.specs.declared.row.Row.{Row}
+use Rattle.script_text.specs.declared.reading.Reading.{Reading}
 
--- this is the one step, if any, that the line spells
-abbrev pub IsOnly : List ℕ → Option ClientStep → Type 0
-IsOnly line found = (step : ClientStep) → IsStep step → spelling step ≡ line → found ≡ Some step
+-- this is the one row of a script of so many clients, if any, that the line spells
+abbrev pub IsOnly : ℕ → List ℕ → Option Row → Type 0
+IsOnly clients line found = (row : Row) → IsRow clients row → row_text row ≡ line → found ≡ Some row
 
--- the steps go on from these, with others that spell the rest of the lines
-pub record GoesOn (steps : List ClientStep) (rest : List (List ℕ)) (all : List ClientStep) : Type 0 where
-  pub more : List ClientStep
-  pub parts : all ≡ steps ++ more
-  pub each : All IsStep more
-  pub spelled : map spelling more ≡ rest
+-- the rows go on from these, with others that spell the rest of the lines
+pub record GoesOn (clients : ℕ) (rows : List Row) (rest : List (List ℕ)) (all : List Row) : Type 0 where
+  pub more : List Row
+  pub parts : all ≡ rows ++ more
+  pub each : All (IsRow clients) more
+  pub spelled : map row_text more ≡ rest
 
--- these steps were read of these lines, the rest is left, and whatever the lines spell goes on from these steps
-pub record HasRead (lines : List (List ℕ)) (shape : Shape) (steps : List ClientStep) (rest : List (List ℕ)) : Type 0 where
-  pub spelled : lines ≡ map spelling steps ++ rest
-  pub each : All IsStep steps
-  pub reaches : Reaches shape steps
-  pub only : (all : List ClientStep) → All IsStep all → map spelling all ≡ lines → GoesOn steps rest all
+-- these rows were read of these lines, the rest is left, and whatever the lines spell goes on from these
+pub record Reads (clients : ℕ) (lines : List (List ℕ)) (reading : Reading) (rest : List (List ℕ)) : Type 0 where
+  pub rows : List Row
+  pub spelled : lines ≡ map row_text rows ++ rest
+  pub each : All (IsRow clients) rows
+  pub order : Each MayFollow rows
+  pub read : HasRead rows reading
+  pub only : (all : List Row) → All (IsRow clients) all → map row_text all ≡ lines → GoesOn clients rows rest all
 
--- what goes on over a line goes on with the one step that it spells
-step_on : (steps : List ClientStep) (line : List ℕ) (rest : List (List ℕ)) (found : Option ClientStep) (all : List ClientStep) → IsOnly line found → GoesOn steps (line ∷ rest) all → (step : ClientStep) × (found ≡ Some step) × GoesOn (steps ++ step ∷ []) rest all
-step_on steps line rest found all only h = over h.more h.parts h.each h.spelled
+-- the element behind a front, and what stands before it
+seam : {X : Type 0} (xs : List X) (x : X) (ys : List X) → slice_get (xs ++ x ∷ ys) (length xs) ≡ Some x
+seam [] x ys = refl
+seam (z ∷ xs) x ys = seam xs x ys
+
+each_at : {X : Type 0} (P : List X → X → Type 0) (xs : List X) (x : X) (ys : List X) → Each P (xs ++ x ∷ ys) → P xs x
+each_at P xs x ys each = subst (λ before. P before x) (take-append_seam xs (x ∷ ys)) (each.by (length xs) x (seam xs x ys))
+
+-- at first no line was read
+pub reads_none : (clients : ℕ) (lines : List (List ℕ)) (reading : Reading) → HasRead [] reading → Reads clients lines reading lines
+reads_none clients lines reading none = record {
+  rows = [];
+  spelled = refl;
+  each = All-nil (IsRow clients);
+  order = each_none MayFollow;
+  read = none;
+  only = λ all each e. record { more = all; parts = refl; each = each; spelled = e };
+}
+
+-- what goes on over a line goes on with the one row that it spells
+row_on : (clients : ℕ) (rows : List Row) (line : List ℕ) (rest : List (List ℕ)) (found : Option Row) (all : List Row) → IsOnly clients line found → GoesOn clients rows (line ∷ rest) all → (row : Row) × (found ≡ Some row) × GoesOn clients (rows ++ row ∷ []) rest all
+row_on clients rows line rest found all only h = over h.more h.parts h.each h.spelled
   where
-    over : (more : List ClientStep) → all ≡ steps ++ more → All IsStep more → map spelling more ≡ line ∷ rest → (step : ClientStep) × (found ≡ Some step) × GoesOn (steps ++ step ∷ []) rest all
+    over : (more : List Row) → all ≡ rows ++ more → All (IsRow clients) more → map row_text more ≡ line ∷ rest → (row : Row) × (found ≡ Some row) × GoesOn clients (rows ++ row ∷ []) rest all
     over [] parts each e = absurd (cc)
-    over (step ∷ more) parts each e = (
-      step,
-      only step (All-head IsStep step more each) (let first : spelling step ≡ line = cc in first),
+    over (row ∷ more) parts each e = (
+      row,
+      only row (All-head (IsRow clients) row more each) (let first : row_text row ≡ line = cc in first),
       record {
         more = more;
-        parts = parts ∙ sym (append_assoc steps (step ∷ []) more);
-        each = All-tail IsStep step more each;
+        parts = parts ∙ sym (append_assoc rows (row ∷ []) more);
+        each = All-tail (IsRow clients) row more each;
         spelled = cc;
       },
     )
 
-pub read_more : (lines : List (List ℕ)) (shape next : Shape) (steps : List ClientStep) (line : List ℕ) (left rest : List (List ℕ)) (step : ClientStep) → left ≡ line ∷ rest → IsStep step → spelling step ≡ line → IsOnly line (Some step) → ((before : List ClientStep) → Reaches shape before → Reaches next (before ++ step ∷ [])) → HasRead lines shape steps left → HasRead lines next (steps ++ step ∷ []) rest
-read_more lines shape next steps line left rest step cut is spelled only goes h = record {
-  spelled = h.spelled ∙ (ap (λ ls. map spelling steps ++ ls) (cut ∙ ap (λ l. l ∷ rest) (sym spelled)) ∙ (sym (append_assoc (map spelling steps) (spelling step ∷ []) rest) ∙ ap (λ ls. ls ++ rest) (sym (map_push spelling steps step))));
-  each = All-push IsStep steps step h.each is;
-  reaches = goes steps h.reaches;
-  only = λ all each e.
-      let on = step_on steps line rest (Some step) all only (subst (λ ls. GoesOn steps ls all) cut (h.only all each e)) in
-      let same : step ≡ on.0 = (let found = on.1 in cc) in
-      subst (λ s. GoesOn (steps ++ s ∷ []) rest all) (sym same) on.2;
-}
+-- one line more is read
+pub read_more : (clients : ℕ) (lines : List (List ℕ)) (old new : Reading) (line : List ℕ) (left rest : List (List ℕ)) (row : Row) → left ≡ line ∷ rest → IsRow clients row → row_text row ≡ line → IsOnly clients line (Some row) → ((rows : List Row) → HasRead rows old → MayFollow rows row × HasRead (rows ++ row ∷ []) new) → Reads clients lines old left → Reads clients lines new rest
+read_more clients lines old new line left rest row cut is spelled only takes h =
+    let took = takes h.rows h.read in
+    record {
+      rows = h.rows ++ row ∷ [];
+      spelled = h.spelled ∙ (ap (λ ls. map row_text h.rows ++ ls) (cut ∙ ap (λ l. l ∷ rest) (sym spelled)) ∙ (sym (append_assoc (map row_text h.rows) (row_text row ∷ []) rest) ∙ ap (λ ls. ls ++ rest) (sym (map_push row_text h.rows row))));
+      each = All-push (IsRow clients) h.rows row h.each is;
+      order = each_more MayFollow h.rows row h.order took.0;
+      read = took.1;
+      only = λ all each e.
+          let on = row_on clients h.rows line rest (Some row) all only (subst (λ ls. GoesOn clients h.rows ls all) cut (h.only all each e)) in
+          let same : row ≡ on.0 = (let found = on.1 in cc) in
+          subst (λ s. GoesOn clients (h.rows ++ s ∷ []) rest all) (sym same) on.2;
+    }
 
--- the lines are no steps where one of them spells none
-pub line_refused : (lines : List (List ℕ)) (shape : Shape) (steps : List ClientStep) (line : List ℕ) (left rest : List (List ℕ)) → left ≡ line ∷ rest → IsOnly line None → HasRead lines shape steps left → (all : List ClientStep) → AreSteps lines all → ⊥
-line_refused lines shape steps line left rest cut only h all are =
-    let on = step_on steps line rest None all only (subst (λ ls. GoesOn steps ls all) cut (h.only all are.each (sym are.spelled))) in
+-- the lines are no rows where one of them spells none
+pub line_refused : (clients : ℕ) (lines : List (List ℕ)) (reading : Reading) (line : List ℕ) (left rest : List (List ℕ)) → left ≡ line ∷ rest → IsOnly clients line None → Reads clients lines reading left → (all : List Row) → AreRows clients lines all → ⊥
+line_refused clients lines reading line left rest cut only h all are =
+    let on = row_on clients h.rows line rest None all only (subst (λ ls. GoesOn clients h.rows ls all) cut (h.only all are.each (sym are.spelled))) in
     let found = on.1 in
     absurd (cc)
 
--- nor where a step may not follow
-pub step_refused : (lines : List (List ℕ)) (shape : Shape) (steps : List ClientStep) (line : List ℕ) (left rest : List (List ℕ)) (step : ClientStep) → left ≡ line ∷ rest → IsOnly line (Some step) → ((before more : List ClientStep) → Reaches shape before → IsShape (before ++ step ∷ more) → ⊥) → HasRead lines shape steps left → (all : List ClientStep) → AreSteps lines all → ⊥
-step_refused lines shape steps line left rest step cut only follows h all are =
-    let on = step_on steps line rest (Some step) all only (subst (λ ls. GoesOn steps ls all) cut (h.only all are.each (sym are.spelled))) in
-    let same : step ≡ on.0 = (let found = on.1 in cc) in
-    let parts : all ≡ steps ++ step ∷ on.2.more = on.2.parts ∙ (append_assoc steps (on.0 ∷ []) on.2.more ∙ ap (λ s. steps ++ s ∷ on.2.more) (sym same)) in
-    follows steps on.2.more h.reaches (subst IsShape parts are.shape)
+-- nor where a row may not follow
+pub row_refused : (clients : ℕ) (lines : List (List ℕ)) (reading : Reading) (line : List ℕ) (left rest : List (List ℕ)) (row : Row) → left ≡ line ∷ rest → IsOnly clients line (Some row) → ((rows : List Row) → HasRead rows reading → MayFollow rows row → ⊥) → Reads clients lines reading left → (all : List Row) → AreRows clients lines all → ⊥
+row_refused clients lines reading line left rest row cut only follows h all are =
+    let on = row_on clients h.rows line rest (Some row) all only (subst (λ ls. GoesOn clients h.rows ls all) cut (h.only all are.each (sym are.spelled))) in
+    let same : row ≡ on.0 = (let found = on.1 in cc) in
+    let parts : all ≡ h.rows ++ row ∷ on.2.more = on.2.parts ∙ (append_assoc h.rows (on.0 ∷ []) on.2.more ∙ ap (λ s. h.rows ++ s ∷ on.2.more) (sym same)) in
+    follows h.rows h.read (each_at MayFollow h.rows row on.2.more (subst (Each MayFollow) parts are.order))
 
--- where a second line is not the one wanted, the first two are not
-pub second_refused : {T : Type 0} (found : Option T) (first second : List ℕ) (lines rest : List (List ℕ)) → lines ≡ first ∷ rest → IfNone found ((more : List (List ℕ)) → rest ≡ second ∷ more → ⊥) → IfNone found ((more : List (List ℕ)) → lines ≡ first ∷ second ∷ more → ⊥)
-second_refused (Some x) first second lines rest cut h = tt
-second_refused None first second lines rest cut h = λ more e. h more (ap (drop 1) (sym cut ∙ e))
+-- all lines were read
+pub read_all : (clients : ℕ) (lines : List (List ℕ)) (reading : Reading) (left : List (List ℕ)) → left ≡ [] → Reads clients lines reading left → (rows : List Row) × HasRead rows reading × AreRows clients lines rows
+read_all clients lines reading left none h = (h.rows, h.read, record { spelled = h.spelled ∙ (ap (λ ls. map row_text h.rows ++ ls) none ∙ append-nil (map row_text h.rows)); each = h.each; order = h.order })
+
+-- ---- the first two lines
+
+-- where the second line says no number of clients, the first two do not
+pub clients_refused : {T : Type 0} (found : Option T) (first : List ℕ) (lines rest : List (List ℕ)) → lines ≡ first ∷ rest → IfNone found ((n : ℕ) (more : List (List ℕ)) → AreClients n → rest ≡ (codes "clients " ++ decimal n) ∷ more → ⊥) → IfNone found ((n : ℕ) (more : List (List ℕ)) → AreClients n → lines ≡ first ∷ (codes "clients " ++ decimal n) ∷ more → ⊥)
+clients_refused (Some x) first lines rest cut h = tt
+clients_refused None first lines rest cut h = λ n more are e. h n more are (ap (drop 1) (sym cut ∙ e))
+
+-- where it says one, they say that one
+pub clients_only : {T : Type 0} (found : Option T) (Q : T → ℕ → List (List ℕ) → Type 0) (first : List ℕ) (lines rest : List (List ℕ)) → lines ≡ first ∷ rest → IfSome found (λ parts. (n : ℕ) (more : List (List ℕ)) → AreClients n → rest ≡ (codes "clients " ++ decimal n) ∷ more → Q parts n more) → IfSome found (λ parts. (n : ℕ) (more : List (List ℕ)) → AreClients n → lines ≡ first ∷ (codes "clients " ++ decimal n) ∷ more → Q parts n more)
+clients_only None Q first lines rest cut h = tt
+clients_only (Some x) Q first lines rest cut h = λ n more are e. h n more are (ap (drop 1) (sym cut ∙ e))

@@ -1,9 +1,11 @@
 -- The parts of a line, and the changes that it spells.
-use Rattle.std.proofs.Common.{◌≡◌, ◌≢◌, ℕ, List, [], ◌∷◌, ◌++◌, Option, Some, get_or, drop, refl, ap, sym, ◌∙◌, inl, inr, arith, lit<}
+use Rattle.std.proofs.Common.{◌≡◌, ◌≢◌, ◌≤◌, ◌<◌, ◌⊎◌, length, ℕ, List, [], ◌∷◌, ◌++◌, Option, Some, get_or, refl, ap, sym, ◌∙◌, inl, inr, arith, lit<}
 use Rattle.std.specs.Prelude.{Bool, true, not, ◌&&◌, ◌==◌, All, codes, decimal}
-use Rattle.std.proofs.lemmas.Fmt.{decimal_digit}
+use Rattle.std.proofs.lemmas.Fmt.{decimal_digit, decimal_nonempty, digits_decimal}
+use Rattle.std.specs.Int.{IsInRange}
+use Rattle.std.proofs.lemmas.Str.Parse.{IsDigitsTest, numerals_by_value}
 use Rattle.std.proofs.lemmas.Bool.{and_parts}
-use Rattle.std.proofs.lemmas.List.Elements.{All-weaker, All-append, All-cons, All-nil}
+use Rattle.std.proofs.lemmas.List.Elements.{All-weaker, All-append, All-cons, All-nil, All-head, All-tail}
 use Rattle.ids_core.specs.Name.{IsName, IsNameByte}
 use Rattle.ids_core.specs.declared.object.ObjectId.{ObjectId}
 use Rattle.ids_core.specs.declared.object.Sort.{Sort}
@@ -11,8 +13,8 @@ use Rattle.ids_core.specs.declared.object.Sort.TheVariants.{Counter, Register, S
 use Rattle.dc_talk.specs.declared.session.Change.{Change as ChangeOf}
 use Rattle.dc_talk.specs.declared.session.Change.TheVariants.{Inc, Write, Add, Remove, Put, Erase}
 use Rattle.script_text.specs.declared.steps.ClientStep.{ClientStep}
-use Rattle.script_text.specs.declared.steps.ClientStep.TheVariants.{Connect, Begin, Change, Read, Commit, Push, Refresh}
-use Rattle.script_text.specs.Steps.{mark_of, object_text, change_word, change_text, change_line, spelling, IsSound, IsStep}
+use Rattle.script_text.specs.declared.steps.ClientStep.TheVariants.{Connect, Begin, Change, Read, Commit, Abort, Push, Flush, Refresh}
+use Rattle.script_text.specs.Steps.{mark_of, object_text, change_word, change_text, change_line, does_text, IsSound, IsStep}
 use Rattle.script_text.proofs.Cuts.{one_split, no_split}
 
 -- no space is among the bytes
@@ -91,15 +93,45 @@ put_cut change said key word cut whole is put e =
     let same = one_split 32 p.key key p.word word (name_plain p.key p.key_name) whole (p.parts ∙ cut) in
     (p, same.0, same.1)
 
-pub one_connect : (text : List ℕ) → text ≡ codes "c1 connect 1" → codes "c1 connect " ++ decimal 1 ≡ text
-one_connect text e = ap (λ t. codes "c1 connect " ++ t) (decimal_digit 1 (lit< tt)) ∙ sym e
+pub one_connect : (text : List ℕ) → text ≡ codes "connect 1" → codes "connect " ++ decimal 1 ≡ text
+one_connect text e = ap (λ t. codes "connect " ++ t) (decimal_digit 1 (lit< tt)) ∙ sym e
 
--- a line that is none of the others is a change, which is found
-pub change_left : (step : ClientStep) (text rest : List ℕ) (found : Option ClientStep) → IsStep step → spelling step ≡ text → text ≡ codes "c1 " ++ rest → text ≢ codes "c1 connect 1" → text ≢ codes "c1 begin" → text ≢ codes "c1 commit" → text ≢ codes "c1 push" → text ≢ codes "c1 refresh" → ((object : List ℕ) → codes "c1 read " ++ object ≢ text) → ((object : ObjectId) (change : ChangeOf) → IsStep (Change object change) → change_line object change ≡ rest → found ≡ Some (Change object change)) → found ≡ Some step
-change_left (Connect centre) text rest found is e cut connect begin commit push refresh read change = absurd (connect (sym e ∙ (ap (λ n. codes "c1 connect " ++ decimal n) is ∙ one_connect (codes "c1 connect 1") refl)))
-change_left Begin text rest found is e cut connect begin commit push refresh read change = absurd (begin (sym e))
-change_left (Change object made) text rest found is e cut connect begin commit push refresh read change = change object made is (ap (drop 3) (e ∙ cut))
-change_left (Read object) text rest found is e cut connect begin commit push refresh read change = absurd (read (object_text object) e)
-change_left Commit text rest found is e cut connect begin commit push refresh read change = absurd (commit (sym e))
-change_left Push text rest found is e cut connect begin commit push refresh read change = absurd (push (sym e))
-change_left Refresh text rest found is e cut connect begin commit push refresh read change = absurd (refresh (sym e))
+-- what is none of the others is a change, which is found
+pub change_left : (step : ClientStep) (text : List ℕ) (found : Option ClientStep) → IsStep step → does_text step ≡ text → text ≢ codes "connect 1" → text ≢ codes "begin" → text ≢ codes "commit" → text ≢ codes "abort" → text ≢ codes "flush" → text ≢ codes "push" → text ≢ codes "refresh" → ((object : List ℕ) → codes "read " ++ object ≢ text) → ((object : ObjectId) (change : ChangeOf) → IsStep (Change object change) → change_line object change ≡ text → found ≡ Some (Change object change)) → found ≡ Some step
+change_left (Connect centre) text found is e connect begin commit abort flush push refresh read change = absurd (connect (sym e ∙ (ap (λ n. codes "connect " ++ decimal n) is ∙ one_connect (codes "connect 1") refl)))
+change_left Begin text found is e connect begin commit abort flush push refresh read change = absurd (begin (sym e))
+change_left (Change object made) text found is e connect begin commit abort flush push refresh read change = change object made is e
+change_left (Read object) text found is e connect begin commit abort flush push refresh read change = absurd (read (object_text object) e)
+change_left Commit text found is e connect begin commit abort flush push refresh read change = absurd (commit (sym e))
+change_left Abort text found is e connect begin commit abort flush push refresh read change = absurd (abort (sym e))
+change_left Push text found is e connect begin commit abort flush push refresh read change = absurd (push (sym e))
+change_left Flush text found is e connect begin commit abort flush push refresh read change = absurd (flush (sym e))
+change_left Refresh text found is e connect begin commit abort flush push refresh read change = absurd (refresh (sym e))
+
+-- ---- numbers
+
+-- a digit
+abbrev IsDigit : ℕ → Type 0
+IsDigit b = IsInRange 48 57 b
+
+digits_test : IsDigitsTest (All IsDigit)
+digits_test = record {
+  empty = All-nil IsDigit;
+  parts = λ c cs all. (All-head IsDigit c cs all, All-tail IsDigit c cs all);
+  more = λ c cs one all. All-cons IsDigit c cs one all;
+}
+
+-- a count is printed in digits
+count_digits : (n : ℕ) → n ≤ 1000000 → All IsDigit (decimal n)
+count_digits n few = digits_decimal (numerals_by_value (All IsDigit) digits_test) n (omega arith)
+
+pub count_plain : (n : ℕ) → n ≤ 1000000 → IsPlain (decimal n)
+count_plain n few = All-weaker IsDigit (λ x. x ≢ 32) (λ x d. λ same. omega (arith, d.0, same)) (decimal n) (count_digits n few)
+
+-- it begins with no other byte
+pub count_front : (n b : ℕ) (rest more : List ℕ) → n ≤ 1000000 → b < 48 ⊎ 57 < b → decimal n ++ rest ≢ b ∷ more
+count_front n b rest more few out e = go (decimal n) (count_digits n few) (decimal_nonempty n (omega arith)) e
+  where
+    go : (bytes : List ℕ) → All IsDigit bytes → 0 < length bytes → bytes ++ rest ≢ b ∷ more
+    go [] all some e = omega (arith, some)
+    go (d ∷ ds) all some e = let digit = All-head IsDigit d ds all in let same : d ≡ b = ap first e in elim out [ inl low ↦ omega (arith, digit.0, same, low) | inr high ↦ omega (arith, digit.1, same, high) ]

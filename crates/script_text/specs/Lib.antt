@@ -2,7 +2,7 @@ pub mod Limits
 pub mod LineCounts
 pub mod Lines
 pub mod Steps
-pub mod Shapes
-pub mod Reaches
+pub mod Rows
+pub mod Readings
 pub mod Scripts
 pub mod Deeds

@@ -1,30 +1,39 @@
--- Which bytes are a script, and of which steps.
-use Rattle.std.specs.Prelude.{◌≡◌, ℕ, List, [], ◌∷◌, ◌++◌, All, map, codes}
+-- Which bytes are a script, and of which settings and steps.
+use Rattle.std.specs.Prelude.{◌≡◌, ℕ, List, [], ◌∷◌, ◌++◌, All, map, codes, decimal}
+use Rattle.std.specs.Option.{unwrap_or}
+use Rattle.list_core.specs.Moments.{Each}
 use Rattle.script_text.specs.Limits.{PassesLimits}
 use Rattle.script_text.specs.Lines.{lines_of}
-use Rattle.script_text.specs.Steps.{spelling, IsStep}
-use Rattle.script_text.specs.Shapes.{IsShape}
-use Rattle.script_text.specs.declared.steps.ClientStep.{ClientStep}
+use Rattle.script_text.specs.Steps.{IsCount}
+use Rattle.script_text.specs.Rows.{row_text, IsRow, MayFollow, cache_in, limit_in, steps_in}
+use Rattle.script_text.specs.declared.row.Row.{Row}
 use Rattle.script_text.specs.declared.script.Script.{Script}
 
--- the lines that a script begins with
-abbrev pub header : List (List ℕ)
-header = codes "centres 1 k 1" ∷ codes "clients 1" ∷ []
+-- the lines that a script of so many clients begins with
+abbrev pub header : ℕ → List (List ℕ)
+header clients = codes "centres 1 k 1" ∷ (codes "clients " ++ decimal clients) ∷ []
 
--- these lines are those of these steps, which stand in their order
-pub record AreSteps (lines : List (List ℕ)) (steps : List ClientStep) : Type 0 where
-  pub spelled : lines ≡ map spelling steps
-  pub each : All IsStep steps
-  pub shape : IsShape steps
+-- a number of clients
+abbrev pub AreClients : ℕ → Type 0
+AreClients clients = IsCount 1024 clients
+
+-- these lines, behind the first two of a script of so many clients, are these rows, of which each may
+-- stand where it does
+pub record AreRows (clients : ℕ) (lines : List (List ℕ)) (rows : List Row) : Type 0 where
+  pub spelled : lines ≡ map row_text rows
+  pub each : All (IsRow clients) rows
+  pub order : Each MayFollow rows
 
 -- these bytes are this script
 pub record IsScript (bytes : List ℕ) (script : Script) : Type 0 where
-  pub lines : lines_of bytes ≡ header ++ map spelling script.steps
-  pub each : All IsStep script.steps
-  pub shape : IsShape script.steps
-  pub limits : PassesLimits bytes → ⊥
   pub n : script.n ≡ 1
   pub k : script.k ≡ 1
-  pub clients : script.clients ≡ 1
-  pub cache : script.cache ≡ 1024
-  pub limit : script.limit ≡ 1000000
+  pub clients : AreClients script.clients
+  pub rows : List Row
+  pub lines : lines_of bytes ≡ header script.clients ++ map row_text rows
+  pub each : All (IsRow script.clients) rows
+  pub order : Each MayFollow rows
+  pub cache : script.cache ≡ unwrap_or (cache_in rows) 1024
+  pub limit : script.limit ≡ unwrap_or (limit_in rows) 1000000
+  pub steps : script.steps ≡ steps_in rows
+  pub limits : PassesLimits bytes → ⊥

@@ -1,5 +1,5 @@
 -- The steps of a script and their one spelling.
-use Rattle.std.specs.Prelude.{◌≡◌, ℕ, ℤ, pos, negsuc, ◌≤ℤ◌, List, ◌∷◌, ◌++◌, codes, decimal}
+use Rattle.std.specs.Prelude.{◌≡◌, ◌≤◌, ℕ, ℤ, pos, negsuc, ◌≤ℤ◌, List, ◌∷◌, ◌++◌, codes, decimal}
 use Rattle.std.specs.Fmt.{signed_decimal}
 use Rattle.ids_core.specs.Name.{IsName}
 use Rattle.ids_core.specs.declared.object.ObjectId.{ObjectId}
@@ -9,7 +9,8 @@ use Rattle.dc_talk.specs.declared.session.Change.{Change as ChangeOf}
 use Rattle.dc_talk.specs.declared.session.Change.TheVariants.{Inc, Write, Add, Remove, Put, Erase}
 use Rattle.dc_talk.specs.Calls.{kind_of}
 use Rattle.script_text.specs.declared.steps.ClientStep.{ClientStep}
-use Rattle.script_text.specs.declared.steps.ClientStep.TheVariants.{Connect, Begin, Change, Read, Commit, Push, Refresh}
+use Rattle.script_text.specs.declared.steps.ClientStep.TheVariants.{Connect, Begin, Change, Read, Commit, Abort, Push, Flush, Refresh}
+use Rattle.script_text.specs.declared.steps.Step.{Step}
 
 -- what stands before the name of an object of this sort
 abbrev pub mark_of : Sort → List ℕ
@@ -44,15 +45,21 @@ change_text (Erase key) = key
 abbrev pub change_line : ObjectId → ChangeOf → List ℕ
 change_line object change = change_word change ++ 32 ∷ (object_text object ++ 32 ∷ change_text change)
 
--- the line of a step, made by client 1
-abbrev pub spelling : ClientStep → List ℕ
-spelling (Connect centre) = codes "c1 connect " ++ decimal centre
-spelling Begin = codes "c1 begin"
-spelling (Change object change) = codes "c1 " ++ change_line object change
-spelling (Read object) = codes "c1 read " ++ object_text object
-spelling Commit = codes "c1 commit"
-spelling Push = codes "c1 push"
-spelling Refresh = codes "c1 refresh"
+-- what a client does, in words
+abbrev pub does_text : ClientStep → List ℕ
+does_text (Connect centre) = codes "connect " ++ decimal centre
+does_text Begin = codes "begin"
+does_text (Change object change) = change_line object change
+does_text (Read object) = codes "read " ++ object_text object
+does_text Commit = codes "commit"
+does_text Abort = codes "abort"
+does_text Push = codes "push"
+does_text Flush = codes "flush"
+does_text Refresh = codes "refresh"
+
+-- the line of a step: the client, and what it does
+abbrev pub spelling : Step → List ℕ
+spelling step = codes "c" ++ (decimal step.client ++ 32 ∷ does_text step.does)
 
 -- from -10^12 to 10^12
 abbrev pub IsDelta : ℤ → Type 0
@@ -67,13 +74,24 @@ IsSound (Remove word) = IsName word
 IsSound (Put key word) = IsName key × IsName word
 IsSound (Erase key) = IsName key
 
--- a step that a script may hold: its centre is the one that there is, its object has a name, and its
--- change is sound and one of the object's sort
+-- what a client may do in a script: its centre is the one that there is, its object has a name, and
+-- its change is sound and one of the object's sort
 abbrev pub IsStep : ClientStep → Type 0
 IsStep (Connect centre) = centre ≡ 1
 IsStep Begin = Unit {0}
 IsStep (Change object change) = (object.sort ≡ kind_of change) × IsName object.name × IsSound change
 IsStep (Read object) = IsName object.name
 IsStep Commit = Unit {0}
+IsStep Abort = Unit {0}
 IsStep Push = Unit {0}
+IsStep Flush = Unit {0}
 IsStep Refresh = Unit {0}
+
+-- from 1 to a most
+abbrev pub IsCount : ℕ → ℕ → Type 0
+IsCount most n = (1 ≤ n) × (n ≤ most)
+
+-- a step of one of so many clients
+pub record IsStepOf (clients : ℕ) (step : Step) : Type 0 where
+  pub client : IsCount clients step.client
+  pub does : IsStep step.does

@@ -1,7 +1,7 @@
-// Deltas in their one spelling.
-ghost use Rattle.std.specs.Prelude.{◌≡◌, ◌↔◌, ℤ, Some, IsTrue, IfSome};
+// Deltas and counts in their one spelling.
+ghost use Rattle.std.specs.Prelude.{◌≡◌, ◌≤◌, ◌↔◌, ℕ, ℤ, Some, IsTrue, IfSome, decimal};
 ghost use Rattle.std.specs.Fmt.{signed_decimal};
-ghost use Rattle.script_text.specs.Steps.{IsDelta};
+ghost use Rattle.script_text.specs.Steps.{IsCount, IsDelta};
 
 use itoa::Buffer;
 use std::str;
@@ -41,4 +41,33 @@ fn is_delta(delta: i64) -> bool
     ensures { IsTrue result ↔ IsDelta delta }
 {
     -MAX_DELTA <= delta && delta <= MAX_DELTA
+}
+
+/// The number from 1 to a most that a text spells, as it is printed.
+pub fn read_count(text: &[u8], most: u32) -> Option<u32>
+    requires { most ≤ 1000000 }
+    ensures taken { IfSome result (λ n. IsCount most n × (decimal n ≡ text.now)) }
+    ensures exact { (n : ℕ) → IsCount most n → decimal n ≡ text.now → result ≡ Some n }
+{
+    match parsed_count(text) {
+        Some(count) if 1 <= count && count <= most && spells_count(count, text) => Some(count),
+        _ => None,
+    }
+}
+
+// The number that a text stands for. It may have other spellings.
+fn parsed_count(text: &[u8]) -> Option<u32>
+    ensures { (n : ℕ) → n ≤ 1000000 → decimal n ≡ text.now → result ≡ Some n }
+{
+    match str::from_utf8(text) {
+        Ok(word) => word.parse().ok(),
+        Err(_) => None,
+    }
+}
+
+fn spells_count(count: u32, text: &[u8]) -> bool
+    ensures { IsTrue result ↔ (decimal count ≡ text.now) }
+{
+    let mut buffer = Buffer::new();
+    buffer.format(count).as_bytes() == text
 }

@@ -1,19 +1,32 @@
 // Reads a script.
-ghost use Rattle.std.specs.Prelude.{◌≡◌, ◌≤◌, length, ◌∷◌, ◌++◌, ◌↔◌, List, ℕ, Err, IsTrue, IfOk, IfSome, IfNone};
+ghost use Rattle.std.specs.Prelude.{◌≡◌, ◌≤◌, length, ◌∷◌, ◌++◌, ◌↔◌, All, List, ℕ, Err, IsTrue, IfOk, IfSome, IfNone, Some, codes, decimal};
+ghost use Rattle.std.specs.Option.{unwrap_or};
 ghost use Rattle.script_text.specs.declared.script.ScriptFault.TheVariants.{NoMemory as no_memory};
 ghost use Rattle.script_text.specs.declared.script.Script.{Script as Told};
-ghost use Rattle.script_text.specs.declared.steps.ClientStep.{ClientStep as Step};
+ghost use Rattle.script_text.specs.declared.row.Row.{Row as RowTold};
 ghost use Rattle.script_text.specs.Limits.{PassesLimits};
 ghost use Rattle.script_text.specs.Lines.{lines_of};
-ghost use Rattle.script_text.specs.Scripts.{AreSteps, IsScript, header};
+ghost use Rattle.script_text.specs.Readings.{HasRead};
+ghost use Rattle.script_text.specs.Steps.{IsCount, IsStepOf};
+ghost use Rattle.script_text.specs.Scripts.{AreClients, AreRows, IsScript, header};
 
-use crate::cut::{at_line, same_bytes};
+use crate::cut::{at_line, behind, same_bytes};
 use crate::input::Input;
-use crate::line::read_line;
-use crate::shape::Shape;
+use crate::number::read_count;
+use crate::reading::Reading;
+use crate::row::read_row;
 use crate::steps::Steps;
 use ids_core::NoMemory;
 use std::alloc::Global;
+
+/// The most clients.
+const MAX_CLIENTS: u32 = 1_024;
+
+/// How many objects a client's cache holds where no line says it.
+const CACHE: u32 = 1_024;
+
+/// How many transactions the centre stamps where no line says it.
+const LIMIT: u32 = 1_000_000;
 
 /// A script: its settings and its steps.
 #[derive(Debug, Drop)]
@@ -54,34 +67,75 @@ pub fn parse(alloc: Global, input: &Input) -> Result<Script, ScriptFault>
     requires { IsTrue input.now.past_limits ↔ PassesLimits input.now.bytes.items }
     ensures taken { IfOk result (λ script. IsScript input.now.bytes.items script) }
     ensures few { IfOk result (λ script. length script.steps ≤ 200000) }
+    ensures steps { IfOk result (λ script. All (IsStepOf script.clients) script.steps) }
+    ensures cache { IfOk result (λ script. IsCount 100000 script.cache) }
+    ensures limit { IfOk result (λ script. IsCount 1000000 script.limit) }
     ensures refused { result ≡ Err ScriptFault.Refused → (script : Told) → IsScript input.now.bytes.items script → ⊥ }
 {
     if input.past_limits {
         return Err(ScriptFault::Refused);
     }
     match behind_header(input.bytes.as_slice()) {
-        Some(rest) => {
-            let steps = parse_steps(alloc, rest)?;
-            Ok(Script {
-                n: 1,
-                k: 1,
-                clients: 1,
-                cache: 1_024,
-                limit: 1_000_000,
-                steps,
-            })
+        Some((clients, rest)) => {
+            let reading = read_rows(alloc, clients, rest)?;
+            Ok(script_of(clients, reading))
         }
         None => Err(ScriptFault::Refused),
     }
 }
 
-// The lines behind those of the header.
-fn behind_header(text: &[u8]) -> Option<&[u8]>
-    ensures taken { IfSome result (λ rest. lines_of text.now ≡ header ++ lines_of rest.now) }
-    ensures refused { IfNone result ((lines : List (List ℕ)) → lines_of text.now ≡ header ++ lines → ⊥) }
+// The script of so many clients of which this was read.
+fn script_of(clients: u32, reading: Reading) -> Script
+    ensures n { (result.n ≡ 1) × (result.k ≡ 1) }
+    ensures clients { result.clients ≡ clients }
+    ensures cache { result.cache ≡ unwrap_or reading.cache 1024 }
+    ensures limit { result.limit ≡ unwrap_or reading.limit 1000000 }
+    ensures steps { result.steps ≡ reading.steps }
+{
+    Script {
+        n: 1,
+        k: 1,
+        clients,
+        cache: reading.cache.unwrap_or(CACHE),
+        limit: u64::from(reading.limit.unwrap_or(LIMIT)),
+        steps: reading.steps,
+    }
+}
+
+// The number of clients that the first two lines say, and the lines behind them.
+fn behind_header(text: &[u8]) -> Option<(u32, &[u8])>
+    ensures taken { IfSome result (λ parts. AreClients parts.0 × (lines_of text.now ≡ header parts.0 ++ lines_of parts.1.now)) }
+    ensures only { IfSome result (λ parts. (clients : ℕ) (lines : List (List ℕ)) → AreClients clients → lines_of text.now ≡ header clients ++ lines → (clients ≡ parts.0) × (lines ≡ lines_of parts.1.now)) }
+    ensures refused { IfNone result ((clients : ℕ) (lines : List (List ℕ)) → AreClients clients → lines_of text.now ≡ header clients ++ lines → ⊥) }
 {
     match behind_line(text, b"centres 1 k 1") {
-        Some(rest) => behind_line(rest, b"clients 1"),
+        Some(rest) => behind_clients(rest),
+        None => None,
+    }
+}
+
+// The number of clients that the first line says, and the lines behind it.
+fn behind_clients(text: &[u8]) -> Option<(u32, &[u8])>
+    ensures taken { IfSome result (λ parts. AreClients parts.0 × (lines_of text.now ≡ (codes "clients " ++ decimal parts.0) ∷ lines_of parts.1.now)) }
+    ensures only { IfSome result (λ parts. (clients : ℕ) (lines : List (List ℕ)) → AreClients clients → lines_of text.now ≡ (codes "clients " ++ decimal clients) ∷ lines → (clients ≡ parts.0) × (lines ≡ lines_of parts.1.now)) }
+    ensures refused { IfNone result ((clients : ℕ) (lines : List (List ℕ)) → AreClients clients → lines_of text.now ≡ (codes "clients " ++ decimal clients) ∷ lines → ⊥) }
+{
+    match at_line(text) {
+        Some((line, rest)) => match read_clients(line) {
+            Some(clients) => Some((clients, rest)),
+            None => None,
+        },
+        None => None,
+    }
+}
+
+// The number of clients that a line says.
+fn read_clients(line: &[u8]) -> Option<u32>
+    ensures taken { IfSome result (λ clients. AreClients clients × (codes "clients " ++ decimal clients ≡ line.now)) }
+    ensures exact { (clients : ℕ) → AreClients clients → codes "clients " ++ decimal clients ≡ line.now → result ≡ Some clients }
+{
+    match behind(line, b"clients ") {
+        Some(number) => read_count(number, MAX_CLIENTS),
         None => None,
     }
 }
@@ -103,24 +157,20 @@ fn behind_line<'a>(text: &'a [u8], wanted: &[u8]) -> Option<&'a [u8]>
     }
 }
 
-// The steps that the lines are.
-fn parse_steps(alloc: Global, text: &[u8]) -> Result<Steps, ScriptFault>
-    ensures taken { IfOk result (λ steps. AreSteps (lines_of text.now) steps) }
-    ensures refused { result ≡ Err ScriptFault.Refused → (steps : List Step) → AreSteps (lines_of text.now) steps → ⊥ }
+// What the lines of a script of so many clients say, behind its first two.
+fn read_rows(alloc: Global, clients: u32, text: &[u8]) -> Result<Reading, ScriptFault>
+    requires { clients ≤ 1000000 }
+    ensures taken { IfOk result (λ reading. (rows : List RowTold) × HasRead rows reading × AreRows clients (lines_of text.now) rows) }
+    ensures refused { result ≡ Err ScriptFault.Refused → (rows : List RowTold) → AreRows clients (lines_of text.now) rows → ⊥ }
 {
-    let mut steps = Steps::new(alloc);
-    let mut shape = Shape::Empty;
+    let mut reading = Reading::new(alloc);
     let mut rest = text;
     'lines: while let Some((line, more)) = at_line(rest) {
-        let Some(step) = read_line(line) else {
+        let Some(row) = read_row(clients, line) else {
             return Err(ScriptFault::Refused);
         };
-        let Some(next) = shape.after(&step) else {
-            return Err(ScriptFault::Refused);
-        };
-        steps.push(step)?;
-        shape = next;
+        reading.take(row)?;
         rest = more;
     }
-    Ok(steps)
+    Ok(reading)
 }

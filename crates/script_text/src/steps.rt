@@ -17,25 +17,36 @@ pub enum ClientStep {
     Change { object: ObjectId, change: Change },
     /// Reads an object.
     Read { object: ObjectId },
-    /// Ends the transaction.
+    /// Ends the transaction, and keeps its updates.
     Commit,
+    /// Ends the transaction, and drops its updates.
+    Abort,
     /// Sends the next commit.
     Push,
+    /// Sends commits, one after another, until none is left or one is not taken.
+    Flush,
     /// Takes a new snapshot.
     Refresh,
 }
 
-/// The steps of a script, seen as their list. Each is a section of its own, made by client 1.
+/// A step of a script: a client, counted from 1, and what it does.
+#[derive(Clone, Copy, Debug)]
+pub struct Step {
+    pub client: u32,
+    pub does: ClientStep,
+}
+
+/// The steps of a script, seen as their list. Each is a section of its own.
 #[derive(Debug, Drop)]
 pub struct Steps {
-    items: Vec<ClientStep>,
+    items: Vec<Step>,
 }
 
 impl Model for Steps {
     ghost use Rattle.std.specs.Prelude.{List};
-    ghost use Rattle.script_text.specs.declared.steps.ClientStep.{ClientStep};
+    ghost use Rattle.script_text.specs.declared.steps.Step.{Step};
 
-    ghost Value = { List ClientStep };
+    ghost Value = { List Step };
 
     ghost view = { λ steps. steps.items.items };
 }
@@ -51,21 +62,22 @@ impl Steps {
     }
 
     /// Puts a step behind the others. Nothing changes where memory is refused.
-    pub fn push(&mut self, step: ClientStep) -> Result<(), NoMemory>
+    pub fn push(&mut self, step: Step) -> Result<(), NoMemory>
         ensures ok { OnOk result (self.new ≡ self.old ++ step ∷ []) }
         ensures err { OnErr result (self.new ≡ self.old) }
     {
         // A change is taken apart, since the proof of the push has to name its type.
-        let step = match step {
+        let Step { client, does } = step;
+        let does = match does {
             ClientStep::Change { object, change } => ClientStep::Change { object, change },
             other => other,
         };
-        self.items.push(step)?;
+        self.items.push(Step { client, does })?;
         Ok(())
     }
 
     /// The steps in their order.
-    pub fn as_slice(&self) -> &[ClientStep]
+    pub fn as_slice(&self) -> &[Step]
         ensures { result.now ≡ self.now }
     {
         &self.items

@@ -1,5 +1,5 @@
 -- How a client with its log and the centre's trail grows, deed by deed.
-use Rattle.std.proofs.Common.{◌≡◌, ℕ, Bool, true, false, List, [], ◌∷◌, ◌++◌, Option, Some, None, inl, refl, sym, ap, ◌∙◌, subst, append_assoc, map}
+use Rattle.std.proofs.Common.{◌≡◌, ℕ, Bool, true, false, cond, List, [], ◌∷◌, ◌++◌, Option, Some, None, inl, refl, sym, ap, ◌∙◌, subst, append_assoc, map}
 use Rattle.std.specs.List.{filter_map}
 use Rattle.std.proofs.lemmas.List.{map-append, append-nil}
 use Rattle.std.proofs.lemmas.List.Elements.{filter_map-append}
@@ -10,7 +10,7 @@ use Rattle.dc_talk.specs.declared.session.Call.{Call}
 use Rattle.dc_talk.specs.declared.session.Outcome.{Outcome}
 use Rattle.dc_talk.specs.declared.log.Fate.TheVariants.{Heard}
 use Rattle.dc_talk.specs.declared.log.Deed.{Deed}
-use Rattle.dc_talk.specs.declared.log.Deed.TheVariants.{Did, Asked}
+use Rattle.dc_talk.specs.declared.log.Deed.TheVariants.{Did, Asked, Told}
 use Rattle.dc_talk.specs.declared.log.Note.{Note}
 use Rattle.dc_talk.specs.declared.line.Line.{Line}
 use Rattle.dc_talk.specs.Logs.{Logged}
@@ -18,12 +18,12 @@ use Rattle.dc_talk.specs.Clients.{Client}
 use Rattle.dc_talk.specs.Calls.{Ends, outcome_of}
 use Rattle.dc_talk.specs.Rule.{after, takes, Gives}
 use Rattle.dc_talk.specs.declared.line.Line.TheVariants as line
-use Rattle.script_text.specs.Deeds.{hello_line, fetch_line, push_end, refresh_line}
+use Rattle.script_text.specs.Deeds.{hello_line, fetch_line, push_end, goes_on, refresh_line}
 use Rattle.swift_sim.specs.declared.purpose.Purpose.{Purpose}
-use Rattle.swift_sim.specs.declared.purpose.Purpose.TheVariants.{Connect, Fetch, Push, Refresh}
+use Rattle.swift_sim.specs.declared.purpose.Purpose.TheVariants.{Connect, Fetch, Push, Flush, Refresh}
 use Rattle.swift_sim.specs.Purposes.{told_after}
 use Rattle.dc_centre.specs.Desk.{Keeps}
-use Rattle.run_book.specs.Alone.{entry_of}
+use Rattle.run_book.specs.Together.{entry_of}
 use Rattle.swift_sim.specs.Playing.{Playing, Grows, AllowsAll, marked, noted_all, told_of, after_all, after_exchange, Exchanged, Exchanges}
 
 -- more deeds after deeds
@@ -50,6 +50,15 @@ grows_then a b c ds es first more = record {
   allowed = allows_then a.log.section a.log.step a.client a.log.notes ds es first.allowed
       (subst (λ (s : Client). AllowsAll a.log.section a.log.step s (a.log.notes ++ map (marked a.log.section a.log.step) ds) es) first.client
       (subst (λ (log : Logged). AllowsAll log.section log.step b.client log.notes es) first.log more.allowed));
+}
+
+-- no deeds
+pub grows_none : (p : Playing) → Grows p p []
+grows_none p = record {
+  log = ap (λ notes. record p.log { notes = notes }) (sym (append-nil p.log.notes));
+  client = refl;
+  desk = ap (λ entries. record p.desk { entries = entries }) (sym (append-nil p.desk.entries));
+  allowed = tt;
 }
 
 -- a call of the session with its note
@@ -92,15 +101,21 @@ grows_lines Connect p client i took say = grows_told p (Some (hello_line client 
 grows_lines (Fetch word o) p client i true say = grows_told p None
 grows_lines (Fetch word o) p client i false say = grows_told p (Some (fetch_line client word o say))
 grows_lines (Push number) p client i took say = grows_told p (Some (line.Push client number (push_end say)))
+grows_lines (Flush number) p client i took say = go (goes_on say)
+  where
+    go : (test : Bool) → Grows p (record p { log = noted_all p.log (cond test [] (Told (line.Push client number (push_end say)) ∷ [])) }) (cond test [] (Told (line.Push client number (push_end say)) ∷ []))
+    go true = grows_told p None
+    go false = grows_told p (Some (line.Push client number (push_end say)))
 grows_lines Refresh p client i took say = grows_told p (Some (refresh_line client took say))
 
 -- an exchange is growth by the ask and its line
-pub exchange_grows : (purpose : Purpose) (i : ℕ) (ask : Ask) (p q : Playing) (took : Bool) → Gives p.client i ask → Exchanged purpose i ask p q took → Exchanges purpose i ask p q took
-exchange_grows purpose i ask p q took gives e =
+pub exchange_grows : (purpose : Purpose) (i : ℕ) (ask : Ask) (p q : Playing) (more : Bool) → Gives p.client i ask → Exchanged purpose i ask p q more → Exchanges purpose i ask p q more
+exchange_grows purpose i ask p q more gives e =
     let asked : Playing = after_exchange p i ask e.say in
     let lines : List Deed = told_after purpose p.client.client i (takes p.client i ask e.say) e.say in
     record {
       say = e.say;
+      answered = e.answered;
       grows = subst (λ q. Grows p q (Asked i ask (Heard e.say) ∷ lines)) (sym e.after) (grows_then p asked (record asked { log = noted_all asked.log lines }) (Asked i ask (Heard e.say) ∷ []) lines (grows_exchange p i ask e.say gives) (grows_lines purpose asked p.client.client i (takes p.client i ask e.say) e.say));
       is = e.is;
     }

@@ -1,7 +1,9 @@
-mod Pieces
 pub mod Growing
 pub mod Taking
 pub mod Leaving
+pub mod Flushing
 pub mod Near
-pub mod Lone
+pub mod Seating
+pub mod Sharing
+pub mod Pieces
 pub mod Owing

@@ -1,5 +1,5 @@
 -- A step of the client asks centre 1 alone, and hears each answer.
-use Rattle.std.proofs.Common.{◌≡◌, ℕ, Bool, true, false, cond, List, [], ◌∷◌, ◌++◌, Option, Some, None, sym, subst, map}
+use Rattle.std.proofs.Common.{◌≡◌, ℕ, Bool, true, false, cond, List, [], ◌∷◌, Option, Some, None, inl, inr, sym, subst}
 use Rattle.ids_core.specs.declared.object.ObjectId.{ObjectId}
 use Rattle.tx_core.specs.declared.tx.Tx.{Tx}
 use Rattle.tx_core.specs.declared.tx.Update.{Update}
@@ -16,18 +16,18 @@ use Rattle.dc_talk.specs.declared.session.Outcome.TheVariants.{Fine, Got, Number
 use Rattle.dc_talk.specs.declared.log.Deed.{Deed}
 use Rattle.dc_talk.specs.declared.log.Deed.TheVariants.{Did, Asked}
 use Rattle.dc_talk.specs.declared.log.Fate.TheVariants.{Heard}
-use Rattle.dc_talk.specs.declared.log.Note.{Note}
 use Rattle.dc_talk.specs.declared.line.StepWord.{StepWord}
 use Rattle.dc_talk.specs.declared.line.StepWord.TheVariants.{Read as ReadWord}
 use Rattle.dc_talk.specs.Clients.{Client}
 use Rattle.dc_talk.specs.Calls.{outcome_of, did}
 use Rattle.dc_talk.specs.Rule.{after, heard, takes, taken, sent_through, next_commit, fetch_of}
 use Rattle.script_text.specs.declared.steps.ClientStep.{ClientStep}
-use Rattle.script_text.specs.declared.steps.ClientStep.TheVariants.{Connect, Begin, Change, Read, Commit, Push, Refresh}
+use Rattle.script_text.specs.declared.steps.ClientStep.TheVariants.{Connect, Begin, Change, Read, Commit, Abort, Push, Flush, Refresh}
 use Rattle.script_text.specs.Steps.{IsStep}
-use Rattle.script_text.specs.Deeds.{StepDeeds, FetchesOver, CallDeeds, PushesNext, PushDeeds, RefreshDeeds, after_fetch, calls, word_of, begin_told, call_told, commit_told}
-use Rattle.run_book.specs.Alone.{IsNear, AllNear}
-use Rattle.swift_sim.specs.Playing.{IsNearLink, marked, after_all}
+use Rattle.script_text.specs.Deeds.{StepDeeds, FetchesOver, CallDeeds, PushesNext, PushDeeds, FlushStops, FlushEnds, FlushDeeds, RefreshDeeds, after_fetch, calls, word_of, begin_told, call_told, commit_told, abort_told}
+use Rattle.run_book.specs.Together.{IsNear}
+use Rattle.swift_sim.specs.Playing.{after_all}
+use Rattle.swift_sim.specs.Seating.{IsNearLink}
 
 -- each ask of the deeds is of centre 1, and its answer was heard
 abbrev pub AreNear : List Deed → Type 0
@@ -54,6 +54,10 @@ commit_near client Nothing = (tt, tt)
 commit_near client (Refused NotOpen) = (tt, tt)
 commit_near client (Refused (PendingFull limit)) = (tt, tt)
 commit_near client _ = tt
+
+abort_near : (client : ℕ) (out : Outcome) → AreNear (abort_told client out)
+abort_near client (Refused NotOpen) = (tt, tt)
+abort_near client _ = tt
 
 either_near : (test : Bool) (xs ys : List Deed) → AreNear xs → AreNear ys → AreNear (cond test xs ys)
 either_near true xs ys first second = first
@@ -85,16 +89,6 @@ refresh_near : (s : Client) (l : Option Link) (draft : Option (List Update)) (de
 refresh_near s None draft deeds near are = subst AreNear (sym are) (tt, tt)
 refresh_near s (Some link) (Some updates) deeds near are = subst AreNear (sym are) (tt, tt)
 refresh_near s (Some link) None deeds near refresh = subst AreNear (sym refresh.are) (near, (tt, tt))
-
--- the asks of a step go to centre 1, as the link does
-pub step_near : (s : Client) (step : ClientStep) (deeds : List Deed) → IsStep step → IsNearLink s.link → StepDeeds s step deeds → AreNear deeds
-step_near s (Connect centre) deeds is near hello = subst AreNear (sym hello.are) (is, (tt, tt))
-step_near s Begin deeds is near are = subst AreNear (sym are) (tt, begin_near s.client (outcome_of s BeginCall))
-step_near s (Change o change) deeds is near are = call_near s (word_of change) o (ChangeCall o change) (outcome_of s (ChangeCall o change)) deeds near are
-step_near s (Read o) deeds is near are = call_near s ReadWord o (ReadCall o) (outcome_of s (ReadCall o)) deeds near are
-step_near s Commit deeds is near are = subst AreNear (sym are) (tt, commit_near s.client (outcome_of s CommitCall))
-step_near s Push deeds is near push = push_near s s.link deeds near push
-step_near s Refresh deeds is near refresh = refresh_near s s.link s.draft deeds near refresh
 
 -- ---- the link
 
@@ -137,8 +131,35 @@ pub link_near : (s : Client) (deeds : List Deed) → AreNear deeds → IsNearLin
 link_near s [] all near = near
 link_near s (deed ∷ deeds) all near = link_near (after s deed) deeds all.1 (after_near s deed all.0 near)
 
--- notes of such deeds behind others
-pub notes_near : (notes : List Note) (section step : ℕ) (deeds : List Deed) → AllNear notes → AreNear deeds → AllNear (notes ++ map (marked section step) deeds)
-notes_near [] section step [] old new = tt
-notes_near [] section step (deed ∷ deeds) old new = (new.0, notes_near [] section step deeds tt new.1)
-notes_near (note ∷ notes) section step deeds old new = (old.0, notes_near notes section step deeds old.1 new)
+-- ---- a flush
+
+ends_stop : (s : Client) (i : ℕ) (next : Option Tx) (deeds : List Deed) → i ≡ 1 → FlushStops s i next deeds → AreNear deeds
+ends_stop s i None deeds here are = subst AreNear (sym are) (tt, tt)
+ends_stop s i (Some tx) deeds here stops = subst AreNear (sym stops.are) (here, (tt, tt))
+
+ends_near : (s : Client) (l : Option Link) (deeds : List Deed) → IsNearLink l → FlushEnds s l deeds → AreNear deeds
+ends_near s None deeds near are = subst AreNear (sym are) (tt, tt)
+ends_near s (Some link) deeds near ends = ends_stop s link.centre (next_commit s link) deeds near ends
+
+flush_near : (s : Client) (deeds : List Deed) → IsNearLink s.link → FlushDeeds s deeds → AreNear deeds
+flush_near s [] near flush = absurd flush
+flush_near s (deed ∷ deeds) near (inl ends) = ends_near s s.link (deed ∷ deeds) near ends
+flush_near s (deed ∷ deeds) near (inr more) =
+    let on = more.0 in
+    let there : on.link.centre ≡ 1 = subst IsNearLink on.linked near in
+    let here : IsNear deed = subst IsNear (sym on.is) there in
+    (here, flush_near (after s deed) deeds (after_near s deed here near) more.1)
+
+-- ---- a step
+
+-- the asks of a step go to centre 1, as the link does
+pub step_near : (s : Client) (step : ClientStep) (deeds : List Deed) → IsStep step → IsNearLink s.link → StepDeeds s step deeds → AreNear deeds
+step_near s (Connect centre) deeds is near hello = subst AreNear (sym hello.are) (is, (tt, tt))
+step_near s Begin deeds is near are = subst AreNear (sym are) (tt, begin_near s.client (outcome_of s BeginCall))
+step_near s (Change o change) deeds is near are = call_near s (word_of change) o (ChangeCall o change) (outcome_of s (ChangeCall o change)) deeds near are
+step_near s (Read o) deeds is near are = call_near s ReadWord o (ReadCall o) (outcome_of s (ReadCall o)) deeds near are
+step_near s Commit deeds is near are = subst AreNear (sym are) (tt, commit_near s.client (outcome_of s CommitCall))
+step_near s Abort deeds is near are = subst AreNear (sym are) (tt, abort_near s.client (outcome_of s AbortCall))
+step_near s Flush deeds is near flush = flush_near s deeds near flush
+step_near s Push deeds is near push = push_near s s.link deeds near push
+step_near s Refresh deeds is near refresh = refresh_near s s.link s.draft deeds near refresh

@@ -1,14 +1,7 @@
 -- What is owed for a script that was played, and how a run ends.
-use Rattle.std.proofs.Common.{◌≡◌, ◌≢◌, ◌⊎◌, inl, inr, ◌↔◌, Bool, true, false, IsTrue, ◌++◌, ℕ, ◌+◌, List, [], ◌∷◌, Option, Some, None, IfSome, length, refl, sym, ap, ◌∙◌, subst, arith}
-use Rattle.std.specs.Prelude.{All}
+use Rattle.std.proofs.Common.{◌≡◌, ◌≢◌, ◌⊎◌, inl, inr, ◌↔◌, Bool, true, false, IsTrue, ◌++◌, ℕ, List, [], Option, Some, None, IfSome, refl, sym, ap, ◌∙◌, subst, arith}
 use Rattle.std.proofs.lemmas.List.{append-nil}
-use Rattle.std.proofs.lemmas.List.Elements.{All-nil, All-cons}
-use Rattle.dc_talk.specs.declared.trail.Entry.{Entry}
-use Rattle.dc_talk.specs.Logs.{Logged}
-use Rattle.dc_talk.specs.Clients.{new_client}
-use Rattle.dc_talk.specs.Answers.{History}
 use Rattle.script_text.specs.declared.script.Script.{Script}
-use Rattle.script_text.specs.declared.steps.ClientStep.{ClientStep}
 use Rattle.script_text.specs.Limits.{PassesLimits}
 use Rattle.script_text.specs.Scripts.{IsScript}
 use Rattle.script_text.proofs.LongTexts.{passes_more}
@@ -16,51 +9,16 @@ use Rattle.io_edge.specs.Streams.{puts_back}
 use Rattle.run_book.specs.declared.book.Book.{Book}
 use Rattle.run_book.specs.Fit.{FitsWith}
 use Rattle.run_book.specs.Graphs.{IsCausal, FirstSums}
-use Rattle.run_book.specs.Alone.{IsAlone, IsBookOfOne, idle_log}
-use Rattle.run_book.proofs.AloneFits.{alone_fits}
-use Rattle.run_book.proofs.AloneSteps.{alone_scripted, plays_ascend}
+use Rattle.script_text.specs.Steps.{IsCount}
+use Rattle.run_book.proofs.TogetherFits.{together_fit}
+use Rattle.run_book.proofs.TogetherSteps.{together_scripted}
 use Rattle.run_book.proofs.OneClientReads.{one_client_causal, one_client_first}
-use Rattle.print_text.specs.Text.{text_of, notes_text, IsSilent}
-use Rattle.print_text.proofs.Texts.{text_one_client}
-use Rattle.swift_sim.specs.Playing.{Playing, HasTaken}
-use Rattle.swift_sim.specs.Runs.{IsNothing, IsLoneRun, PlaysInput, EndsSo, IsSomeScript, IsNoScript, Meets, OwesFor, Owes, serial_words}
-
--- logs of workers without notes
-idle_all : All IsSilent (idle_log 3 ∷ idle_log 4 ∷ idle_log 5 ∷ idle_log 6 ∷ [])
-idle_all =
-    All-cons IsSilent (idle_log 3) (idle_log 4 ∷ idle_log 5 ∷ idle_log 6 ∷ []) refl
-    (All-cons IsSilent (idle_log 4) (idle_log 5 ∷ idle_log 6 ∷ []) refl
-    (All-cons IsSilent (idle_log 5) (idle_log 6 ∷ []) refl
-    (All-cons IsSilent (idle_log 6) [] refl (All-nil IsSilent))))
-
--- the text of the book is that of the client's log
-lone_text : (steps : List ClientStep) (limit capacity : ℕ) (log : Logged) (trail : List Entry) (book : Book) → IsAlone limit capacity steps log.notes trail → IsBookOfOne book log trail → text_of book.logs ≡ notes_text log.notes
-lone_text steps limit capacity log trail book alone one =
-    ap text_of one.logs
-    ∙ text_one_client (1 + length steps) (idle_log 1) log (idle_log 3 ∷ idle_log 4 ∷ idle_log 5 ∷ idle_log 6 ∷ []) refl idle_all
-    (plays_ascend (new_client 1 1 capacity) 1 (1 + length steps) steps log.notes (omega arith) alone.plays)
-
--- the trail is a history with the settings of the run
-history_of : (limit capacity : ℕ) (steps : List ClientStep) (p : Playing) (trail : List Entry) → HasTaken limit capacity steps p → History p.desk.me p.desk.n p.desk.k p.desk.limit trail → History 1 1 1 limit trail
-history_of limit capacity steps p trail h history =
-    subst (λ m. History 1 1 1 m trail) h.limit_is
-    (subst (λ k. History 1 1 k p.desk.limit trail) h.k
-    (subst (λ n. History 1 n p.desk.k p.desk.limit trail) h.n
-    (subst (λ me. History me p.desk.n p.desk.k p.desk.limit trail) h.me history)))
-
--- what was taken makes a run of one client alone
-pub lone_run : (limit capacity : ℕ) (steps : List ClientStep) (p : Playing) (trail : List Entry) (log : Logged) (text : List ℕ) (book : Book) → HasTaken limit capacity steps p → trail ≡ p.desk.entries → log ≡ p.log → History p.desk.me p.desk.n p.desk.k p.desk.limit trail → text ≡ notes_text log.notes → IsBookOfOne book log trail → IsLoneRun limit capacity steps book text
-lone_run limit capacity steps p trail log text book h trail_is log_is history text_is one =
-    let taken : IsAlone limit capacity steps p.log.notes p.desk.entries = record { history = history_of limit capacity steps p p.desk.entries h (subst (λ (es : List Entry). History p.desk.me p.desk.n p.desk.k p.desk.limit es) trail_is history); entries = h.entries; follows = h.follows; plays = h.plays; near = h.near } in
-    let alone : IsAlone limit capacity steps log.notes trail = subst (λ (l : Logged). IsAlone limit capacity steps l.notes trail) (sym log_is) (subst (λ (es : List Entry). IsAlone limit capacity steps p.log.notes es) (sym trail_is) taken) in
-    record { log = log; trail = trail; alone = alone; book_is = one; text_is = text_is ∙ sym (lone_text steps limit capacity log trail book alone one) }
+use Rattle.swift_sim.specs.Runs.{IsNothing, IsSharedRun, IsBelievable, HoldsForOne, PlaysInput, EndsSo, IsSomeScript, IsNoScript, Meets, OwesFor, Owes, serial_words}
 
 -- a run of a script's steps plays the script
-pub lone_plays : (bytes : List ℕ) (script : Script) (status : ℕ) (text : List ℕ) (book : Book) → IsScript bytes script → status ≡ 0 → IsLoneRun 1000000 1024 script.steps book text → PlaysInput bytes status text book
-lone_plays bytes script status text book is status_is r =
-    let fits : FitsWith book 1 1000000 1024 = alone_fits 1000000 1024 script.steps r.log r.trail book (omega arith) (omega arith) (omega arith) r.alone r.book_is in
-    let causal : IsCausal book 1 1024 = one_client_causal book 1000000 1024 r.book_is.n fits in
-    let first : FirstSums book 1 1024 = one_client_first book 1000000 1024 r.book_is.n fits in
+pub shared_plays : (bytes : List ℕ) (script : Script) (status : ℕ) (text : List ℕ) (book : Book) → IsScript bytes script → IsCount 100000 script.cache → IsCount 1000000 script.limit → status ≡ 0 → IsSharedRun script.clients script.limit script.cache script.steps book text → PlaysInput bytes status text book
+shared_plays bytes script status text book is cache limit status_is r =
+    let fits : FitsWith book script.clients script.limit script.cache = together_fit script.clients script.limit script.cache script.steps r.all book r.together r.book_is is.clients.0 is.clients.1 limit.0 limit.1 cache.0 in
     record {
       script = script;
       is = is;
@@ -68,13 +26,15 @@ lone_plays bytes script status text book is status_is r =
       run = record {
         n = r.book_is.n ∙ sym is.n;
         k = r.book_is.k ∙ sym is.k;
-        fits = subst (λ c. FitsWith book script.clients script.limit c) (sym is.cache) (subst (λ l. FitsWith book script.clients l 1024) (sym is.limit) (subst (λ n. FitsWith book n 1000000 1024) (sym is.clients) fits));
-        steps = alone_scripted 1000000 1024 script r.log r.trail book is.clients is.cache r.alone r.book_is;
+        fits = fits;
+        steps = together_scripted script.clients script.limit script.cache script.steps r.all book r.together r.book_is script refl refl refl;
       };
-      believable = record {
-        causal = subst (λ c. IsCausal book script.clients c) (sym is.cache) (subst (λ n. IsCausal book n 1024) (sym is.clients) causal);
-        first = subst (λ c. FirstSums book script.clients c) (sym is.cache) (subst (λ n. FirstSums book n 1024) (sym is.clients) first);
-      };
+      believable = λ one.
+          let alone : FitsWith book 1 script.limit script.cache = subst (λ n. FitsWith book n script.limit script.cache) one fits in
+          record {
+            causal = subst (λ n. IsCausal book n script.cache) (sym one) (one_client_causal book script.limit script.cache r.book_is.n alone);
+            first = subst (λ n. FirstSums book n script.cache) (sym one) (one_client_first book script.limit script.cache r.book_is.n alone);
+          };
       text_is = r.text_is;
     }
 
@@ -99,6 +59,31 @@ ends_complete words left old new status book form some is no_read no_write (inl 
 ends_complete words left old new status book form some is no_read no_write (inr (inl failed)) = absurd (no_read failed.0)
 ends_complete words left old new status book form some is no_read no_write (inr (inr (inl failed))) = absurd (no_write failed.0)
 ends_complete words left old new status book form some is no_read no_write (inr (inr (inr short))) = inr short.0
+
+-- what is all that a source had left, and is a script
+script_left : (left : Option (List ℕ)) (bytes : List ℕ) (script : Script) → IfSome left (λ all. all ≡ bytes) → IsScript bytes script → IfSome left (λ all. IsScript all script)
+script_left None bytes script all is = tt
+script_left (Some other) bytes script all is = subst (λ all. IsScript all script) (sym all) is
+
+-- what is believable of a script with one client holds where the run ended well
+pub ends_believable : (holds : Book → Script → Type 0) → ((book : Book) (script : Script) → IsBelievable script book → holds book script) → (words : List (List ℕ)) (left old new : Option (List ℕ)) (status : ℕ) (book : Book) → status ≡ 0 → EndsSo words left old new status book → HoldsForOne left book (holds book)
+ends_believable holds gives words left old new status book ended (inl wrote) = go wrote.owed
+  where
+    go : Owes words left status wrote.text book → HoldsForOne left book (holds book)
+    go (inl run) = owed run.owed
+      where
+        owed : OwesFor left status wrote.text book → HoldsForOne left book (holds book)
+        owed (inl play) = record {
+          script = play.plays.script;
+          is = script_left left play.bytes play.plays.script play.input play.plays.is;
+          run = play.plays.run;
+          one = λ one. gives book play.plays.script (play.plays.believable one);
+        }
+        owed (inr refusal) = absurd (omega (arith, ended, refusal.refuses.status_is))
+    go (inr usage) = absurd (omega (arith, ended, usage.status_is))
+ends_believable holds gives words left old new status book ended (inr (inl failed)) = absurd (omega (arith, ended, failed.0))
+ends_believable holds gives words left old new status book ended (inr (inr (inl failed))) = absurd (omega (arith, ended, failed.0))
+ends_believable holds gives words left old new status book ended (inr (inr (inr short))) = absurd (omega (arith, ended, short.0))
 
 -- ---- the input
 

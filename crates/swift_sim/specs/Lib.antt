@@ -1,3 +1,5 @@
 pub mod Purposes
 pub mod Playing
+pub mod Flushing
+pub mod Seating
 pub mod Runs

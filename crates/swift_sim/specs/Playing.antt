@@ -18,21 +18,33 @@ use Rattle.dc_talk.specs.declared.line.StepWord.{StepWord}
 use Rattle.dc_talk.specs.Logs.{Logged}
 use Rattle.dc_talk.specs.Clients.{Client, new_client}
 use Rattle.dc_talk.specs.Calls.{outcome_of}
-use Rattle.dc_talk.specs.declared.session.Link.{Link}
-use Rattle.dc_talk.specs.Rule.{after, heard, takes, client_after, Allows, Follows}
+use Rattle.dc_talk.specs.Rule.{after, heard, takes, Allows}
+use Rattle.dc_talk.specs.Answers.{answer}
 use Rattle.dc_centre.specs.Desk.{Keeps}
 use Rattle.script_text.specs.declared.steps.ClientStep.{ClientStep}
 use Rattle.swift_sim.specs.declared.purpose.Purpose.{Purpose}
-use Rattle.swift_sim.specs.Purposes.{told_after}
+use Rattle.swift_sim.specs.Purposes.{told_after, goes_after}
 use Rattle.script_text.specs.Deeds.{StepDeeds, CallDeeds, FetchesOver, calls}
-use Rattle.run_book.specs.Scripted.{Plays, placed_from}
-use Rattle.run_book.specs.Alone.{entry_of, AllNear}
+use Rattle.run_book.specs.Together.{entry_of}
 
 -- a centre with its trail, a client, and the client's log
 pub record Playing : Type 0 where
   pub desk : Keeps
   pub client : Client
   pub log : Logged
+
+-- a client and its log
+pub record Seated : Type 0 where
+  pub client : Client
+  pub log : Logged
+
+-- the same beside a centre
+abbrev pub beside : Seated → Keeps → Playing
+beside seat desk = record { desk = desk; client = seat.client; log = seat.log }
+
+-- a client among n centres, at first
+abbrev pub new_seat : ℕ → ℕ → ℕ → Seated
+new_seat client n cache = record { client = new_client n client cache; log = record { actor = client + 1; section = 0; step = 0; notes = [] } }
 
 -- a deed as a note of a section and step
 abbrev pub marked : ℕ → ℕ → Deed → Note
@@ -94,16 +106,18 @@ after_exchange p i ask say = record {
 }
 
 -- an ask of centre i for a purpose, answered, heard, and its line told
-pub record Exchanged (purpose : Purpose) (i : ℕ) (ask : Ask) (old new : Playing) (took : Bool) : Type 0 where
+pub record Exchanged (purpose : Purpose) (i : ℕ) (ask : Ask) (old new : Playing) (more : Bool) : Type 0 where
   pub say : Say
+  pub answered : say ≡ answer old.desk.me old.desk.n old.desk.k old.desk.limit old.desk.entries ask
   pub after : new ≡ record (after_exchange old i ask say) { log = noted_all (after_exchange old i ask say).log (told_after purpose old.client.client i (takes old.client i ask say) say) }
-  pub is : took ≡ takes old.client i ask say
+  pub is : more ≡ goes_after purpose (takes old.client i ask say) say
 
 -- the same as growth, for an ask that the session makes then
-pub record Exchanges (purpose : Purpose) (i : ℕ) (ask : Ask) (old new : Playing) (took : Bool) : Type 0 where
+pub record Exchanges (purpose : Purpose) (i : ℕ) (ask : Ask) (old new : Playing) (more : Bool) : Type 0 where
   pub say : Say
+  pub answered : say ≡ answer old.desk.me old.desk.n old.desk.k old.desk.limit old.desk.entries ask
   pub grows : Grows old new (Asked i ask (Heard say) ∷ told_after purpose old.client.client i (takes old.client i ask say) say)
-  pub is : took ≡ takes old.client i ask say
+  pub is : more ≡ goes_after purpose (takes old.client i ask say) say
 
 -- a fetch for a call, and the call again
 pub record FetchesFor (word : StepWord) (o : ObjectId) (call : Call) (old new : Playing) : Type 0 where
@@ -116,33 +130,6 @@ abbrev pub number_in : Ask → ℕ
 number_in (Commit tx) = tx.dot.number
 number_in _ = 0
 
--- a client beside centre 1 of n, both at first
-abbrev pub new_playing : ℕ → ℕ → ℕ → ℕ → ℕ → Playing
-new_playing client cache n k limit = record {
-  desk = record { me = 1; n = n; k = k; limit = limit; entries = [] };
-  client = new_client n client cache;
-  log = record { actor = client + 1; section = 0; step = 0; notes = [] };
-}
-
 -- the player with its log at a section, of which it takes the only step
 abbrev pub at_section : Playing → ℕ → Playing
 at_section p section = record p { log = record p.log { section = section; step = 1 } }
-
--- there is no link, or one to centre 1
-abbrev pub IsNearLink : Option Link → Type 0
-IsNearLink None = Unit {0}
-IsNearLink (Some link) = link.centre ≡ 1
-
--- client 1 took these steps beside the only centre, each in a section of its own
-pub record HasTaken (limit capacity : ℕ) (steps : List ClientStep) (p : Playing) : Type 0 where
-  pub me : p.desk.me ≡ 1
-  pub n : p.desk.n ≡ 1
-  pub k : p.desk.k ≡ 1
-  pub limit_is : p.desk.limit ≡ limit
-  pub actor : p.log.actor ≡ 2
-  pub client : p.client ≡ client_after 1 1 capacity p.log.notes
-  pub linked : IsNearLink p.client.link
-  pub entries : p.desk.entries ≡ filter_map (λ note. entry_of 2 note.deed) p.log.notes
-  pub follows : Follows 1 1 capacity p.log.notes
-  pub plays : Plays (new_client 1 1 capacity) (placed_from 1 steps) p.log.notes
-  pub near : AllNear p.log.notes

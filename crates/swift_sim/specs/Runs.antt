@@ -1,18 +1,17 @@
 -- What is owed to a sink for words and an input, and how a run ends.
-use Rattle.std.specs.Prelude.{◌≡◌, ◌≢◌, ◌⊎◌, ℕ, List, [], ◌∷◌, Option, IfSome, map, codes}
+use Rattle.std.specs.Prelude.{◌≡◌, ◌≢◌, ◌⊎◌, ℕ, ◌+◌, List, [], ◌∷◌, ◌++◌, Option, IfSome, map, codes}
 use Rattle.std.specs.String.{string_bytes}
 use Rattle.std.specs.Global.{Global}
 use Rattle.std.specs.Prelude.{String}
-use Rattle.dc_talk.specs.declared.trail.Entry.{Entry}
 use Rattle.dc_talk.specs.Logs.{Logged}
 use Rattle.script_text.specs.declared.script.Script.{Script}
-use Rattle.script_text.specs.declared.steps.ClientStep.{ClientStep}
+use Rattle.script_text.specs.declared.steps.Step.{Step}
 use Rattle.script_text.specs.Scripts.{IsScript}
 use Rattle.run_book.specs.declared.book.Book.{Book}
 use Rattle.run_book.specs.Fit.{FitsWith}
 use Rattle.run_book.specs.Scripted.{HasSteps}
 use Rattle.run_book.specs.Graphs.{IsCausal, FirstSums}
-use Rattle.run_book.specs.Alone.{IsAlone, IsBookOfOne}
+use Rattle.run_book.specs.Together.{Happened, AreTogether, IsBookOf, idle_log}
 use Rattle.print_text.specs.Text.{text_of}
 use Rattle.io_edge.specs.Streams.{TookFront, puts_behind}
 
@@ -54,21 +53,26 @@ pub record IsBelievable (script : Script) (book : Book) : Type 0 where
   pub causal : IsCausal book script.clients script.cache
   pub first : FirstSums book script.clients script.cache
 
--- the book of one client beside one centre, and the text of its log
-pub record IsLoneRun (limit capacity : ℕ) (steps : List ClientStep) (book : Book) (text : List ℕ) : Type 0 where
-  pub log : Logged
-  pub trail : List Entry
-  pub alone : IsAlone limit capacity steps log.notes trail
-  pub book_is : IsBookOfOne book log trail
+-- the logs of the operator, of so many clients, and of the centre's four workers, of which those of the
+-- clients are given
+abbrev pub logs_beside : ℕ → List Logged → List Logged
+logs_beside clients logs = idle_log 1 ∷ (logs ++ (idle_log (clients + 2) ∷ (idle_log (clients + 3) ∷ (idle_log (clients + 4) ∷ (idle_log (clients + 5) ∷ [])))))
+
+-- the book of so many clients that took these steps beside one centre, and its text
+pub record IsSharedRun (clients limit capacity : ℕ) (steps : List Step) (book : Book) (text : List ℕ) : Type 0 where
+  pub all : List Happened
+  pub together : AreTogether clients limit capacity steps all
+  pub book_is : IsBookOf book clients all
   pub text_is : text ≡ text_of book.logs
 
--- the bytes are a script, the book is one of its run, and the text is that of the book
+-- the bytes are a script, the book is one of its run, which can be believed where there is one client,
+-- and the text is that of the book
 pub record PlaysInput (bytes : List ℕ) (status : ℕ) (text : List ℕ) (book : Book) : Type 0 where
   pub script : Script
   pub is : IsScript bytes script
   pub status_is : status ≡ 0
   pub run : IsRunOf script book
-  pub believable : IsBelievable script book
+  pub believable : script.clients ≡ 1 → IsBelievable script book
   pub text_is : text ≡ text_of book.logs
 
 -- the bytes are no script, and are refused
@@ -140,6 +144,14 @@ pub record Serves (words : List (List ℕ)) (left old new : Option (List ℕ)) (
   pub is : IsScript bytes script
   pub run : IsRunOf script book
   pub text : new ≡ puts_behind (text_of book.logs) old
+
+-- what a source has left is a script, the book is one of its run, and this holds where the script has
+-- one client
+pub record HoldsForOne (left : Option (List ℕ)) (book : Book) (holds : Script → Type 0) : Type 0 where
+  pub script : Script
+  pub is : IfSome left (λ bytes. IsScript bytes script)
+  pub run : IsRunOf script book
+  pub one : script.clients ≡ 1 → holds script
 
 -- the input was refused, and the line that says so was taken
 pub record RefusedInput (words : List (List ℕ)) (left old new : Option (List ℕ)) (book : Book) : Type 0 where

@@ -1,6 +1,6 @@
 // The lines of steps, by how the session and the centre answered.
 ghost use Rattle.std.specs.Prelude.{◌≡◌, IfOk};
-ghost use Rattle.script_text.specs.Deeds.{hello_line, begin_told, word_of, call_told, commit_told, fetch_line, push_end, refresh_line};
+ghost use Rattle.script_text.specs.Deeds.{hello_line, begin_told, word_of, call_told, commit_told, abort_told, goes_on, fetch_line, push_end, refresh_line};
 ghost use Rattle.dc_talk.specs.declared.session.Outcome.TheVariants.{Refused};
 ghost use Rattle.swift_sim.specs.Playing.{told_of};
 
@@ -26,6 +26,11 @@ pub fn connect_line(client: u32, centre: u8, say: &Say) -> Line
                 need: *need,
                 have: *have,
             },
+        },
+        Say::Down => Line::ConnectMissed {
+            client,
+            centre,
+            miss: Miss::Unreachable,
         },
         _ => Line::ConnectMissed {
             client,
@@ -122,6 +127,16 @@ pub fn commit_line(client: u32, outcome: &Outcome) -> Option<Line>
     }
 }
 
+/// The line of an abort that ended so, where it has one.
+pub fn abort_line(client: u32, outcome: &Outcome) -> Option<Line>
+    ensures { told_of result ≡ abort_told client outcome.now }
+{
+    match outcome {
+        Outcome::Refused(Refusal::NotOpen) => Some(Line::AbortClosed { client }),
+        _ => None,
+    }
+}
+
 /// The line of a fetch that gave no state.
 pub fn missed_fetch(client: u32, word: StepWord, object: &ObjectId, say: &Say) -> Line
     ensures { result ≡ fetch_line client word object.now say.now }
@@ -143,6 +158,12 @@ pub fn missed_fetch(client: u32, word: StepWord, object: &ObjectId, say: &Say) -
             word,
             object,
         },
+        Say::Down => Line::FetchMissed {
+            client,
+            word,
+            object,
+            miss: Miss::Unreachable,
+        },
         _ => Line::FetchMissed {
             client,
             word,
@@ -150,6 +171,13 @@ pub fn missed_fetch(client: u32, word: StepWord, object: &ObjectId, say: &Say) -
             miss: Miss::Misfit,
         },
     }
+}
+
+/// Whether the commit of a push that was answered so is at the centre, so that a flush goes on.
+pub fn is_there(say: &Say) -> bool
+    ensures { result ≡ goes_on say.now }
+{
+    matches!(say, Say::Stamped { .. } | Say::Known { .. })
 }
 
 /// How a push that was answered so ended.
@@ -167,6 +195,9 @@ pub fn end_of_push(say: &Say) -> PushEnd
                 need: *need,
                 have: *have,
             },
+        },
+        Say::Down => PushEnd::Missed {
+            miss: Miss::Unreachable,
         },
         _ => PushEnd::Missed { miss: Miss::Misfit },
     }
@@ -195,6 +226,10 @@ pub fn refreshed_line(client: u32, took: bool, say: &Say) -> Line
                 need: *need,
                 have: *have,
             },
+        },
+        Say::Down => Line::RefreshMissed {
+            client,
+            miss: Miss::Unreachable,
         },
         _ => Line::RefreshMissed {
             client,

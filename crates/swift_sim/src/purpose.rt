@@ -1,7 +1,7 @@
 // What a client asks a centre for.
 ghost use Rattle.std.specs.Prelude.{◌≡◌};
 
-use crate::lines::{connect_line, end_of_push, missed_fetch, refreshed_line};
+use crate::lines::{connect_line, end_of_push, is_there, missed_fetch, refreshed_line};
 use dc_talk::{Line, Say, StepWord};
 use ids_core::ObjectId;
 
@@ -12,17 +12,19 @@ pub enum Purpose {
     /// For a call on the object, in a step of this word.
     Fetch { word: StepWord, object: ObjectId },
     Push { number: u64 },
+    /// A push that is one of several.
+    Flush { number: u64 },
     Refresh,
 }
 
 impl Purpose {
     ghost use Rattle.swift_sim.specs.Playing.{told_of};
-    ghost use Rattle.swift_sim.specs.Purposes.{told_after};
+    ghost use Rattle.swift_sim.specs.Purposes.{goes_after, told_after};
 
     /// The line that comes of the answer, by whether the session took it; none where a state was
-    /// fetched, since the call is made again then.
-    pub fn line(self, client: u32, centre: u8, took: bool, say: &Say) -> Option<Line>
-        ensures { told_of result ≡ told_after self client centre took say.now }
+    /// fetched, since the call is made again then, and where a flush goes on.
+    pub fn line(&self, client: u32, centre: u8, took: bool, say: &Say) -> Option<Line>
+        ensures { told_of result ≡ told_after self.now client centre took say.now }
     {
         match self {
             Purpose::Connect => Some(connect_line(client, centre, say)),
@@ -30,15 +32,37 @@ impl Purpose {
                 if took {
                     None
                 } else {
-                    Some(missed_fetch(client, word, &object, say))
+                    Some(missed_fetch(client, *word, object, say))
                 }
             }
             Purpose::Push { number } => Some(Line::Push {
                 client,
-                number,
+                number: *number,
                 end: end_of_push(say),
             }),
+            Purpose::Flush { number } => {
+                if is_there(say) {
+                    None
+                } else {
+                    Some(Line::Push {
+                        client,
+                        number: *number,
+                        end: end_of_push(say),
+                    })
+                }
+            }
             Purpose::Refresh => Some(refreshed_line(client, took, say)),
+        }
+    }
+
+    /// Whether the step goes on after the answer: with the call where a state was fetched, with more
+    /// pushes in a flush.
+    pub fn goes_on(&self, took: bool, say: &Say) -> bool
+        ensures { result ≡ goes_after self.now took say.now }
+    {
+        match self {
+            Purpose::Flush { .. } => is_there(say),
+            _ => took,
         }
     }
 }

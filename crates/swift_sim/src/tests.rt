@@ -66,6 +66,28 @@ fn a_script_may_break_off_after_each_line(rt: HostRuntime) -> Result<(), Fail> {
 }
 
 #[test]
+fn clients_take_their_steps_in_any_order(rt: HostRuntime) -> Result<(), Fail> {
+    let alloc = rt.alloc();
+    for (script, text) in [
+        (
+            b"centres 1 k 1\nclients 2\nc2 connect 1\nc1 connect 1\nc2 begin\nc2 add s.a x\nc2 commit\nc2 flush\nc1 refresh\nc1 read s.a\n".as_slice(),
+            b"c2 at 1\nc1 at 1\nc2 commit 1\nc2 flushed 1\nc1 sees 1 own 0\nc1 read s.a {x}\n".as_slice(),
+        ),
+        (
+            b"centres 1 k 1\nclients 1\nc1 abort\nc1 commit\nc1 flush\nc1 push\nc1 refresh\nc1 read c.a\nc1 inc c.a 1\n",
+            b"c1 abort closed\nc1 commit closed\nc1 push unconnected\nc1 push unconnected\nc1 refresh unconnected\nc1 read c.a unconnected\nc1 inc c.a closed\n",
+        ),
+        (
+            b"centres 1 k 1\nclients 1\nlimit 1\nc1 connect 1\nc1 begin\nc1 begin\nc1 commit\nc1 begin\nc1 set r.a x\nc1 commit\nc1 begin\nc1 set r.a y\nc1 commit\nc1 flush\nc1 begin\nc1 set r.a z\nc1 refresh\nc1 abort\nc1 read r.a\n",
+            b"c1 at 1\nc1 begin open\nc1 commit none\nc1 commit 1\nc1 commit 2\nc1 push 2 full 1\nc1 refresh open\nc1 read r.a y\n",
+        ),
+    ] {
+        assert!(rt; writes(alloc, script, 0, text)?, "{script:?}");
+    }
+    Ok(())
+}
+
+#[test]
 fn other_words_and_other_inputs_are_refused(rt: HostRuntime) -> Result<(), Fail> {
     let alloc = rt.alloc();
     assert!(rt; writes(alloc, b"centres 1 k 1\n", 3, b"refused input\n")?);

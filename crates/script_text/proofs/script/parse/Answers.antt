@@ -1,10 +1,30 @@
-use Rattle.std.proofs.Common.{ap, sym, ◌∙◌}
-use Rattle.std.proofs.lemmas.Bool.{false≢true}
+use Rattle.std.proofs.Common.{◌≡◌, Err, ap, sym, subst, ◌∙◌}
+use Rattle.std.specs.Prelude.{All, map}
+use Rattle.std.specs.Result.{IsErrAnd}
+use Rattle.std.specs.Option.{unwrap_or}
 use Rattle.script_text.specs.Lines.{lines_of}
-use Rattle.script_text.proofs.FewLines.{steps_few}
+use Rattle.script_text.specs.Steps.{IsCount, IsStepOf}
+use Rattle.script_text.specs.Rows.{row_text, IsRow, steps_in}
+use Rattle.script_text.proofs.Rows.{steps_each, cache_count, limit_count}
 use Rattle.script_text.proofs.script.parse.Goals as goal
 
-pub returns-in_ok-steps-in-Some-clause-few : goal.returns-in_ok-steps-in-Some-clause-few
-returns-in_ok-steps-in-Some-clause-few c =
-    let parts = ap lines_of (sym c.as_slice.ensures.value) ∙ c.in-Some.ensures.taken in
-    steps_few c.args.input.now.bytes.items (lines_of c.in-Some.rest.now) c.in_ok-steps-in-Some.steps parts c.in_ok-steps-in-Some.ensures.taken (λ p. absurd (false≢true (sym c.if-input.false ∙ c.requires.1 p)))
+pub returns-in_err-reading-in-Some-clause-refused : goal.returns-in_err-reading-in-Some-clause-refused
+returns-in_err-reading-in-Some-clause-refused c = λ e script is.
+    let only = c.in-Some.ensures.only script.clients (map row_text is.rows) is.clients (ap lines_of c.as_slice.ensures.value ∙ is.lines) in
+    c.in_err-reading-in-Some.ensures.refused (ap Err (sym (subst (λ r. IsErrAnd r (λ fault. fault ≡ c.in_err-reading-in-Some.field-0.0)) e c.from_residual.ensures.1))) is.rows (record { spelled = sym only.1; each = subst (λ n. All (IsRow n) is.rows) only.0 is.each; order = is.order })
+
+pub returns-in_ok-reading-in-Some-clause-steps : goal.returns-in_ok-reading-in-Some-clause-steps
+returns-in_ok-reading-in-Some-clause-steps c =
+    let read = c.in_ok-reading-in-Some.ensures.taken in
+    subst (λ steps. All (IsStepOf c.script_of.result.clients) steps) (sym (c.script_of.ensures.steps ∙ read.1.steps))
+    (subst (λ n. All (IsStepOf n) (steps_in read.0)) (sym c.script_of.ensures.clients) (steps_each c.in-Some.clients read.0 read.2.each))
+
+pub returns-in_ok-reading-in-Some-clause-cache : goal.returns-in_ok-reading-in-Some-clause-cache
+returns-in_ok-reading-in-Some-clause-cache c =
+    let read = c.in_ok-reading-in-Some.ensures.taken in
+    subst (IsCount 100000) (sym (c.script_of.ensures.cache ∙ ap (λ set. unwrap_or set 1024) read.1.cache)) (cache_count c.in-Some.clients read.0 read.2.each)
+
+pub returns-in_ok-reading-in-Some-clause-limit : goal.returns-in_ok-reading-in-Some-clause-limit
+returns-in_ok-reading-in-Some-clause-limit c =
+    let read = c.in_ok-reading-in-Some.ensures.taken in
+    subst (IsCount 1000000) (sym (c.script_of.ensures.limit ∙ ap (λ set. unwrap_or set 1000000) read.1.limit)) (limit_count c.in-Some.clients read.0 read.2.each)
