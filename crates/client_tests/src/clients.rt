@@ -1,7 +1,7 @@
 // A cache, and a session with its centre's answers.
-use crate::samples::counter;
 use client_cache::Cache;
 use client_session::{Heard, Session};
+use crate_tests::counter;
 use dc_talk::{Ask, Change, Refusal, Say};
 use ids_core::{Dot, Mark, Name, ObjectId, OpId, Sort, Tags};
 use std::alloc::Global;

@@ -1,7 +1,7 @@
 // What centres answer one another, and what they refuse.
 ghost use Rattle.std.specs.Prelude.{◌≡◌, length, IfOk};
 
-use crate::samples::{counter, inc_tx};
+use crate_tests::{counter, inc_tx};
 use dc_centre::Centre;
 use dc_talk::{Ask, Records, Say};
 use ids_core::{Dot, NoMemory};

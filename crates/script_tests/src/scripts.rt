@@ -55,7 +55,7 @@ fn a_whole_block_is_taken(rt: HostRuntime) -> Result<(), Fail> {
     match script.steps.as_slice() {
         [
             Step {
-                client: 1,
+                client,
                 does: ClientStep::Connect { centre },
             },
             Step {
@@ -86,7 +86,7 @@ fn a_whole_block_is_taken(rt: HostRuntime) -> Result<(), Fail> {
                 ..
             },
         ] => {
-            assert_eq!(rt; *centre, 1);
+            assert_eq!(rt; (*client, *centre), (1, 1));
             assert_eq!(rt; read.name.as_slice(), b"b".as_slice());
             assert_eq!(rt; object.name.as_slice(), b"a_9".as_slice());
             assert_eq!(rt; *delta, -5);

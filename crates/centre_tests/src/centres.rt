@@ -1,7 +1,7 @@
 // A centre, and a centre beside its trail.
 ghost use Rattle.std.specs.Prelude.{◌≡◌, length};
 
-use crate::samples::{counter, inc_tx};
+use crate_tests::{counter, inc_tx};
 use dc_centre::{Centre, Desk};
 use dc_talk::{Ask, Say};
 use hist_lock::Kept;

@@ -1,5 +1,5 @@
 // The texts of lines and logs.
-use crate::samples::counter;
+use crate_tests::counter;
 use dc_talk::{Call, Deed, Line, Log, Miss, Outcome, PushEnd, StepWord};
 use ids_core::{Name, NoMemory, ObjectId, Sort};
 use print_text::{write_line, write_notes};

@@ -1,8 +1,8 @@
 // Commits that are pending, found by their objects.
 ghost use Rattle.std.specs.Prelude.{◌≤◌, IfOk, length};
 
-use crate::samples::{counter, inc_tx};
 use client_pending::Pending;
+use crate_tests::{counter, inc_tx};
 use ids_core::{Dot, NoMemory, ObjectId, Sort};
 use std::alloc::Global;
 use std::test::Fail;
