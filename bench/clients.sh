@@ -8,14 +8,7 @@
 set -u
 root=$(cd "$(dirname "$0")/.." && pwd) || exit 1
 program=${SWIFT_SIM:-$root/crates/swift_sim/out/swift_sim}
-room=$(mktemp -d) || exit 1
-trap 'rm -rf "$room"' EXIT
-trap 'exit 1' HUP INT TERM
-
-if [ ! -x "$program" ]; then
-    echo "$program is not built" >&2
-    exit 1
-fi
+. "$root/bench/timing.sh"
 
 # turns COUNT: a script of 100 clients that take turns, so many of them, each with one commit: of a
 # counter, and of an object of one kind after another.
@@ -36,48 +29,22 @@ turns() {
     }'
 }
 
-# run COUNT: runs such a script, and gives the microseconds that it took.
+# run COUNT: plays such a script.
 run() {
-    from=$(date +%s%N)
-    "$program" serial <"$room/script" >"$room/out" || return 1
-    to=$(date +%s%N)
+    timed serial <"$room/script" || return 1
     case $(tail -n 2 "$room/out") in
     *" read c.total $1
 "*) ;;
     *) return 1 ;;
     esac
-    echo $(((to - from) / 1000))
 }
 
-# least COUNT: the least time of three runs.
-least() {
-    turns "$1" >"$room/script"
-    best=
-    for _ in 1 2 3; do
-        took=$(run "$1") || return 1
-        if [ -z "$best" ] || [ "$took" -lt "$best" ]; then
-            best=$took
-        fi
-    done
-    echo "$best"
-}
-
-status=0
 before=
-echo '| commits | lines | seconds | ratio to the row above |'
-echo '|---|---|---|---|'
+head_of commits lines seconds 'ratio to the row above'
 for count in 500 1000 2000; do
-    if ! took=$(least "$count"); then
-        echo "the program gave a wrong end for $count commits" >&2
-        exit 1
-    fi
-    awk -v count="$count" -v took="$took" -v before="$before" 'BEGIN {
-        ratio = before == "" ? "-" : sprintf("%.2f", took / before)
-        printf "| %d | %d | %.3f | %s |\n", count, 102 + 10 * count, took / 1000000, ratio
-    }'
-    if [ -n "$before" ] && [ $((took * 10)) -gt $((before * 45)) ]; then
-        status=1
-    fi
+    turns "$count" >"$room/script"
+    took=$(least 3 "$count") || wrong "$count" commits
+    row "$count | $((102 + 10 * count))" "$took" "$before" 4.5
     before=$took
 done
 exit "$status"

@@ -7,14 +7,7 @@
 set -u
 root=$(cd "$(dirname "$0")/.." && pwd) || exit 1
 program=${SWIFT_SIM:-$root/crates/swift_sim/out/swift_sim}
-room=$(mktemp -d) || exit 1
-trap 'rm -rf "$room"' EXIT
-trap 'exit 1' HUP INT TERM
-
-if [ ! -x "$program" ]; then
-    echo "$program is not built" >&2
-    exit 1
-fi
+. "$root/bench/timing.sh"
 
 # blocks COUNT: a script of so many blocks, each with an inc and a read.
 blocks() {
@@ -25,42 +18,17 @@ blocks() {
     }'
 }
 
-# run COUNT: runs such a script, and gives the microseconds that it took.
+# run COUNT: plays such a script.
 run() {
-    from=$(date +%s%N)
-    "$program" serial <"$room/script" >"$room/out" || return 1
-    to=$(date +%s%N)
-    [ "$(tail -n 1 "$room/out")" = "c1 sees $1 own $1" ] || return 1
-    echo $(((to - from) / 1000))
+    timed serial <"$room/script" && [ "$(tail -n 1 "$room/out")" = "c1 sees $1 own $1" ]
 }
 
-# least COUNT: the least time of three runs.
-least() {
-    blocks "$1" >"$room/script"
-    best=
-    for _ in 1 2 3; do
-        took=$(run "$1") || return 1
-        if [ -z "$best" ] || [ "$took" -lt "$best" ]; then
-            best=$took
-        fi
-    done
-    echo "$best"
-}
-
-status=0
 before=
-echo '| blocks | seconds | ratio to the row above |'
-echo '|---|---|---|'
+head_of blocks seconds 'ratio to the row above'
 for count in 500 1000 2000 4000; do
-    if ! took=$(least "$count"); then
-        echo "the program gave a wrong end for $count blocks" >&2
-        exit 1
-    fi
-    awk -v count="$count" -v took="$took" -v before="$before" 'BEGIN {
-        ratio = before == "" ? "-" : sprintf("%.2f", took / before)
-        printf "| %d | %.3f | %s |\n", count, took / 1000000, ratio
-        exit ratio != "-" && took > 4.5 * before
-    }' || status=1
+    blocks "$count" >"$room/script"
+    took=$(least 3 "$count") || wrong "$count" blocks
+    row "$count" "$took" "$before" 4.5
     before=$took
 done
 exit "$status"

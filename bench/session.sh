@@ -9,44 +9,21 @@
 set -u
 root=$(cd "$(dirname "$0")/.." && pwd) || exit 1
 program=${SESSION_BENCH:-$root/crates/session_bench/out/session_bench}
+. "$root/bench/timing.sh"
 rounds=200000
 
-if [ ! -x "$program" ]; then
-    echo "$program is not built" >&2
-    exit 1
-fi
-
-# run FORM PENDING ROUNDS LAST: runs the program, which has to print LAST, and gives the microseconds.
+# run FORM PENDING ROUNDS LAST: the program has to print LAST.
 run() {
-    from=$(date +%s%N)
-    last=$("$program" "$1" "$2" "$3") || return 1
-    to=$(date +%s%N)
-    [ "$last" = "$4" ] || return 1
-    echo $(((to - from) / 1000))
-}
-
-# least FORM PENDING ROUNDS LAST: the least time of nine runs.
-least() {
-    best=
-    for _ in 1 2 3 4 5 6 7 8 9; do
-        took=$(run "$1" "$2" "$3" "$4") || return 1
-        if [ -z "$best" ] || [ "$took" -lt "$best" ]; then
-            best=$took
-        fi
-    done
-    echo "$best"
+    timed "$1" "$2" "$3" && [ "$(cat "$room/out")" = "$4" ]
 }
 
 # table FORM LAST: a row for each number of pending commits; LAST is read after all rounds.
 table() {
     first=
-    echo "| $1: pending | nanoseconds a call | ratio to one pending |"
-    echo '|---|---|---|'
+    head_of "$1: pending" 'nanoseconds a call' 'ratio to one pending'
     for pending in 1 100 1000; do
-        if ! { none=$(least "$1" "$pending" 0 0) && all=$(least "$1" "$pending" "$rounds" "$2"); }; then
-            echo "the program gave a wrong end for $1 $pending" >&2
-            exit 1
-        fi
+        none=$(least 9 "$1" "$pending" 0 0) || wrong "$1" "$pending"
+        all=$(least 9 "$1" "$pending" "$rounds" "$2") || wrong "$1" "$pending"
         took=$(((all - none) * 1000 / rounds))
         first=${first:-$took}
         awk -v pending="$pending" -v took="$took" -v first="$first" 'BEGIN {
@@ -57,7 +34,6 @@ table() {
     echo
 }
 
-status=0
 table reads 0
 table updates 1
 exit "$status"
