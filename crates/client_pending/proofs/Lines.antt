@@ -14,16 +14,11 @@ use Rattle.ids_core.specs.declared.object.Sort.TheVariants.{Counter, Register, S
 use Rattle.ids_core.specs.declared.object.ObjectId.{ObjectId}
 use Rattle.ids_core.specs.Ids.{same_object}
 use Rattle.ids_core.specs.Same.{same_object-same}
-use Rattle.ids_core.specs.Orders.{name_cmp, name_cmp_same}
+use Rattle.ids_core.specs.Orders.{both_equal, name_cmp, name_cmp_same}
 use Rattle.ids_core.specs.declared.ids.Mark.{Mark}
 use Rattle.tx_core.specs.declared.op.Op.{Op}
 use Rattle.client_pending.specs.declared.index.Key.{Key}
 use Rattle.client_pending.specs.Indexes.{sort_number, key_of, key_cmp, line_items, line_at}
-
-both_equal : (r s : Ordering) → ordering_then r s ≡ Equal → (r ≡ Equal) × (s ≡ Equal)
-both_equal Less s e = cc
-both_equal Equal s e = (refl, e)
-both_equal Greater s e = cc
 
 same_number : (a b : Sort) → sort_number a ≡ sort_number b → a ≡ b
 same_number Counter Counter e = refl

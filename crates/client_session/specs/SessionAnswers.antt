@@ -1,15 +1,17 @@
 -- What a session answers.
-use Rattle.std.specs.Prelude.{ℕ, Bool, true, false, cond, length, Option, Some, None, is_some, Result, Ok, Err}
+use Rattle.std.specs.Prelude.{◌≡◌, ℕ, Bool, true, false, cond, length, Option, Some, None, is_some, IsSome, Result, Ok, Err}
 use Rattle.std.specs.Option.{option_map, unwrap_or}
 use Rattle.ids_core.specs.declared.object.ObjectId.{ObjectId}
 use Rattle.dc_talk.specs.declared.ask.Ask.{Ask}
 use Rattle.dc_talk.specs.declared.ask.Ask.TheVariants.{Commit}
 use Rattle.dc_talk.specs.declared.say.Say.{Say}
 use Rattle.dc_talk.specs.declared.say.Say.TheVariants.{Object}
+use Rattle.dc_talk.specs.declared.session.Change.{Change}
 use Rattle.dc_talk.specs.declared.session.Link.{Link}
 use Rattle.dc_talk.specs.declared.session.Refusal.{Refusal}
 use Rattle.dc_talk.specs.declared.session.Refusal.TheVariants.{NotConnected, AlreadyOpen}
 use Rattle.dc_talk.specs.Clients.{Client}
+use Rattle.dc_talk.specs.Calls.{named, viewed, change_outcome, look_up_outcome}
 use Rattle.dc_talk.specs.Rule.{refresh_of, fetch_of, next_commit}
 use Rattle.client_session.specs.declared.hears.Heard.{Heard}
 use Rattle.client_session.specs.declared.hears.Heard.TheVariants.{Took, Ignored}
@@ -41,6 +43,11 @@ heard_as false = Ignored
 abbrev pub is_object : Say → Bool
 is_object (Object state) = true
 is_object _ = false
+
+-- a change that is refused neither before it looks its object up nor since the object is not there
+pub record MayBeShort (s : Client) (o : ObjectId) (change : Change) : Type 0 where
+  pub before : change_outcome s o change ≡ look_up_outcome o (named change) (viewed s o)
+  pub there : IsSome (named change) → IsSome (viewed s o)
 
 -- what can be read off the client
 abbrev pub facts_of : Client → Facts

@@ -2,6 +2,7 @@
 ghost use Rattle.std.specs.Prelude.{◌≡◌, ◌≢◌, ◌≤◌, ◌<◌, ◌++◌, ◌∷◌, [], length, true, Some, None, IsSome, IfOk, IfErr, OnOk, OnErr, IfSome, IfNone};
 ghost use Rattle.std.specs.Option.{unwrap_or};
 ghost use Rattle.tx_core.specs.Checks.{IsFitUpdate};
+ghost use Rattle.client_session.specs.SessionAnswers.{MayBeShort};
 ghost use Rattle.dc_talk.specs.Calls.{kind_of, is_modest, named, op_of, tags_in, most_tags};
 
 use crate::session::Session;
@@ -23,7 +24,7 @@ impl Session {
     /// Changes an object in the open transaction. A change of a set or a map is over the live
     /// identifiers of its word or key in what the client has of the object, and looks it up: the
     /// object's entry becomes the first of the cache, where there is one. After each refusal all else is
-    /// as it was.
+    /// as it was. Want of memory comes only where no other refusal stands before or at the look-up.
     pub fn update(
         &mut self,
         alloc: Global,
@@ -33,6 +34,7 @@ impl Session {
         ensures taken { OnOk result (Ends self.old self.new (Call.Change object.now change.now) Outcome.Fine) }
         ensures refused { IfErr result (λ refusal. refusal ≢ Refusal.NoMemory → Ends self.old self.new (Call.Change object.now change.now) (Outcome.Refused refusal)) }
         ensures memory { result ≡ Err Refusal.NoMemory → self.new ≡ record self.old { cache = looked_up self.old object.now change.now } }
+        ensures short { result ≡ Err Refusal.NoMemory → MayBeShort self.old object.now change.now }
     {
         match self.update_refusal(object, change) {
             Some(refusal) => Err(refusal),
@@ -80,6 +82,7 @@ impl Session {
         ensures ok { IfOk result (λ op. (look_up_outcome object.now (named change.now) (viewed self.old object.now) ≡ Outcome.Fine) × (op ≡ op_of change.now (over self.old object.now change.now))) }
         ensures few { IfOk result (λ op. length (over self.old object.now change.now) ≤ most_tags) }
         ensures refused { IfErr result (λ refusal. refusal ≢ Refusal.NoMemory → look_up_outcome object.now (named change.now) (viewed self.old object.now) ≡ Outcome.Refused refusal) }
+        ensures short { result ≡ Err Refusal.NoMemory → IsSome (named change.now) → IsSome (viewed self.old object.now) }
         ensures cache { self.new ≡ record self.old { cache = looked_up self.old object.now change.now } }
     {
         match *change {
@@ -109,6 +112,7 @@ impl Session {
         ensures ok { IfOk result (λ tags. (look_up_outcome object.now (Some name.now) (viewed self.old object.now) ≡ Outcome.Fine) × (tags ≡ tags_in (Some name.now) (viewed self.old object.now))) }
         ensures few { IfOk result (λ tags. length tags ≤ most_tags) }
         ensures refused { IfErr result (λ refusal. refusal ≢ Refusal.NoMemory → look_up_outcome object.now (Some name.now) (viewed self.old object.now) ≡ Outcome.Refused refusal) }
+        ensures short { result ≡ Err Refusal.NoMemory → IsSome (viewed self.old object.now) }
         ensures cache { self.new ≡ record self.old { cache = promoted object.now self.old.vector self.old.cache } }
     {
         match self.look_up(object) {

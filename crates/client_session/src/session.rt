@@ -136,12 +136,14 @@ impl Session {
     }
 
     /// Commits the open transaction: the new number, or `None` where it had no updates. After each
-    /// refusal the session is as it was, and the transaction is still open.
+    /// refusal the session is as it was, and the transaction is still open. Want of memory comes only
+    /// where a number was due.
     pub fn commit(&mut self) -> Result<Option<u64>, Refusal>
         ensures number { IfOk result (λ number. IfSome number (λ n. Ends self.old self.new Call.Commit (Outcome.Number n))) }
         ensures nothing { IfOk result (λ number. IfNone number (Ends self.old self.new Call.Commit Outcome.Nothing)) }
         ensures refused { IfErr result (λ refusal. refusal ≢ Refusal.NoMemory → Ends self.old self.new Call.Commit (Outcome.Refused refusal)) }
         ensures err { OnErr result (self.new ≡ self.old) }
+        ensures short { result ≡ Err Refusal.NoMemory → commit_outcome self.old self.old.draft ≡ Outcome.Number (self.old.own + 1) }
     {
         match self.commit_refusal() {
             Some(refusal) => Err(refusal),

@@ -1,5 +1,5 @@
 // What a client has of an object.
-ghost use Rattle.std.specs.Prelude.{◌≡◌, ◌≢◌, ◌≤◌, ◌++◌, length, flat_map, All, Some, None, IfOk, IfErr, OnOk};
+ghost use Rattle.std.specs.Prelude.{◌≡◌, ◌≢◌, ◌≤◌, ◌++◌, length, flat_map, All, Some, None, IsSome, IfOk, IfErr, OnOk};
 ghost use Rattle.tx_core.specs.States.{fold_of};
 ghost use Rattle.dc_talk.specs.Clients.{cached, promoted, view};
 ghost use Rattle.dc_talk.specs.Objects.{ops_of};
@@ -17,10 +17,11 @@ impl Session {
 
     /// What a read of an object gives: of its state at the snapshot, the commits that are pending, and
     /// the open transaction. The object's entry becomes the first of the cache, where there is one. All
-    /// else is as it was.
+    /// else is as it was. Want of memory comes only where the object is there.
     pub fn read(&mut self, alloc: Global, object: &ObjectId) -> Result<Value, Refusal>
         ensures got { IfOk result (λ value. Ends self.old self.new (Call.Read object.now) (Outcome.Got value)) }
         ensures refused { IfErr result (λ refusal. refusal ≢ Refusal.NoMemory → Ends self.old self.new (Call.Read object.now) (Outcome.Refused refusal)) }
+        ensures short { result ≡ Err Refusal.NoMemory → IsSome (viewed self.old object.now) }
         ensures cache { self.new ≡ record self.old { cache = promoted object.now self.old.vector self.old.cache } }
     {
         match self.look_up(object) {
@@ -36,6 +37,7 @@ impl Session {
     pub(crate) fn look_up(&mut self, object: &ObjectId) -> Result<State, Refusal>
         ensures got { IfOk result (λ state. viewed self.old object.now ≡ Some state) }
         ensures refused { IfErr result (λ refusal. refusal ≢ Refusal.NoMemory → (refusal ≡ Refusal.NeedsFetch object.now) × (viewed self.old object.now ≡ None) × (self.new ≡ self.old)) }
+        ensures short { result ≡ Err Refusal.NoMemory → IsSome (viewed self.old object.now) }
         ensures cache { self.new ≡ record self.old { cache = promoted object.now self.old.vector self.old.cache } }
     {
         let at = self.vector;
@@ -71,6 +73,7 @@ fn copy_cached(cache: &mut Cache, object: &ObjectId, at: &Vector) -> Result<Stat
     ensures cache { cache.new ≡ record cache.old { entries = promoted object.now at.now cache.old.entries } }
     ensures got { IfOk result (λ state. cached object.now at.now cache.old.entries ≡ Some state) }
     ensures refused { IfErr result (λ refusal. refusal ≢ Refusal.NoMemory → (refusal ≡ Refusal.NeedsFetch object.now) × (cached object.now at.now cache.old.entries ≡ None) × (cache.new ≡ cache.old)) }
+    ensures short { result ≡ Err Refusal.NoMemory → IsSome (cached object.now at.now cache.old.entries) }
 {
     match cache.find(object, at) {
         None => Err(Refusal::NeedsFetch { object: *object }),

@@ -7,7 +7,6 @@ use Rattle.std.proofs.lemmas.List.{map_push}
 use Rattle.std.proofs.lemmas.List.Sums.{sum_by_push}
 use Rattle.std.proofs.lemmas.List.Elements.{All-nil, All-cons, All-append, All-head, All-tail}
 use Rattle.list_core.specs.Members.{In}
-use Rattle.list_core.proofs.Members.{filter-agree}
 use Rattle.ids_core.specs.declared.ids.Dot.{Dot}
 use Rattle.ids_core.specs.declared.object.ObjectId.{ObjectId}
 use Rattle.ids_core.specs.Ids.{same_dot}
@@ -17,6 +16,7 @@ use Rattle.vv_core.specs.Vectors.{zeros, at, raised}
 use Rattle.vv_core.proofs.Entrywise.{length-zeros, is_tabulate, at-tabulate, at-zeros, raised-tabulate, same_tabulate, length-raised}
 use Rattle.dup_guard.specs.declared.guard.Last.{Last}
 use Rattle.std.proofs.lemmas.Option.{none-some}
+use Rattle.list_core.proofs.Members.{In_left, In_right, In_either, filter-agree}
 use Rattle.dup_guard.specs.Notes.{last_at, number_in, stamp_in, number_of, stamp_of}
 use Rattle.tx_core.specs.declared.tx.Record.{Record}
 use Rattle.tx_core.specs.States.{empty_of, fold_of}
@@ -222,21 +222,6 @@ module _ (n : ℕ) (A : List Record) (r : Record) (next : IsNext n A r) (there :
       same (inl t) = rw (t, fresh_dot fresh is t) refl
       same (inr f) = rw (f, known_dot fresh is f) refl
 
-in_before : {X : Type 0} (x y : X) (xs : List X) → In x xs → In x (xs ++ y ∷ [])
-in_before x y [] i = absurd i
-in_before x y (z ∷ xs) (inl same) = inl same
-in_before x y (z ∷ xs) (inr i) = inr (in_before x y xs i)
-
-in_last : {X : Type 0} (x : X) (xs : List X) → In x (xs ++ x ∷ [])
-in_last x [] = inl refl
-in_last x (z ∷ xs) = inr (in_last x xs)
-
-in_either : {X : Type 0} (x y : X) (xs : List X) → In x (xs ++ y ∷ []) → In x xs ⊎ (x ≡ y)
-in_either x y [] (inl same) = inr same
-in_either x y [] (inr i) = absurd i
-in_either x y (z ∷ xs) (inl same) = inl (inl same)
-in_either x y (z ∷ xs) (inr i) = ⊎_elim (λ b. inl (inr b)) (λ s. inr s) (in_either x y xs i)
-
 count_grows : (e : ℕ) (A : List Record) (r : Record) → count e A ≤ count e (A ++ r ∷ [])
 count_grows e A r = let more = count-more e A r in omega (arith, more)
 
@@ -245,21 +230,21 @@ placed_more : (n : ℕ) (A : List Record) (r : Record) → IsNext n A r → ((e 
 placed_more n A r next placed e k low high = go (cases_lt (count e A) k) (cases_Bool (r.stamp.centre == e))
   where
     go : (count e A < k) ⊎ (k ≤ count e A) → ((r.stamp.centre == e) ≡ true) ⊎ ((r.stamp.centre == e) ≡ false) → (q : Record) × In q (A ++ r ∷ []) × (q.stamp ≡ record { centre = e; seq = k })
-    go (inr le) _ = let p = placed e k low le in (p.0, in_before p.0 r A p.1, p.2)
+    go (inr le) _ = let p = placed e k low le in (p.0, In_left A (r ∷ []) p.0 p.1, p.2)
     go (inl lt) (inl t) =
         let more : count e (A ++ r ∷ []) ≡ count e A + 1 = count-more e A r ∙ ap (λ b. count e A + cond b 1 0) t in
         let same : r.stamp.centre ≡ e = eqb-true _ _ t in
         let counts : count r.stamp.centre A ≡ count e A = ap (λ e. count e A) same in
         let seq = next.seq in
         let number : r.stamp.seq ≡ k = omega (arith, more, lt, high, counts, seq) in
-        (r, in_last r A, λ i. record { centre = same i; seq = number i })
+        (r, In_right A (r ∷ []) r (inl refl), λ i. record { centre = same i; seq = number i })
     go (inl lt) (inr f) =
         let more : count e (A ++ r ∷ []) ≡ count e A + 0 = count-more e A r ∙ ap (λ b. count e A + cond b 1 0) f in
         absurd (omega (arith, more, lt, high))
 
 -- and no other
 ranged_more : (n : ℕ) (A : List Record) (r : Record) → IsNext n A r → ((q : Record) → In q A → (1 ≤ q.stamp.centre) × (q.stamp.centre ≤ n) × (1 ≤ q.stamp.seq) × (q.stamp.seq ≤ count q.stamp.centre A)) → (q : Record) → In q (A ++ r ∷ []) → (1 ≤ q.stamp.centre) × (q.stamp.centre ≤ n) × (1 ≤ q.stamp.seq) × (q.stamp.seq ≤ count q.stamp.centre (A ++ r ∷ []))
-ranged_more n A r next ranged q i = ⊎_elim before last (in_either q r A i)
+ranged_more n A r next ranged q i = ⊎_elim before (λ here. ⊎_elim last (λ none. absurd none) here) (In_either A (r ∷ []) q i)
   where
     before : In q A → (1 ≤ q.stamp.centre) × (q.stamp.centre ≤ n) × (1 ≤ q.stamp.seq) × (q.stamp.seq ≤ count q.stamp.centre (A ++ r ∷ []))
     before b = let h = ranged q b in (h.0, h.1, h.2, (let le = h.3 in let grows = count_grows q.stamp.centre A r in omega (arith, le, grows)))

@@ -8,6 +8,8 @@ use Rattle.std.proofs.lemmas.List.Sums.{fold_push, sum_by_push}
 use Rattle.list_core.specs.Moments.{Each}
 use Rattle.list_core.specs.Members.{In}
 use Rattle.list_core.proofs.Moments.{each_none, each_more}
+use Rattle.list_core.proofs.Gets.{In_get}
+use Rattle.list_core.proofs.Moments.{take_one_more, by_moments}
 use Rattle.ids_core.specs.declared.ids.Dot.{Dot}
 use Rattle.ids_core.specs.Ids.{same_dot}
 use Rattle.ids_core.specs.Same.{same_dot-true, same_dot-same}
@@ -25,7 +27,6 @@ use Rattle.dc_talk.specs.declared.trail.Entry.{Entry}
 use Rattle.dc_talk.specs.Records.{count, vector, guard, first_stamp, joined, deps_of}
 use Rattle.dc_talk.specs.Trails.{committed_in, stamp_in, delivered_in, is_applied, stamped, received, grown, applied}
 use Rattle.dc_talk.specs.Answers.{answer, History}
-use Rattle.dc_talk.proofs.Moments.{take_one_more, by_moments, In_get}
 use Rattle.dc_talk.proofs.Inversions.{committed_in_some, stamp_in_some, delivered_in_some, is_applied_true, StampedBy, stamped_by, AppliedBy, applied_by}
 
 -- ---- the facts

@@ -9,13 +9,15 @@ use Rattle.std.proofs.lemmas.List.Sums.{fold_push, length-filter}
 use Rattle.std.proofs.lemmas.List.Elements.{filter-append}
 use Rattle.list_core.specs.Moments.{Each}
 use Rattle.list_core.specs.Members.{In}
+use Rattle.list_core.proofs.Gets.{get_within, get_in_take, get_last, In_get}
+use Rattle.list_core.proofs.Members.{In_left, In_right}
+use Rattle.list_core.proofs.Moments.{take_one_more, by_moments}
 use Rattle.vv_core.specs.declared.stamp.Stamp.{Stamp}
 use Rattle.tx_core.specs.declared.tx.Tx.{Tx}
 use Rattle.tx_core.specs.declared.tx.Record.{Record}
 use Rattle.dc_talk.specs.declared.trail.Entry.{Entry}
 use Rattle.dc_talk.specs.Records.{count, guard, own, deps_of}
 use Rattle.dc_talk.specs.Trails.{committed_in, stamp_in, delivered_in, is_applied, stamped, received, grown, applied}
-use Rattle.dc_talk.proofs.Moments.{take_one_more, by_moments, get_in_take, get_last, In_get, In_left, In_right}
 use Rattle.dc_talk.proofs.Applied.{Local, HasNumber, count_more, stamp_counted}
 
 -- ---- prefixes
@@ -174,12 +176,6 @@ own_at me n A each = whole (λ X. (j : ℕ) (r : Record) → slice_get (own me X
             append_none [] = refl
             append_none (x ∷ l) = ap (λ l. x ∷ l) (append_none l)
 
--- a place below the end has an element
-some_at : {X : Type 0} (xs : List X) (p : ℕ) → p < length xs → (x : X) × (slice_get xs p ≡ Some x)
-some_at [] p lt = absurd (omega (arith, lt))
-some_at (x ∷ xs) zero lt = (x, refl)
-some_at (x ∷ xs) (suc p) lt = some_at xs p (omega (arith, lt))
-
 -- and a record with the stamp of a number is the own record of that number
 pub own_there : (me n : ℕ) (A : List Record) → Each (Local me n) A → (k : ℕ) (r : Record) → 1 ≤ k → In r A → r.stamp ≡ record { centre = me; seq = k } → slice_get (own me A) (k - 1) ≡ Some r
 own_there me n A each k r low i is =
@@ -187,7 +183,7 @@ own_there me n A each k r low i is =
     let seq : r.stamp.seq ≡ k = ap (λ (s : Stamp). s.seq) is in
     let counts : count r.stamp.centre A ≡ count me A = ap (λ (s : Stamp). count s.centre A) is in
     let long = own_length me A in
-    let s = some_at (own me A) (k - 1) (omega (arith, low, counted, seq, counts, long)) in
+    let s = get_within (own me A) (k - 1) (omega (arith, low, counted, seq, counts, long)) in
     let h = own_at me n A each (k - 1) s.0 s.1 in
     let back : k - 1 + 1 ≡ k = omega (arith, low) in
     let stamp : s.0.stamp ≡ r.stamp = h.1 ∙ ((λ i. record { centre = me; seq = back i }) ∙ sym is) in

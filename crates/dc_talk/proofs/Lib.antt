@@ -1,4 +1,3 @@
-pub mod Moments
 pub mod Inversions
 pub mod Applied
 pub mod Growing

@@ -37,7 +37,7 @@ pub mark_cmp_total : IsTotalOrder mark_cmp
 mark_cmp_total = then_total (on_total (λ m. m.rank) nat_cmp_total) (on_total (λ m. m.id) id_cmp_total)
 
 -- two orders one after the other say equal only where both do
-both_equal : (r s : Ordering) → ordering_then r s ≡ Equal → (r ≡ Equal) × (s ≡ Equal)
+pub both_equal : (r s : Ordering) → ordering_then r s ≡ Equal → (r ≡ Equal) × (s ≡ Equal)
 both_equal Less s e = cc
 both_equal Equal s e = (refl, e)
 both_equal Greater s e = cc

@@ -1,3 +1,4 @@
+pub mod Gets
 pub mod Moments
 pub mod Members
 pub mod Permutations

@@ -1,6 +1,7 @@
--- What holds of the members of a list.
-use Rattle.std.proofs.Common.{◌≡◌, ◌⊎◌, inl, inr, Bool, true, false, cond, List, [], ◌∷◌, refl, sym, ap, ◌∙◌, subst}
+-- The members of lists, and what holds of them.
+use Rattle.std.proofs.Common.{◌≡◌, ℕ, zero, suc, ◌⊎◌, inl, inr, ⊎_elim, Bool, true, false, cond, List, [], ◌∷◌, ◌++◌, take, drop, map, refl, sym, ap, ◌∙◌, subst}
 use Rattle.std.specs.Prelude.{filter, All}
+use Rattle.std.proofs.lemmas.Bool.{false≢true}
 use Rattle.std.proofs.lemmas.List.Elements.{All-head, All-tail}
 use Rattle.list_core.specs.Members.{In}
 
@@ -16,3 +17,66 @@ filter-agree p q [] same = refl
 filter-agree p q (x ∷ xs) same =
     ap (λ b. cond b (x ∷ filter p xs) (filter p xs)) (same x (inl refl))
     ∙ ap (λ ys. cond (q x) (x ∷ ys) ys) (filter-agree p q xs (λ y i. same y (inr i)))
+
+-- a member of one of two lists is one of both together
+pub In_left : {X : Type 0} (xs ys : List X) (x : X) → In x xs → In x (xs ++ ys)
+In_left [] ys x i = absurd i
+In_left (y ∷ xs) ys x (inl same) = inl same
+In_left (y ∷ xs) ys x (inr i) = inr (In_left xs ys x i)
+
+-- so is a member of the other one
+pub In_right : {X : Type 0} (xs ys : List X) (x : X) → In x ys → In x (xs ++ ys)
+In_right [] ys x i = i
+In_right (y ∷ xs) ys x i = inr (In_right xs ys x i)
+
+-- a member of both together is one of them
+pub In_either : {X : Type 0} (xs ys : List X) (x : X) → In x (xs ++ ys) → In x xs ⊎ In x ys
+In_either [] ys x i = inr i
+In_either (y ∷ xs) ys x (inl same) = inl (inl same)
+In_either (y ∷ xs) ys x (inr i) = ⊎_elim (λ l. inl (inr l)) (λ r. inr r) (In_either xs ys x i)
+
+-- a member of a prefix is one of the list
+pub In_take : {X : Type 0} (n : ℕ) (xs : List X) (x : X) → In x (take n xs) → In x xs
+In_take zero xs x i = absurd i
+In_take (suc n) [] x i = absurd i
+In_take (suc n) (y ∷ xs) x (inl same) = inl same
+In_take (suc n) (y ∷ xs) x (inr i) = inr (In_take n xs x i)
+
+-- a member of what is left of a list is one of the list
+pub In_drop : {X : Type 0} (n : ℕ) (xs : List X) (x : X) → In x (drop n xs) → In x xs
+In_drop zero xs x i = i
+In_drop (suc n) [] x i = i
+In_drop (suc n) (y ∷ xs) x i = inr (In_drop n xs x i)
+
+-- the image of a member is a member of the images
+pub In_map : {X Y : Type 0} (f : X → Y) (xs : List X) (x : X) → In x xs → In (f x) (map f xs)
+In_map f [] x i = absurd i
+In_map f (y ∷ xs) x (inl same) = inl (ap f same)
+In_map f (y ∷ xs) x (inr i) = inr (In_map f xs x i)
+
+-- a member of the images is the image of a member
+pub In_from_map : {X Y : Type 0} (f : X → Y) (xs : List X) (y : Y) → In y (map f xs) → (x : X) × In x xs × (y ≡ f x)
+In_from_map f [] y i = absurd i
+In_from_map f (x ∷ xs) y (inl same) = (x, inl refl, same)
+In_from_map f (x ∷ xs) y (inr i) = let r = In_from_map f xs y i in (r.0, inr r.1, r.2)
+
+-- a member that passes a test is one of those that pass
+pub In_filter : {X : Type 0} (p : X → Bool) (xs : List X) (x : X) → In x xs → p x ≡ true → In x (filter p xs)
+In_filter p [] x i is = absurd i
+In_filter {X} p (y ∷ xs) x i is = by_test (λ j. In_filter p xs x j is) (p y) refl i
+  where
+    by_test : (In x xs → In x (filter p xs)) → (b : Bool) → p y ≡ b → In x (y ∷ xs) → In x (cond b (y ∷ filter p xs) (filter p xs))
+    by_test rest true here (inl same) = inl same
+    by_test rest true here (inr j) = inr (rest j)
+    by_test rest false here (inl same) = absurd (false≢true (sym here ∙ ap p (sym same) ∙ is))
+    by_test rest false here (inr j) = rest j
+
+-- one of those that pass is a member that passes
+pub In_from_filter : {X : Type 0} (p : X → Bool) (xs : List X) (x : X) → In x (filter p xs) → In x xs × (p x ≡ true)
+In_from_filter p [] x i = absurd i
+In_from_filter {X} p (y ∷ xs) x i = by_test (λ j. In_from_filter p xs x j) (p y) refl i
+  where
+    by_test : (In x (filter p xs) → In x xs × (p x ≡ true)) → (b : Bool) → p y ≡ b → In x (cond b (y ∷ filter p xs) (filter p xs)) → In x (y ∷ xs) × (p x ≡ true)
+    by_test rest true here (inl same) = (inl same, ap p same ∙ here)
+    by_test rest true here (inr j) = let r = rest j in (inr r.0, r.1)
+    by_test rest false here j = let r = rest j in (inr r.0, r.1)

@@ -18,3 +18,25 @@ get-append_last (z ∷ xs) x y (suc p) there = ⊎_elim (λ before. inl (before.
 -- one element more, of which the fact holds after the others
 pub each_more : {X : Type 0} (P : List X → X → Type 0) (xs : List X) (x : X) → Each P xs → P xs x → Each P (xs ++ x ∷ [])
 each_more P xs x each here = record { by = λ p y there. ⊎_elim (λ before. subst (λ l. P l y) (sym before.1) (each.by p y before.0)) (λ last. subst (λ l. P l y) (sym last.1) (subst (λ y. P xs y) last.0 here)) (get-append_last xs x y p there) }
+
+-- the prefix with one element more
+pub take_one_more : {X : Type 0} (xs : List X) (p : ℕ) (x : X) → slice_get xs p ≡ Some x → take (suc p) xs ≡ take p xs ++ x ∷ []
+take_one_more [] p x there = absurd (none-some x there)
+take_one_more (y ∷ xs) zero x there = ap (λ y. y ∷ []) (same_Some y x there)
+take_one_more (y ∷ xs) (suc p) x there = ap (λ l. y ∷ l) (take_one_more xs p x there)
+
+-- past the end a longer prefix is the same
+take_no_more : {X : Type 0} (xs : List X) (p : ℕ) → slice_get xs p ≡ None → take (suc p) xs ≡ take p xs
+take_no_more [] zero past = refl
+take_no_more [] (suc p) past = refl
+take_no_more (y ∷ xs) zero past = absurd (none-some y (sym past))
+take_no_more (y ∷ xs) (suc p) past = ap (λ l. y ∷ l) (take_no_more xs p past)
+
+-- what holds of no element, and goes from each prefix to the next, holds of every prefix
+pub by_moments : {X : Type 0} (P : List X → Type 0) (xs : List X) → P [] → ((p : ℕ) (x : X) → slice_get xs p ≡ Some x → P (take p xs) → P (take p xs ++ x ∷ [])) → (p : ℕ) → P (take p xs)
+by_moments P xs start step zero = start
+by_moments {X} P xs start step (suc p) = go (slice_get xs p) refl (by_moments P xs start step p)
+  where
+    go : (o : Option X) → slice_get xs p ≡ o → P (take p xs) → P (take (suc p) xs)
+    go None past h = subst P (sym (take_no_more xs p past)) h
+    go (Some x) there h = subst P (sym (take_one_more xs p x there)) (step p x there h)

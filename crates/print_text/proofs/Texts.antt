@@ -7,6 +7,7 @@ use Rattle.std.proofs.lemmas.Grind.{flat_map-append}
 use Rattle.std.proofs.lemmas.List.{map-id}
 use Rattle.std.proofs.lemmas.Option.{none-some, same_Some}
 use Rattle.list_core.specs.Members.{In}
+use Rattle.list_core.proofs.Members.{In_left, In_right}
 use Rattle.vv_core.specs.Vectors.{most}
 use Rattle.dc_talk.specs.declared.log.Note.{Note}
 use Rattle.dc_talk.specs.Logs.{Logged, Ascend}
@@ -135,19 +136,10 @@ most_least [] note i = absurd i
 most_least (other ∷ notes) note (inl same) = let here = ap (λ (n : Note). n.section) same in omega (arith, here)
 most_least (other ∷ notes) note (inr i) = let rest = most_least notes note i in omega (arith, rest)
 
-in_front : {X : Type 0} (xs ys : List X) (x : X) → In x xs → In x (xs ++ ys)
-in_front [] ys x i = absurd i
-in_front (y ∷ xs) ys x (inl same) = inl same
-in_front (y ∷ xs) ys x (inr i) = inr (in_front xs ys x i)
-
-behind : {X : Type 0} (xs ys : List X) (x : X) → In x ys → In x (xs ++ ys)
-behind [] ys x i = i
-behind (y ∷ xs) ys x i = inr (behind xs ys x i)
-
 given_In : (logs : List Logged) (place : ℕ) (log : Logged) (note : Note) → slice_get logs place ≡ Some log → In note log.notes → In note (flat_map (λ log. log.notes) logs)
 given_In [] place log note there i = absurd (none-some log there)
-given_In (other ∷ logs) zero log note there i = in_front other.notes (flat_map (λ log. log.notes) logs) note (subst (λ (l : Logged). In note l.notes) (sym (same_Some other log there)) i)
-given_In (other ∷ logs) (suc place) log note there i = behind other.notes (flat_map (λ log. log.notes) logs) note (given_In logs place log note there i)
+given_In (other ∷ logs) zero log note there i = In_left other.notes (flat_map (λ log. log.notes) logs) note (subst (λ (l : Logged). In note l.notes) (sym (same_Some other log there)) i)
+given_In (other ∷ logs) (suc place) log note there i = In_right other.notes (flat_map (λ log. log.notes) logs) note (given_In logs place log note there i)
 
 -- the section of each note of a log is within the greatest
 pub section_within : (logs : List Logged) (place : ℕ) (log : Logged) (note : Note) → slice_get logs place ≡ Some log → In note log.notes → note.section ≤ last_section logs

@@ -3,9 +3,9 @@ use Rattle.std.proofs.Common.{◌≡◌, ℕ, zero, suc, ◌+◌, ◌-◌, ◌�
 use Rattle.std.specs.Prelude.{slice_get}
 use Rattle.std.proofs.lemmas.Option.{slice_get_within}
 use Rattle.list_core.specs.Members.{In}
+use Rattle.list_core.proofs.Gets.{get_within, get_In, In_get}
 use Rattle.ids_core.specs.declared.ids.Dot.{Dot}
 use Rattle.run_book.specs.Nodes.{Node, Within, Closed, WellMade}
-use Rattle.dc_talk.proofs.Moments.{get_In, In_get}
 use Rattle.run_book.proofs.Numbered.{Numbered, numbered_at}
 use Rattle.run_book.proofs.Held.{dot_at}
 use Rattle.run_book.proofs.Dots.{IsOwn, own_grows}
@@ -20,12 +20,6 @@ pub record IsChain (client : ℕ) (nodes : List Node) : Type 0 where
   pub dots : Numbered (λ t. t.dot) (dot_at client) 1 nodes
   pub deps : (p : ℕ) (t : Node) → slice_get nodes p ≡ Some t → AreFirst client p t.deps
   pub ranks : (p q : ℕ) (t u : Node) → p < q → slice_get nodes p ≡ Some t → slice_get nodes q ≡ Some u → t.rank < u.rank
-
--- an element at each place within a list
-get_within : {X : Type 0} (xs : List X) (p : ℕ) → p < length xs → (x : X) × (slice_get xs p ≡ Some x)
-get_within [] p lt = absurd (omega arith)
-get_within (x ∷ xs) zero lt = (x, refl)
-get_within (x ∷ xs) (suc p) lt = get_within xs p (omega arith)
 
 module _ (client : ℕ) (nodes : List Node) (chain : IsChain client nodes) where
   -- the dot of the node at a place

@@ -6,6 +6,8 @@ use Rattle.std.proofs.lemmas.Option.{slice_get_within}
 use Rattle.std.proofs.lemmas.List.{map_push, length-append}
 use Rattle.std.proofs.lemmas.List.Sums.{fold_push}
 use Rattle.list_core.specs.Members.{In}
+use Rattle.list_core.proofs.Gets.{In_get}
+use Rattle.list_core.proofs.Moments.{take_one_more, by_moments}
 use Rattle.ids_core.specs.declared.ids.Dot.{Dot}
 use Rattle.vv_core.specs.declared.stamp.Stamp.{Stamp}
 use Rattle.vv_core.proofs.Reaching.{count_by-cons}
@@ -17,7 +19,6 @@ use Rattle.dc_talk.specs.declared.trail.Entry.{Entry}
 use Rattle.dc_talk.specs.Records.{count, guard, deps_of}
 use Rattle.dc_talk.specs.Trails.{committed_in, stamp_in, delivered_in, is_applied, stamped, received, grown, applied}
 use Rattle.dc_talk.specs.Answers.{answer, History}
-use Rattle.dc_talk.proofs.Moments.{by_moments, take_one_more, In_get}
 use Rattle.run_book.proofs.Numbered.{Numbered, numbered_more, numbered_at}
 use Rattle.dc_talk.proofs.Inversions.{committed_in_some, stamp_in_some, StampedBy, stamped_by, applied_by, delivered_in_some, is_applied_true}
 use Rattle.run_book.proofs.Held.{dot_at}

@@ -5,21 +5,19 @@ use Rattle.std.proofs.lemmas.Bool.{and_parts, leb-true, le-leb, eq-eqb, eqb-true
 use Rattle.std.proofs.lemmas.List.{length-take, take-map, take-take}
 use Rattle.std.proofs.lemmas.List.Folds.{flat_map-map}
 use Rattle.list_core.specs.Members.{In}
-use Rattle.list_core.proofs.Members.{filter-agree}
+use Rattle.list_core.proofs.Gets.{In_get}
+use Rattle.list_core.proofs.Members.{In_map, In_from_map, In_filter, In_from_filter, filter-agree}
 use Rattle.ids_core.specs.declared.ids.Dot.{Dot}
 use Rattle.ids_core.specs.Ids.{same_dot}
 use Rattle.ids_core.specs.Same.{same_dot-true}
 use Rattle.ids_core.specs.declared.object.ObjectId.{ObjectId}
 use Rattle.vv_core.specs.declared.stamp.Stamp.{Stamp}
 use Rattle.vv_core.specs.Vectors.{at, within}
-use Rattle.vv_core.proofs.Reaching.{In_filter, In_from_filter}
 use Rattle.tx_core.specs.declared.tx.Tx.{Tx}
 use Rattle.tx_core.specs.declared.tx.Record.{Record}
 use Rattle.tx_core.specs.States.{empty_of, fold_of}
 use Rattle.dc_talk.specs.Records.{own, has, inside, mine, firsts, firsts_past}
 use Rattle.dc_talk.specs.Objects.{ops_of, state_at}
-use Rattle.dc_talk.proofs.Moments.{In_get}
-use Rattle.run_book.proofs.Lists.{In_map, In_from_map}
 use Rattle.run_book.proofs.Numbered.{Numbered, numbered_In, numbered_at, numbered_take, numbered_after, filter_numbered}
 use Rattle.run_book.proofs.Held.{dot_at}
 use Rattle.run_book.proofs.Dots.{has_is, mine_numbered}

@@ -4,12 +4,12 @@ use Rattle.std.specs.Prelude.{◌==◌}
 use Rattle.std.specs.List.{range_with_len}
 use Rattle.std.proofs.lemmas.Bool.{cases_lt, or_cases, or_left, or_right, eq-eqb, false≢true, false_from_ne_true}
 use Rattle.list_core.specs.Members.{In}
+use Rattle.list_core.proofs.Members.{In_map, In_from_map}
 use Rattle.ids_core.specs.declared.ids.Dot.{Dot}
 use Rattle.ids_core.specs.Ids.{same_dot}
 use Rattle.ids_core.specs.Same.{same_dot-true, same_dot-same}
 use Rattle.dc_talk.specs.Records.{has, mine}
 use Rattle.run_book.specs.Graphs.{own_dots}
-use Rattle.run_book.proofs.Lists.{In_from_map, In_map}
 use Rattle.run_book.proofs.Numbered.{Numbered}
 use Rattle.run_book.proofs.Held.{dot_at}
 

@@ -5,6 +5,8 @@ use Rattle.std.specs.List.{cons_option}
 use Rattle.std.proofs.lemmas.Bool.{eqb-true, eq-eqb, ne_eqb}
 use Rattle.std.proofs.lemmas.Option.{none-some, same_Some, slice_get_within, get_or_from_slice_get}
 use Rattle.list_core.specs.Members.{In}
+use Rattle.list_core.proofs.Gets.{get_In, all_get}
+use Rattle.list_core.proofs.Members.{In_drop}
 use Rattle.ids_core.specs.declared.ids.Dot.{Dot}
 use Rattle.tx_core.specs.declared.tx.Tx.{Tx}
 use Rattle.tx_core.specs.declared.tx.Record.{Record}
@@ -25,13 +27,8 @@ use Rattle.script_text.specs.Steps.{IsStepOf}
 use Rattle.run_book.specs.Parts.{exchange, exchanged_in, exchanged, entries_by}
 use Rattle.run_book.specs.Fit.{news_in}
 use Rattle.run_book.specs.Together.{Happened, notes_by, entry_of, entry_in, entries_in, IsNear, IsOfStep}
-use Rattle.dc_talk.proofs.Moments.{get_In}
 use Rattle.run_book.proofs.Numbered.{numbered_In}
 use Rattle.run_book.proofs.Held.{Held, dot_at, held_after}
-
--- what holds of each element holds of the one at a place
-pub all_get : {X : Type 0} (P : X → Type 0) (xs : List X) (p : ℕ) (x : X) → All P xs → slice_get xs p ≡ Some x → P x
-all_get P xs p x all there = subst P (get_or_from_slice_get xs p x x there) (all p x (slice_get_within xs p x there))
 
 -- ---- notes
 
@@ -192,12 +189,6 @@ heard_gives s before i ask say allowed =
     allowed
 
 -- ---- commits
-
--- a member of what is left of a list is one of the list
-In_drop : {X : Type 0} (n : ℕ) (xs : List X) (x : X) → In x (drop n xs) → In x xs
-In_drop zero xs x i = i
-In_drop (suc n) [] x i = i
-In_drop (suc n) (y ∷ xs) x i = inr (In_drop n xs x i)
 
 -- the transaction is one of a client's
 pub record IsOf (client : ℕ) (C : List Tx) (tx : Tx) : Type 0 where

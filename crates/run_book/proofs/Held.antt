@@ -5,6 +5,8 @@ use Rattle.std.proofs.lemmas.Bool.{and_parts, leb-true, eqb-true}
 use Rattle.std.proofs.lemmas.Option.{none-some, same_Some}
 use Rattle.std.proofs.lemmas.List.{append-nil, drop-drop, drop-append-le, length-append}
 use Rattle.std.proofs.lemmas.List.Sums.{fold_push}
+use Rattle.list_core.proofs.Gets.{get_last}
+use Rattle.list_core.proofs.Moments.{by_moments}
 use Rattle.ids_core.specs.declared.ids.Dot.{Dot}
 use Rattle.ids_core.specs.declared.object.ObjectId.{ObjectId}
 use Rattle.tx_core.specs.declared.tx.Update.{Update}
@@ -28,7 +30,6 @@ use Rattle.dc_talk.specs.declared.log.Note.{Note}
 use Rattle.dc_talk.specs.Clients.{Client, new_client, next_tx, next_dot, draft_updates}
 use Rattle.dc_talk.specs.Calls.{most_rank, op_of, over, looked_up, outcome_of, did, committed}
 use Rattle.dc_talk.specs.Rule.{after, heard, takes, taken, is_linked, can_follow, client_after, commit_in, commits_of, Allows, Follows}
-use Rattle.dc_talk.proofs.Moments.{by_moments, get_last}
 use Rattle.run_book.proofs.Numbered.{Numbered, numbered_more}
 use Rattle.run_book.proofs.Sessions.{IsModest, modest_none, modest_more, begin_fine, ChangeFine, change_fine, commit_number, CanFollow, can_follow-true, commits_of_more, small_delta}
 

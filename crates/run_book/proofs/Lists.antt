@@ -5,25 +5,6 @@ use Rattle.std.specs.List.{filter_map}
 use Rattle.std.proofs.lemmas.List.Elements.{filter_map-append}
 use Rattle.list_core.specs.Members.{In}
 
--- a member of a prefix is one of the list
-pub In_take : {X : Type 0} (n : ℕ) (xs : List X) (x : X) → In x (take n xs) → In x xs
-In_take zero xs x i = absurd i
-In_take (suc n) [] x i = absurd i
-In_take (suc n) (y ∷ xs) x (inl same) = inl same
-In_take (suc n) (y ∷ xs) x (inr i) = inr (In_take n xs x i)
-
--- the image of a member is a member of the images
-pub In_map : {X Y : Type 0} (f : X → Y) (xs : List X) (x : X) → In x xs → In (f x) (map f xs)
-In_map f [] x i = absurd i
-In_map f (y ∷ xs) x (inl same) = inl (ap f same)
-In_map f (y ∷ xs) x (inr i) = inr (In_map f xs x i)
-
--- a member of the images is the image of a member
-pub In_from_map : {X Y : Type 0} (f : X → Y) (xs : List X) (y : Y) → In y (map f xs) → (x : X) × In x xs × (y ≡ f x)
-In_from_map f [] y i = absurd i
-In_from_map f (x ∷ xs) y (inl same) = (x, inl refl, same)
-In_from_map f (x ∷ xs) y (inr i) = let r = In_from_map f xs y i in (r.0, inr r.1, r.2)
-
 -- one test on the images is a test on the elements
 pub filter-map : {X Y : Type 0} (p : Y → Bool) (f : X → Y) (xs : List X) → filter p (map f xs) ≡ map f (filter (λ x. p (f x)) xs)
 filter-map p f [] = refl

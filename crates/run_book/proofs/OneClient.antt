@@ -4,6 +4,7 @@ use Rattle.std.specs.Prelude.{slice_get, flat_map}
 use Rattle.std.proofs.lemmas.Option.{none-some, same_Some}
 use Rattle.std.proofs.lemmas.List.{append-nil, length-take, take_all}
 use Rattle.list_core.specs.Members.{In}
+use Rattle.list_core.proofs.Members.{In_right, In_either, In_from_map}
 use Rattle.ids_core.specs.declared.ids.Dot.{Dot}
 use Rattle.vv_core.specs.Vectors.{at, centres}
 use Rattle.tx_core.specs.declared.tx.Tx.{Tx}
@@ -23,8 +24,6 @@ use Rattle.run_book.specs.Parts.{trail_of, notes_of, IsClient}
 use Rattle.run_book.specs.Fit.{FitsWith}
 use Rattle.run_book.specs.Nodes.{Node}
 use Rattle.run_book.specs.Graphs.{own_list, cover, own_dots, node_of, graph, client_at, basis_at}
-use Rattle.dc_talk.proofs.Moments.{In_right, In_either}
-use Rattle.run_book.proofs.Lists.{In_from_map}
 use Rattle.run_book.proofs.Numbered.{Numbered, numbered_at, numbered_In, numbered_take, map_numbered}
 use Rattle.run_book.proofs.Held.{Held, dot_at, held_after}
 use Rattle.run_book.proofs.Pairing.{entry_committed, heard_answered}

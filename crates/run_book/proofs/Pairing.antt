@@ -5,6 +5,7 @@ use Rattle.std.specs.List.{filter_map, cons_option}
 use Rattle.std.proofs.lemmas.Bool.{eqb-true, eq-eqb}
 use Rattle.std.proofs.lemmas.Option.{none-some, same_Some, cond_some, some_pair_parts}
 use Rattle.list_core.specs.Members.{In}
+use Rattle.list_core.proofs.Members.{In_left}
 use Rattle.tx_core.specs.declared.tx.Tx.{Tx}
 use Rattle.dc_talk.specs.declared.ask.Ask.{Ask}
 use Rattle.dc_talk.specs.declared.ask.Ask.TheVariants.{Commit}
@@ -20,7 +21,6 @@ use Rattle.dc_talk.specs.Rule.{commits_of}
 use Rattle.run_book.specs.declared.book.Book.{Book}
 use Rattle.run_book.specs.Parts.{trail_of, notes_of, answered, exchange, exchanged_in, entry_by, IsClient}
 use Rattle.run_book.specs.Fit.{FitsWith}
-use Rattle.dc_talk.proofs.Moments.{In_left}
 use Rattle.run_book.proofs.Sessions.{commits_of_prefix}
 
 -- ---- two filters that give one list

@@ -8,6 +8,7 @@ use Rattle.std.proofs.lemmas.Option.{none-some, same_Some}
 use Rattle.std.specs.Cmp.Lexicographic.{pointwise_decides}
 use Rattle.list_core.specs.Members.{In}
 use Rattle.list_core.specs.Firsts.{first_that, without_first, in_front, brought_forward}
+use Rattle.list_core.proofs.Members.{In_take}
 use Rattle.ids_core.specs.declared.object.ObjectId.{ObjectId}
 use Rattle.ids_core.specs.Ids.{same_object}
 use Rattle.ids_core.specs.Same.{same_object-true}
@@ -21,7 +22,6 @@ use Rattle.dc_talk.specs.Records.{vector}
 use Rattle.dc_talk.specs.Trails.{applied, rows, stable}
 use Rattle.dc_talk.specs.Clients.{Client, same_vector, is_entry, cached, kept, promoted}
 use Rattle.dc_talk.specs.Calls.{named, looked_up}
-use Rattle.run_book.proofs.Lists.{In_take}
 use Rattle.dc_talk.proofs.Inversions.{SnapBy}
 
 -- ---- a snapshot

@@ -6,6 +6,8 @@ use Rattle.std.proofs.lemmas.Option.{none-some}
 use Rattle.std.proofs.lemmas.List.{append-nil}
 use Rattle.std.proofs.lemmas.List.Sums.{fold_push}
 use Rattle.list_core.specs.Members.{In}
+use Rattle.list_core.proofs.Gets.{get_last}
+use Rattle.list_core.proofs.Moments.{by_moments}
 use Rattle.ids_core.specs.declared.object.ObjectId.{ObjectId}
 use Rattle.vv_core.specs.Vectors.{at, Covers}
 use Rattle.vv_core.proofs.Covering.{covers-true}
@@ -36,7 +38,6 @@ use Rattle.dc_talk.specs.Answers.{answer}
 use Rattle.dc_talk.specs.Clients.{Client, new_client, next_tx, draft_updates}
 use Rattle.dc_talk.specs.Calls.{did}
 use Rattle.dc_talk.specs.Rule.{after, heard, takes, taken, is_linked, can_follow, client_after, commit_in, commits_of, Follows}
-use Rattle.dc_talk.proofs.Moments.{by_moments, get_last}
 use Rattle.dc_talk.proofs.Inversions.{snap_by, object_by}
 use Rattle.run_book.proofs.Sessions.{can_follow-true, commits_of_more}
 use Rattle.run_book.proofs.Held.{Held, held_after}

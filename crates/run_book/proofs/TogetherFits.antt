@@ -3,6 +3,7 @@ use Rattle.std.proofs.Common.{◌≡◌, ℕ, zero, suc, ◌+◌, ◌-◌, ◌�
 use Rattle.std.specs.Prelude.{slice_get, slice_index_or}
 use Rattle.std.proofs.lemmas.Option.{none-some}
 use Rattle.list_core.specs.Members.{In}
+use Rattle.list_core.proofs.Gets.{get_In, In_get}
 use Rattle.list_core.proofs.Members.{All-In}
 use Rattle.tx_core.specs.declared.tx.Tx.{Tx}
 use Rattle.dc_talk.specs.declared.log.Note.{Note}
@@ -15,7 +16,6 @@ use Rattle.run_book.specs.declared.book.Book.{Book}
 use Rattle.run_book.specs.Parts.{trail_of, notes_of, entries_by, exchanged, IsClient}
 use Rattle.run_book.specs.Fit.{InForm, IsOwnCommit, FitsWith}
 use Rattle.run_book.specs.Together.{Happened, notes_by, entries_in, IsNear, IsOfStep, AreTogether, IsBookOf}
-use Rattle.dc_talk.proofs.Moments.{get_In, In_get}
 use Rattle.run_book.proofs.Happened.{HappenedTo, noted_In, actor_within, entered_In, caller_of, paired_all, asked_near, own_commit, noted_by, asked_for, gives_no_item, gives_no_news, heard_gives}
 
 module _ (clients limit capacity : ℕ) (steps : List Step) (all : List Happened) (b : Book) (t : AreTogether clients limit capacity steps all) (is : IsBookOf b clients all) where

@@ -3,6 +3,7 @@ use Rattle.std.proofs.Common.{◌≡◌, ◌≢◌, ℕ, ◌+◌, ◌≤◌, inr
 use Rattle.std.specs.Prelude.{slice_get, is_some}
 use Rattle.std.proofs.lemmas.Option.{same_Some}
 use Rattle.std.proofs.lemmas.List.Elements.{All-filter}
+use Rattle.list_core.proofs.Gets.{all_get}
 use Rattle.list_core.proofs.Members.{All-In}
 use Rattle.dc_talk.specs.declared.ask.Ask.{Ask}
 use Rattle.dc_talk.specs.declared.say.Say.{Say}
@@ -18,7 +19,7 @@ use Rattle.run_book.specs.declared.book.Book.{Book}
 use Rattle.run_book.specs.Parts.{trail_of, notes_of, reached, entries_by}
 use Rattle.run_book.specs.Scripted.{Plays, placed_from, steps_of, turn, ComesBefore, TwoEntries, HasSteps}
 use Rattle.run_book.specs.Together.{Happened, notes_by, entry_in, entries_in, IsOfStep, AreTogether, IsBookOf}
-use Rattle.run_book.proofs.Happened.{all_get, noted_none, actor_within, caller_of, asked_near}
+use Rattle.run_book.proofs.Happened.{noted_none, actor_within, caller_of, asked_near}
 use Rattle.run_book.proofs.Reached.{sources, source_at, noted_at, sources_ascend, ascend_at}
 use Rattle.run_book.proofs.TogetherFits.{trail_there, trail_is, noted_near}
 

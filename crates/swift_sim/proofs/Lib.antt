@@ -1,9 +1,2 @@
-pub mod Growing
-pub mod Taking
-pub mod Leaving
-pub mod Flushing
-pub mod Near
-pub mod Seating
-pub mod Sharing
 pub mod Pieces
 pub mod Owing

@@ -3,15 +3,12 @@ use Rattle.std.specs.Prelude.{◌≡◌, ◌≢◌, ◌⊎◌, ℕ, ◌+◌, Lis
 use Rattle.std.specs.String.{string_bytes}
 use Rattle.std.specs.Global.{Global}
 use Rattle.std.specs.Prelude.{String}
-use Rattle.dc_talk.specs.Logs.{Logged}
 use Rattle.script_text.specs.declared.script.Script.{Script}
-use Rattle.script_text.specs.declared.steps.Step.{Step}
 use Rattle.script_text.specs.Scripts.{IsScript}
 use Rattle.run_book.specs.declared.book.Book.{Book}
 use Rattle.run_book.specs.Fit.{FitsWith}
 use Rattle.run_book.specs.Scripted.{HasSteps}
 use Rattle.run_book.specs.Graphs.{IsCausal, FirstSums}
-use Rattle.run_book.specs.Together.{Happened, AreTogether, IsBookOf, idle_log}
 use Rattle.print_text.specs.Text.{text_of}
 use Rattle.io_edge.specs.Streams.{TookFront, puts_behind}
 
@@ -52,18 +49,6 @@ pub record IsRunOf (script : Script) (book : Book) : Type 0 where
 pub record IsBelievable (script : Script) (book : Book) : Type 0 where
   pub causal : IsCausal book script.clients script.cache
   pub first : FirstSums book script.clients script.cache
-
--- the logs of the operator, of so many clients, and of the centre's four workers, of which those of the
--- clients are given
-abbrev pub logs_beside : ℕ → List Logged → List Logged
-logs_beside clients logs = idle_log 1 ∷ (logs ++ (idle_log (clients + 2) ∷ (idle_log (clients + 3) ∷ (idle_log (clients + 4) ∷ (idle_log (clients + 5) ∷ [])))))
-
--- the book of so many clients that took these steps beside one centre, and its text
-pub record IsSharedRun (clients limit capacity : ℕ) (steps : List Step) (book : Book) (text : List ℕ) : Type 0 where
-  pub all : List Happened
-  pub together : AreTogether clients limit capacity steps all
-  pub book_is : IsBookOf book clients all
-  pub text_is : text ≡ text_of book.logs
 
 -- the bytes are a script, the book is one of its run, which can be believed where there is one client,
 -- and the text is that of the book

@@ -1,13 +1,8 @@
 //! SwiftCloud in one process: plays a script of client steps, and writes what the client sees.
 #![tactic(auto)]
 
-mod calls;
 mod engine;
-mod lines;
-mod purpose;
-mod seat;
 mod stream;
-mod table;
 #[cfg(test)]
 mod tests;
 mod top;

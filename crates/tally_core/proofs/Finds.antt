@@ -55,19 +55,9 @@ greatest {X} less irr tra (y ∷ []) x i = (y, inl refl, alone)
 greatest less irr tra (y ∷ (z ∷ zs)) x i =
     let g = greatest less irr tra (z ∷ zs) z (inl refl) in greatest_more less irr tra y (z ∷ zs) g.0 g.1 g.2
 
-pub in_filter : {X : Type 0} (p : X → Bool) (xs : List X) (x : X) → In x xs → p x ≡ true → In x (filter p xs)
-in_filter p [] x i h = absurd i
-in_filter {X} p (y ∷ xs) x i h = at (λ j. in_filter p xs x j h) (p y) refl i
-  where
-    at : (In x xs → In x (filter p xs)) → (b : Bool) → p y ≡ b → In x (y ∷ xs) → In x (cond b (y ∷ filter p xs) (filter p xs))
-    at rest true e (inl s) = inl s
-    at rest true e (inr j) = inr (rest j)
-    at rest false e (inl s) = absurd (false≢true (sym e ∙ ap p (sym s) ∙ h))
-    at rest false e (inr j) = rest j
-
-pub from_filter : {X : Type 0} (p : X → Bool) (xs : List X) (x : X) → In x (filter p xs) → In x xs × (p x ≡ true)
-from_filter p [] x i = absurd i
-from_filter {X} p (y ∷ xs) x i = at (λ j. from_filter p xs x j) (p y) refl i
+pub In_from_filter : {X : Type 0} (p : X → Bool) (xs : List X) (x : X) → In x (filter p xs) → In x xs × (p x ≡ true)
+In_from_filter p [] x i = absurd i
+In_from_filter {X} p (y ∷ xs) x i = at (λ j. In_from_filter p xs x j) (p y) refl i
   where
     at : (In x (filter p xs) → In x xs × (p x ≡ true)) → (b : Bool) → p y ≡ b → In x (cond b (y ∷ filter p xs) (filter p xs)) → In x (y ∷ xs) × (p x ≡ true)
     at rest true e (inl s) = (inl s, ap p s ∙ e)

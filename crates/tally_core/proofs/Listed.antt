@@ -13,6 +13,7 @@ use Rattle.std.specs.FinMap.{entries, get}
 use Rattle.std.proofs.lemmas.Bool.{cases_Bool, and_parts, and_from, false≢true}
 use Rattle.std.proofs.lemmas.Option.{none-some, same_Some}
 use Rattle.list_core.specs.Members.{In}
+use Rattle.list_core.proofs.Members.{In_map, In_from_map, In_filter, In_from_filter}
 use Rattle.ids_core.specs.declared.ids.OpId.{OpId}
 use Rattle.ids_core.specs.Ascending.{ascends, ascends_from}
 use Rattle.ids_core.specs.Orders.{name_cmp, name_cmp_total, name_cmp_same, id_cmp}
@@ -24,15 +25,6 @@ use Rattle.tally_core.specs.Live.{is_live, under, live_in, live_ids, kept_in, ke
 use Rattle.tally_core.proofs.Places.{place_cmp_total, place_cmp_same}
 use Rattle.tally_core.proofs.Sparse.{is_same, all_kept, sorted_kept, sorted_keys}
 use Rattle.tally_core.proofs.Entries.{get_in, in_get}
-use Rattle.tally_core.proofs.Finds.{in_filter, from_filter}
-
-in_map : {A B : Type 0} (f : A → B) (xs : List A) (x : A) → In x xs → In (f x) (map f xs)
-in_map f [] x i = absurd i
-in_map f (y ∷ xs) x i = ⊎_elim (λ e. inl (ap f e)) (λ j. inr (in_map f xs x j)) i
-
-from_map : {A B : Type 0} (f : A → B) (xs : List A) (y : B) → In y (map f xs) → (x : A) × In x xs × (y ≡ f x)
-from_map f [] y i = absurd i
-from_map f (x ∷ xs) y i = ⊎_elim (λ e. (x, inl refl, e)) (λ j. let r = from_map f xs y j in (r.0, inr r.1, r.2)) i
 
 same_itself : (name : List ℕ) → same_name name name ≡ true
 same_itself name = ap is_eq (tied_itself name_cmp_total name)
@@ -108,16 +100,16 @@ module _ {P : Type 0} where
     where
       to : In id (live_ids m name) → is_live (cell_at m (place name id)) ≡ true
       to i =
-          let r = from_map (λ e. e.0.id) (filter (λ e. is_live e.1) (under name (entries m))) id i in
-          let live = from_filter (λ e. is_live e.1) (under name (entries m)) r.0 r.1 in
-          let named = from_filter (λ e. same_name e.0.name name) (entries m) r.0 live.0 in
+          let r = In_from_map (λ e. e.0.id) (filter (λ e. is_live e.1) (under name (entries m))) id i in
+          let live = In_from_filter (λ e. is_live e.1) (under name (entries m)) r.0 r.1 in
+          let named = In_from_filter (λ e. same_name e.0.name name) (entries m) r.0 live.0 in
           let same = place_is r.0.0 name id (is_same name_cmp_same r.0.0.name name named.1) r.2 in
           ap (λ p. is_live (cell_at m p)) (sym same) ∙ (ap is_live (at_entry m r.0 named.0) ∙ live.1)
 
       from : is_live (cell_at m (place name id)) ≡ true → In id (live_ids m name)
       from h = ⊎_elim (λ n. absurd (false≢true (ap is_live (sym n) ∙ h))) (λ i.
           let e : Place × Cell P = (place name id, cell_at m (place name id)) in
-          in_map (λ e. e.0.id) _ e (in_filter (λ e. is_live e.1) (under name (entries m)) e (in_filter (λ e. same_name e.0.name name) (entries m) e i (same_itself name)) h)) (entry_at m (place name id))
+          In_map (λ e. e.0.id) _ e (In_filter (λ e. is_live e.1) (under name (entries m)) e (In_filter (λ e. same_name e.0.name name) (entries m) e i (same_itself name)) h)) (entry_at m (place name id))
 
   in_kept : (es : List (Place × Cell P)) (e : Place × Cell P) (p : P) → In e es → e.1.kept ≡ Some p → In (e.0.id, p) (kept_in es)
   in_kept [] e p i h = absurd i
@@ -147,14 +139,14 @@ module _ {P : Type 0} where
       to : In (id, p) (kept_at m name) → (cell_at m (place name id)).kept ≡ Some p
       to i =
           let r = from_kept (under name (entries m)) id p i in
-          let named = from_filter (λ e. same_name e.0.name name) (entries m) r.0 r.1 in
+          let named = In_from_filter (λ e. same_name e.0.name name) (entries m) r.0 r.1 in
           let same = place_is r.0.0 name id (is_same name_cmp_same r.0.0.name name named.1) r.2 in
           ap (λ p. (cell_at m p).kept) (sym same) ∙ (ap (λ c. c.kept) (at_entry m r.0 named.0) ∙ r.3)
 
       from : (cell_at m (place name id)).kept ≡ Some p → In (id, p) (kept_at m name)
       from h = ⊎_elim (λ n. absurd (none-some p (ap (λ c. c.kept) (sym n) ∙ h))) (λ i.
           let e : Place × Cell P = (place name id, cell_at m (place name id)) in
-          in_kept (under name (entries m)) e p (in_filter (λ e. same_name e.0.name name) (entries m) e i (same_itself name)) h) (entry_at m (place name id))
+          in_kept (under name (entries m)) e p (In_filter (λ e. same_name e.0.name name) (entries m) e i (same_itself name)) h) (entry_at m (place name id))
 
   -- the names that are given out are those of live entries
   from_names : (last : Option (List ℕ)) (es : List (Place × Cell P)) (name : List ℕ) → In name (names_after last es) → (e : Place × Cell P) × In e es × (e.0.name ≡ name) × (is_live e.1 ≡ true)

@@ -6,16 +6,11 @@ use Rattle.std.specs.Ordering.{ordering_then}
 use Rattle.std.specs.declared.cmp.Ordering.{Ordering}
 use Rattle.std.specs.declared.cmp.Ordering.TheVariants.{Less, Equal, Greater}
 use Rattle.std.proofs.lemmas.Cmp.{then_total, on_total}
-use Rattle.ids_core.specs.Orders.{name_cmp, name_cmp_total, name_cmp_same, id_cmp, id_cmp_total, id_cmp_same}
+use Rattle.ids_core.specs.Orders.{both_equal, name_cmp, name_cmp_total, name_cmp_same, id_cmp, id_cmp_total, id_cmp_same}
 use Rattle.tally_core.specs.Places.{place_cmp}
 
 pub place_cmp_total : IsTotalOrder place_cmp
 place_cmp_total = then_total (on_total (λ p. p.name) name_cmp_total) (on_total (λ p. p.id) id_cmp_total)
-
-both_equal : (r s : Ordering) → ordering_then r s ≡ Equal → (r ≡ Equal) × (s ≡ Equal)
-both_equal Less s e = cc
-both_equal Equal s e = (refl, e)
-both_equal Greater s e = cc
 
 pub place_cmp_same : IsAntisymmetric place_cmp
 place_cmp_same x y e =

@@ -3,8 +3,9 @@ use Rattle.std.proofs.Common.{◌≡◌, Bool, true, false, ◌&&◌, ◌⊎◌,
 use Rattle.std.specs.Prelude.{filter}
 use Rattle.std.proofs.lemmas.Bool.{cases_Bool, and_parts, and_from, not-true, not_from_false, false≢true}
 use Rattle.list_core.specs.Members.{In}
+use Rattle.list_core.proofs.Members.{In_filter, In_from_filter}
 use Rattle.tally_core.specs.Sees.{any, Tagged, live, unseen, IsGreatest, TagsEqualSees}
-use Rattle.tally_core.proofs.Finds.{any_true, any_false, any_from, greatest, in_filter, from_filter}
+use Rattle.tally_core.proofs.Finds.{any_true, any_false, any_from, greatest}
 
 not_true_is : (b : Bool) → (b ≡ true → ⊥) → b ≡ false
 not_true_is true h = absurd (h refl)
@@ -72,25 +73,25 @@ module _ {X : Type 0} (acts : List X) (adds kills : X → Bool) (over sees less 
   above test p i h = at (cases_Bool (any (less p) (filter test acts)))
     where
       passing : (x : X) → In x (filter test acts) → In x acts × (test x ≡ true)
-      passing x j = from_filter test acts x j
+      passing x j = In_from_filter test acts x j
 
       at : (any (less p) (filter test acts) ≡ true) ⊎ (any (less p) (filter test acts) ≡ false) → Above test p
       at (inr none) = record {
         top = p;
-        greatest = record { there = i; passes = h; above = λ q j k. any_false (less p) (filter test acts) q none (in_filter test acts q j k) };
+        greatest = record { there = i; passes = h; above = λ q j k. any_false (less p) (filter test acts) q none (In_filter test acts q j k) };
         from = inl refl;
       }
       at (inl some) =
           let r = any_true (less p) (filter test acts) some in
-          let g = greatest less t.irreflexive t.transitive (filter (less p) (filter test acts)) r.0 (in_filter (less p) (filter test acts) r.0 r.1 r.2) in
-          let gi = from_filter (less p) (filter test acts) g.0 g.1 in
+          let g = greatest less t.irreflexive t.transitive (filter (less p) (filter test acts)) r.0 (In_filter (less p) (filter test acts) r.0 r.1 r.2) in
+          let gi = In_from_filter (less p) (filter test acts) g.0 g.1 in
           let there = passing g.0 gi.0 in
           record {
             top = g.0;
             greatest = record {
               there = there.0;
               passes = there.1;
-              above = λ q j k. not_true_is _ (λ e. false≢true (sym (g.2 q (in_filter (less p) (filter test acts) q (in_filter test acts q j k) (t.transitive p g.0 q gi.1 e))) ∙ e));
+              above = λ q j k. not_true_is _ (λ e. false≢true (sym (g.2 q (In_filter (less p) (filter test acts) q (In_filter test acts q j k) (t.transitive p g.0 q gi.1 e))) ∙ e));
             };
             from = inr gi.1;
           }

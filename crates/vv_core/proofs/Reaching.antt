@@ -5,7 +5,7 @@ use Rattle.std.proofs.lemmas.Bool.{cases_lt, leb-true, le-leb, false≢true}
 use Rattle.std.proofs.lemmas.List.Sums.{sum_by-cons}
 use Rattle.std.proofs.lemmas.List.Elements.{All-head, All-tail}
 use Rattle.list_core.specs.Members.{In}
-use Rattle.list_core.proofs.Members.{All-In}
+use Rattle.list_core.proofs.Members.{In_filter, In_from_filter}
 use Rattle.vv_core.specs.Vectors.{at, most, reach, kth_of, column}
 
 -- ---- counts
@@ -66,25 +66,6 @@ most_in (y ∷ xs) some =
     (λ lt. let rest : max y (most xs) ≡ most xs = omega arith in inr (subst (λ (x : ℕ). In x xs) (sym rest) (most_in xs (omega arith))))
     (λ le. inl (omega arith))
     (cases_lt y (most xs))
-
-pub In_filter : {X : Type 0} (p : X → Bool) (xs : List X) (x : X) → In x xs → p x ≡ true → In x (filter p xs)
-In_filter p [] x i is = absurd i
-In_filter {X} p (y ∷ xs) x i is = by_test (λ j. In_filter p xs x j is) (p y) refl i
-  where
-    by_test : (In x xs → In x (filter p xs)) → (b : Bool) → p y ≡ b → In x (y ∷ xs) → In x (cond b (y ∷ filter p xs) (filter p xs))
-    by_test rest true here (inl same) = inl same
-    by_test rest true here (inr j) = inr (rest j)
-    by_test rest false here (inl same) = absurd (false≢true (sym here ∙ ap p (sym same) ∙ is))
-    by_test rest false here (inr j) = rest j
-
-pub In_from_filter : {X : Type 0} (p : X → Bool) (xs : List X) (x : X) → In x (filter p xs) → In x xs × (p x ≡ true)
-In_from_filter p [] x i = absurd i
-In_from_filter {X} p (y ∷ xs) x i = by_test (λ j. In_from_filter p xs x j) (p y) refl i
-  where
-    by_test : (In x (filter p xs) → In x xs × (p x ≡ true)) → (b : Bool) → p y ≡ b → In x (cond b (y ∷ filter p xs) (filter p xs)) → In x (y ∷ xs) × (p x ≡ true)
-    by_test rest true here (inl same) = (inl same, ap p same ∙ here)
-    by_test rest true here (inr j) = let r = rest j in (inr r.0, r.1)
-    by_test rest false here j = let r = rest j in (inr r.0, r.1)
 
 -- ---- the reach law
 

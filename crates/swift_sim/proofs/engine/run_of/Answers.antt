@@ -1,9 +1,0 @@
-use Rattle.std.proofs.Common.{ap}
-use Rattle.std.specs.Global.{Vec}
-use Rattle.std.specs.Prelude.{ℕ}
-use Rattle.swift_sim.specs.Playing.{Seated}
-use Rattle.swift_sim.proofs.Sharing.{shared_run}
-use Rattle.swift_sim.proofs.engine.run_of.Goals as goal
-
-pub returns-clause-run : goal.returns-clause-run
-returns-clause-run c = shared_run c.args.clients c.args.limit c.args.cache c.args.steps.now c.in_ok-play.field-0 c.into_parts-trail.result.0.entries c.into_parts-trail.result.1.items c.into_parts-trail.result.2.items c.in_ok-book.book c.requires.clients c.requires.steps c.in_ok-play.ensures c.into_parts-trail.ensures.trail (ap (λ (v : Vec Seated). v.items) c.into_parts-trail.ensures.seats) (ap (λ (v : Vec ℕ). v.items) c.into_parts-trail.ensures.text) c.into_parts-trail.ensures.history c.in_ok-book.ensures

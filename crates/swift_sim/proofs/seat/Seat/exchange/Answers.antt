@@ -1,6 +1,0 @@
-use Rattle.swift_sim.specs.Playing.{beside}
-use Rattle.swift_sim.proofs.Growing.{exchange_grows}
-use Rattle.swift_sim.proofs.seat.Seat.exchange.Goals as goal
-
-pub returns : goal.returns
-returns c = exchange_grows c.args.purpose c.args.centre c.args.ask (beside c.args.self.now c.args.desk.now) (beside c.ask_centre.new.self c.ask_centre.new.desk) c.in_ok-more.more c.requires c.in_ok-more.ensures
