@@ -20,15 +20,24 @@ fn state_of(alloc: Global, delta: i64) -> Result<State, Fail> {
     Ok(state)
 }
 
+// The number that a value is, if it is one.
+fn number_in(value: &Value) -> Option<i128> {
+    match value {
+        Value::Number(number) => Some(*number),
+        _ => None,
+    }
+}
+
+// The number that the cache has of a counter at a vector.
 fn found(
     alloc: Global,
     cache: &mut Cache,
     object: &ObjectId,
     at: &Vector,
-) -> Result<Option<Value>, Fail> {
+) -> Result<Option<i128>, Fail> {
     match cache.find(object, at) {
         None => Ok(None),
-        Some(state) => Ok(Some(state.value(alloc)?)),
+        Some(state) => Ok(number_in(&state.value(alloc)?)),
     }
 }
 
@@ -40,7 +49,7 @@ fn the_least_recently_used_falls_out(rt: HostRuntime) -> Result<(), Fail> {
     let mut cache = Cache::new(alloc, 2)?;
     cache.keep(&a, &at, state_of(alloc, 1)?)?;
     cache.keep(&b, &at, state_of(alloc, 2)?)?;
-    assert_eq!(rt; found(alloc, &mut cache, &a, &at)?, Some(Value::Number(1)));
+    assert_eq!(rt; found(alloc, &mut cache, &a, &at)?, Some(1));
     cache.keep(&c, &at, state_of(alloc, 3)?)?;
     assert_eq!(rt; found(alloc, &mut cache, &b, &at)?, None);
 
@@ -48,11 +57,8 @@ fn the_least_recently_used_falls_out(rt: HostRuntime) -> Result<(), Fail> {
     let next = Vector::zero(1).raise(&Stamp { centre: 1, seq: 1 });
     cache.keep(&a, &next, state_of(alloc, 4)?)?;
     assert_eq!(rt; found(alloc, &mut cache, &a, &at)?, None);
-    assert_eq!(rt;
-        found(alloc, &mut cache, &a, &next)?,
-        Some(Value::Number(4))
-    );
-    assert_eq!(rt; found(alloc, &mut cache, &c, &at)?, Some(Value::Number(3)));
+    assert_eq!(rt; found(alloc, &mut cache, &a, &next)?, Some(4));
+    assert_eq!(rt; found(alloc, &mut cache, &c, &at)?, Some(3));
     Ok(())
 }
 
@@ -64,26 +70,67 @@ fn connected(alloc: Global) -> Result<Session, Fail> {
     Ok(session)
 }
 
+// Opens a transaction that adds a delta to a counter.
+fn add(alloc: Global, session: &mut Session, object: &ObjectId, delta: i64) -> Result<(), Refusal> {
+    session.begin(alloc)?;
+    session.update(alloc, object, &Change::Inc { delta })
+}
+
+// The number that a session reads of a counter.
+fn read_number(
+    alloc: Global,
+    session: &mut Session,
+    object: &ObjectId,
+) -> Result<Option<i128>, Refusal> {
+    let value = session.read(alloc, object)?;
+    Ok(number_in(&value))
+}
+
+// Lets a session have this state of an object; whether it asked centre 1, and took it.
+fn fetch(session: &mut Session, object: &ObjectId, state: State) -> Result<bool, Fail> {
+    let (centre, ask) = session.ask_fetch(object)?;
+    let heard = session.hear(centre, &ask, &Say::Object { state })?;
+    Ok(centre == 1 && heard == Heard::Took)
+}
+
 #[test]
 fn an_update_is_read_and_committed(rt: HostRuntime) -> Result<(), Fail> {
     let alloc = rt.alloc();
     let object = counter("a")?;
     let mut session = connected(alloc)?;
     assert_eq!(rt; session.client(), 1);
-    session.begin(alloc)?;
-    session.update(alloc, &object, &Change::Inc { delta: 5 })?;
+    add(alloc, &mut session, &object, 5)?;
     let miss = Refusal::NeedsFetch { object };
-    assert_eq!(rt; session.read(alloc, &object), Err(miss));
-    let (centre, fetch) = session.ask_fetch(&object)?;
-    assert_eq!(rt; centre, 1);
-    let say = Say::Object {
-        state: state_of(alloc, 2)?,
-    };
-    assert_eq!(rt; session.hear(1, &fetch, &say)?, Heard::Took);
-    assert_eq!(rt; session.read(alloc, &object)?, Value::Number(7));
+    assert_eq!(rt; read_number(alloc, &mut session, &object), Err(miss));
+    assert!(rt; fetch(&mut session, &object, state_of(alloc, 2)?)?);
+    assert_eq!(rt; read_number(alloc, &mut session, &object)?, Some(7));
     assert_eq!(rt; session.commit()?, Some(1));
-    assert_eq!(rt; session.read(alloc, &object)?, Value::Number(7));
+    assert_eq!(rt; read_number(alloc, &mut session, &object)?, Some(7));
     Ok(())
+}
+
+// The rank and the number of the commit that an ask sends.
+fn sent_in(ask: &Ask) -> Option<(u64, u64)> {
+    match ask {
+        Ask::Commit { tx } => Some((tx.rank, tx.dot.number)),
+        _ => None,
+    }
+}
+
+// Has a session send its next commit, which its centre stamps: the commit's rank and number.
+fn push(session: &mut Session, stamp: Stamp) -> Result<Option<(u64, u64)>, Fail> {
+    let Some((centre, ask)) = session.ask_commit()? else {
+        return Ok(None);
+    };
+    session.hear(centre, &ask, &Say::Stamped { stamp })?;
+    Ok(sent_in(&ask))
+}
+
+// Lets a session hear a snapshot; whether it took it.
+fn refresh(session: &mut Session, vector: Vector, mine: u64, top: u64) -> Result<bool, Fail> {
+    let (centre, ask) = session.ask_refresh()?;
+    let heard = session.hear(centre, &ask, &Say::Snap { vector, mine, top })?;
+    Ok(heard == Heard::Took)
 }
 
 #[test]
@@ -91,27 +138,14 @@ fn a_commit_reaches_the_centre_and_comes_back(rt: HostRuntime) -> Result<(), Fai
     let alloc = rt.alloc();
     let object = counter("a")?;
     let mut session = connected(alloc)?;
-    session.begin(alloc)?;
-    session.update(alloc, &object, &Change::Inc { delta: 5 })?;
+    add(alloc, &mut session, &object, 5)?;
     session.commit()?;
-    let Some((_, push)) = session.ask_commit()? else {
-        return Err(Fail::from("no commit"));
-    };
-    assert!(rt; matches!(&push, Ask::Commit { tx } if tx.rank == 1 && tx.dot.number == 1));
     let stamp = Stamp { centre: 1, seq: 1 };
-    let stamped = Say::Stamped { stamp };
-    assert_eq!(rt; session.hear(1, &push, &stamped)?, Heard::Took);
-    assert!(rt; session.ask_commit()?.is_none());
-
-    let (_, refresh) = session.ask_refresh()?;
-    let vector = Vector::zero(1).raise(&stamp);
-    let say = Say::Snap {
-        vector,
-        mine: 1,
-        top: 1 << 62,
-    };
+    assert_eq!(rt; push(&mut session, stamp)?, Some((1, 1)));
+    assert_eq!(rt; push(&mut session, stamp)?, None);
     assert_eq!(rt; session.facts().pending, 1);
-    assert_eq!(rt; session.hear(1, &refresh, &say)?, Heard::Took);
+    let vector = Vector::zero(1).raise(&stamp);
+    assert!(rt; refresh(&mut session, vector, 1, 1 << 62)?);
     let facts = session.facts();
     assert_eq!(rt; (facts.vector, facts.mine, facts.pending), (vector, 1, 0));
     assert_eq!(rt; session.begin(alloc), Err(Refusal::ClockFull));
@@ -125,11 +159,29 @@ fn set(name: &[u8]) -> Result<ObjectId, Fail> {
     Ok(ObjectId { sort, name })
 }
 
-// Lets a session have this state of an object.
-fn fetch(session: &mut Session, object: &ObjectId, state: State) -> Result<(), Fail> {
-    let (centre, ask) = session.ask_fetch(object)?;
-    session.hear(centre, &ask, &Say::Object { state })?;
-    Ok(())
+// How many identifiers the operations of the session's next commit are over.
+fn next_over(alloc: Global, session: &Session) -> Result<Vec<u64>, Fail> {
+    let mut counts = Vec::new(alloc);
+    if let Some((_, Ask::Commit { tx })) = session.ask_commit()? {
+        for update in tx.updates.as_slice() {
+            counts.push(update.op.tag_count() as u64)?;
+        }
+    }
+    Ok(counts)
+}
+
+// Whether the one word that a session reads of a set is this one.
+fn reads_word(
+    alloc: Global,
+    session: &mut Session,
+    object: &ObjectId,
+    word: Name,
+) -> Result<bool, Refusal> {
+    let value = session.read(alloc, object)?;
+    Ok(match &value {
+        Value::Words(words) => words.as_slice() == [word].as_slice(),
+        _ => false,
+    })
 }
 
 #[test]
@@ -144,18 +196,9 @@ fn a_remove_is_over_the_adds_that_it_sees(rt: HostRuntime) -> Result<(), Fail> {
     session.update(alloc, &object, &Change::Remove { word })?;
     session.update(alloc, &object, &Change::Add { word })?;
     session.commit()?;
-    let Some((_, Ask::Commit { tx })) = session.ask_commit()? else {
-        return Err(Fail::from("no commit"));
-    };
-    let updates = tx.updates.as_slice();
-    assert_eq!(rt; updates.len(), 3);
-    for (update, count) in updates.iter().zip([0, 1, 0]) {
-        assert_eq!(rt; update.op.tag_count(), count);
-    }
-    match session.read(alloc, &object)? {
-        Value::Words(words) => assert_eq!(rt; words.as_slice(), [word].as_slice()),
-        _ => assert!(rt; false, "no words"),
-    }
+    let counts = next_over(alloc, &session)?;
+    assert_eq!(rt; counts.as_slice(), [0, 1, 0].as_slice());
+    assert!(rt; reads_word(alloc, &mut session, &object, word)?);
     Ok(())
 }
 
@@ -267,8 +310,7 @@ fn commit_incs(
     count: u32,
 ) -> Result<(), Refusal> {
     for _turn in 0..count {
-        session.begin(alloc)?;
-        session.update(alloc, object, &Change::Inc { delta: 1 })?;
+        add(alloc, session, object, 1)?;
         session.commit()?;
     }
     Ok(())
@@ -302,7 +344,6 @@ fn all_that_is_pending_is_read(rt: HostRuntime) -> Result<(), Fail> {
     let object = counter("a")?;
     let mut session = full(alloc, &object)?;
     fetch(&mut session, &object, state_of(alloc, 2)?)?;
-    let read = session.read(alloc, &object);
-    assert_eq!(rt; read, Ok(Value::Number(1_026)));
+    assert_eq!(rt; read_number(alloc, &mut session, &object)?, Some(1_026));
     Ok(())
 }
