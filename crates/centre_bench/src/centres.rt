@@ -3,6 +3,7 @@ ghost use Rattle.std.specs.Prelude.{◌≡◌, IfOk, [], ◌∷◌, pos};
 ghost use Rattle.ids_core.specs.declared.object.Sort.TheVariants as sort;
 ghost use Rattle.vv_core.specs.Vectors.{zeros};
 ghost use Rattle.tx_core.specs.declared.op.Op.TheVariants.{Inc};
+ghost use Rattle.centre_bench.specs.declared.centres.Fault.TheVariants.{NoMemory as no_memory, BadName as bad_name};
 
 use dc_centre::Centre;
 use dc_talk::{Ask, Say};
@@ -24,12 +25,16 @@ pub enum Fault {
 }
 
 impl From<NoMemory> for Fault {
+    ghost from_gives = { λ _ e. e ≡ no_memory };
+
     fn from(_: NoMemory) -> Self {
         Fault::NoMemory
     }
 }
 
 impl From<BadName> for Fault {
+    ghost from_gives = { λ _ e. e ≡ bad_name };
+
     fn from(_: BadName) -> Self {
         Fault::BadName
     }

@@ -2,6 +2,7 @@
 ghost use Rattle.std.specs.Prelude.{◌≡◌, IfOk, IfSome};
 ghost use Rattle.ids_core.specs.declared.object.Sort.TheVariants as sort;
 ghost use Rattle.dc_talk.specs.Calls.{Ends};
+ghost use Rattle.session_bench.specs.declared.rounds.Fault.TheVariants.{NoMemory as no_memory, BadName as bad_name, Refused as refused};
 
 use client_session::Session;
 use dc_talk::{Ask, Call, Change, Outcome, Refusal, Say};
@@ -24,18 +25,24 @@ pub enum Fault {
 }
 
 impl From<NoMemory> for Fault {
+    ghost from_gives = { λ _ e. e ≡ no_memory };
+
     fn from(_: NoMemory) -> Self {
         Fault::NoMemory
     }
 }
 
 impl From<BadName> for Fault {
+    ghost from_gives = { λ _ e. e ≡ bad_name };
+
     fn from(_: BadName) -> Self {
         Fault::BadName
     }
 }
 
 impl From<Refusal> for Fault {
+    ghost from_gives = { λ _ e. e ≡ refused };
+
     fn from(_: Refusal) -> Self {
         Fault::Refused
     }

@@ -2,6 +2,7 @@
 ghost use Rattle.std.specs.Prelude.{◌≡◌, true, false, [], ◌∷◌, OnOk};
 ghost use Rattle.obj_set.specs.Sets.{step};
 ghost use Rattle.set_bench.specs.Marks.{mark_of};
+ghost use Rattle.set_bench.specs.declared.sets.Fault.TheVariants.{NoMemory as no_memory, BadName as bad_name};
 
 use ids_core::{BadName, Dot, Kind, Mark, Name, NoMemory, OpId, Tags};
 use obj_set::SetState;
@@ -20,12 +21,16 @@ pub enum Fault {
 }
 
 impl From<NoMemory> for Fault {
+    ghost from_gives = { λ _ e. e ≡ no_memory };
+
     fn from(_: NoMemory) -> Self {
         Fault::NoMemory
     }
 }
 
 impl From<BadName> for Fault {
+    ghost from_gives = { λ _ e. e ≡ bad_name };
+
     fn from(_: BadName) -> Self {
         Fault::BadName
     }
