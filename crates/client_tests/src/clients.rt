@@ -117,12 +117,16 @@ fn sent_in(ask: &Ask) -> Option<(u64, u64)> {
     }
 }
 
-// Has a session send its next commit, which its centre stamps: the commit's rank and number.
+// Has a session send its next commit, which its centre stamps: the commit's rank and number. It is a
+// failure where the session does not take the stamp.
 fn push(session: &mut Session, stamp: Stamp) -> Result<Option<(u64, u64)>, Fail> {
     let Some((centre, ask)) = session.ask_commit()? else {
         return Ok(None);
     };
-    session.hear(centre, &ask, &Say::Stamped { stamp })?;
+    let heard = session.hear(centre, &ask, &Say::Stamped { stamp })?;
+    if heard != Heard::Took {
+        return Err(Fail::from("the stamp was not taken"));
+    }
     Ok(sent_in(&ask))
 }
 
