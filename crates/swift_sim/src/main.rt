@@ -1,17 +1,11 @@
 //! SwiftCloud in one process: plays a script of client steps, and writes what the client sees.
 #![tactic(auto)]
 
-mod engine;
-mod stream;
-#[cfg(test)]
-mod tests;
-mod top;
-
 use io_edge::{FreeGate, StdSink, StdSource};
 use std::process::ExitCode;
 use std::rt::Env;
 use std::{env, io};
-use top::swift_main;
+use top_call::swift_main;
 
 // The words behind the program's name.
 fn words(rt: &(impl Env + AllocGlobal)) -> io::Result<Vec<String>> {

@@ -3,7 +3,7 @@ ghost use Rattle.std.specs.Prelude.{◌≡◌, ◌≤◌, ◌↔◌, All, IsTrue
 ghost use Rattle.script_text.specs.Limits.{PassesLimits};
 ghost use Rattle.script_text.specs.Steps.{IsCount, IsStepOf};
 ghost use Rattle.world_core.specs.Shared.{IsSharedRun};
-ghost use Rattle.swift_sim.specs.Runs.{Meets, empty_book, refusal_text};
+ghost use Rattle.top_call.specs.Runs.{Meets, empty_book, refusal_text};
 
 use ids_core::NoMemory;
 use run_book::Book;

@@ -14,7 +14,7 @@ use Rattle.run_book.proofs.TogetherFits.{together_fit}
 use Rattle.run_book.proofs.TogetherSteps.{together_scripted}
 use Rattle.run_book.proofs.OneClientReads.{one_client_causal, one_client_first}
 use Rattle.world_core.specs.Shared.{IsSharedRun}
-use Rattle.swift_sim.specs.Runs.{IsNothing, IsBelievable, HoldsForOne, PlaysInput, EndsSo, IsSomeScript, IsNoScript, Meets, OwesFor, Owes, serial_words}
+use Rattle.top_call.specs.Runs.{IsNothing, IsBelievable, HoldsForOne, PlaysInput, EndsSo, IsSomeScript, IsNoScript, Meets, OwesFor, Owes, serial_words}
 
 -- a run of a script's steps plays the script
 pub shared_plays : (bytes : List ℕ) (script : Script) (status : ℕ) (text : List ℕ) (book : Book) → IsScript bytes script → IsCount 100000 script.cache → IsCount 1000000 script.limit → status ≡ 0 → IsSharedRun script.clients script.limit script.cache script.steps book text → PlaysInput bytes status text book

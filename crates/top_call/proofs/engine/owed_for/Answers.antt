@@ -1,6 +1,6 @@
 use Rattle.std.proofs.Common.{inl, inr}
-use Rattle.swift_sim.proofs.Owing.{shared_plays}
-use Rattle.swift_sim.proofs.engine.owed_for.Goals as goal
+use Rattle.top_call.proofs.Owing.{shared_plays}
+use Rattle.top_call.proofs.engine.owed_for.Goals as goal
 
 pub returns-in_ok-owed-in-Ok : goal.returns-in_ok-owed-in-Ok
 returns-in_ok-owed-in-Ok c = inl (shared_plays c.args.input.now.bytes.items c.in-Ok.script c.in_ok-owed-in-Ok.owed.status c.in_ok-owed-in-Ok.owed.text.items c.in_ok-owed-in-Ok.owed.book c.in-Ok.ensures.taken c.in-Ok.ensures.cache c.in-Ok.ensures.limit c.in_ok-owed-in-Ok.ensures.status c.in_ok-owed-in-Ok.ensures.run)

@@ -1,6 +1,6 @@
 use Rattle.std.proofs.Common.{◌≡◌, ◌≤◌, ◌-◌, length, take}
 use Rattle.io_edge.specs.Streams.{puts_behind}
-use Rattle.swift_sim.proofs.stream.write_all.Given as goal
+use Rattle.top_call.proofs.stream.write_all.Given as goal
 
 abbrev pub invariant-loop-done : goal.invariant-loop-done
 invariant-loop-done g l = record {

@@ -1,8 +1,8 @@
 // The top call on small scripts, and on sources and sinks that fail.
-use crate::top::{Ended, swift_main};
 use io_edge::{FreeGate, MemorySink, MemorySource, SteadySink, SteadySource};
 use std::alloc::{AllocError, Global};
 use std::test::Fail;
+use top_call::{Ended, swift_main};
 
 const FIRST_PATH: &[u8] =
     b"centres 1 k 1\nclients 1\nc1 connect 1\nc1 begin\nc1 inc c.a 5\nc1 read c.a\nc1 commit\nc1 push\nc1 refresh\n";

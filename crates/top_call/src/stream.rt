@@ -2,7 +2,7 @@
 ghost use Rattle.std.specs.Prelude.{◌≡◌, ◌≢◌, ◌↔◌, [], false, IsTrue, IfOk, IfSome, OnOk, OnErr};
 ghost use Rattle.io_edge.specs.Streams.{HasRisen, TookFront, LeftBehind, puts_back, puts_behind};
 ghost use Rattle.script_text.specs.Limits.{PassesLimits, IsWithinBut};
-ghost use Rattle.swift_sim.specs.declared.stream.ReadFault.TheVariants.{NoMemory, Failed as ReadFailed};
+ghost use Rattle.top_call.specs.declared.stream.ReadFault.TheVariants.{NoMemory, Failed as ReadFailed};
 
 use ids_core::NoMemory as OutOfMemory;
 use io_edge::{Failed, Sink, Source, WriteFault};
@@ -98,6 +98,3 @@ pub fn write_all<W: Sink>(sink: &mut W, text: &[u8]) -> Result<(), WriteFault>
     }
     Ok(())
 }
-
-#[cfg(test)]
-mod tests;

@@ -1,6 +1,6 @@
-use Rattle.swift_sim.proofs.Owing.{ends_complete, ends_believable}
+use Rattle.top_call.proofs.Owing.{ends_complete, ends_believable}
 use Rattle.run_book.specs.Graphs.{IsCausal, FirstSums}
-use Rattle.swift_sim.proofs.top.swift_main.Goals as goal
+use Rattle.top_call.proofs.top.swift_main.Goals as goal
 
 pub returns-clause-completeness : goal.returns-clause-completeness
 returns-clause-completeness g c = λ form some is read write. ends_complete _ _ _ _ _ _ form some is (λ e. read (c.run.ensures.read e)) (λ e. write (c.run.ensures.write e)) c.run.ensures.ends

@@ -2,7 +2,7 @@
 ghost use Rattle.std.specs.Prelude.{◌≡◌, ◌≢◌, ◌⊎◌, ◌↔◌, Err, IfOk, IfSome, IsTrue, None, codes};
 ghost use Rattle.io_edge.specs.Streams.{HasRisen};
 ghost use Rattle.run_book.specs.Graphs.{IsCausal, FirstSums};
-ghost use Rattle.swift_sim.specs.Runs.{EndsSo, HoldsForOne, IsNothing, IsSomeScript, IsStatus, Owes, OwesFor, RefusedInput, RefusedWords, Serves, WroteFront, WroteShort, empty_book, serial_words, texts, usage_text};
+ghost use Rattle.top_call.specs.Runs.{EndsSo, HoldsForOne, IsNothing, IsSomeScript, IsStatus, Owes, OwesFor, RefusedInput, RefusedWords, Serves, WroteFront, WroteShort, empty_book, serial_words, texts, usage_text};
 
 use crate::engine::{Owed, owed_for};
 use crate::stream::{ReadFault, read_input, write_all};

@@ -1,7 +1,7 @@
-use super::{ReadFault, read_input, write_all};
 use io_edge::{MemorySink, MemorySource, SteadySource, WriteFault};
 use std::alloc::{AllocError, Global};
 use std::test::Fail;
+use top_call::{ReadFault, read_input, write_all};
 
 fn copies(alloc: Global, piece: &[u8], count: u32) -> Result<Vec<u8>, AllocError> {
     let mut bytes = Vec::new(alloc);

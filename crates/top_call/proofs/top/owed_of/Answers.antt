@@ -1,5 +1,5 @@
-use Rattle.swift_sim.proofs.Owing.{owes_for, end_met}
-use Rattle.swift_sim.proofs.top.owed_of.Goals as goal
+use Rattle.top_call.proofs.Owing.{owes_for, end_met}
+use Rattle.top_call.proofs.top.owed_of.Goals as goal
 
 pub returns-clause-owed : goal.returns-clause-owed
 returns-clause-owed g c = owes_for _ _ _ _ _ _ _ c.in_ok-input.ensures.taken c.in_ok-input.ensures.limits c.in_ok-input.ensures.whole c.in_ok-owed.ensures

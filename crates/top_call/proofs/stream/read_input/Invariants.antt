@@ -2,7 +2,7 @@ use Rattle.std.proofs.Common.{◌≡◌, ◌≤◌, vec_len}
 use Rattle.io_edge.specs.Streams.{puts_back}
 use Rattle.script_text.specs.Limits.{PassesLimits}
 use Rattle.script_text.specs.LineCounts.{Counts}
-use Rattle.swift_sim.proofs.stream.read_input.Given as goal
+use Rattle.top_call.proofs.stream.read_input.Given as goal
 
 abbrev pub invariant-loop-turn : goal.invariant-loop-turn
 invariant-loop-turn g l = record {

@@ -1,0 +1,9 @@
+//! The top call of the program: reads a script, plays it, and writes what the clients see.
+#![tactic(auto)]
+
+mod engine;
+mod stream;
+mod top;
+
+pub use stream::{ReadFault, read_input, write_all};
+pub use top::{Ended, swift_main};
