@@ -140,37 +140,37 @@ have_number me n A each = whole (λ X. (c d : ℕ) → 1 ≤ d → d ≤ guard c
 pub own_length : (me : ℕ) (A : List Record) → length (own me A) ≡ count me A
 own_length me A = length-filter (λ (r : Record). r.stamp.centre == me) A
 
--- the own record at a place is there, with the stamp of its number
-pub own_at : (me n : ℕ) (A : List Record) → Each (Local me n) A → (j : ℕ) (r : Record) → slice_get (own me A) j ≡ Some r → In r A × (r.stamp ≡ record { centre = me; seq = j + 1 })
-own_at me n A each = whole (λ X. (j : ℕ) (r : Record) → slice_get (own me X) j ≡ Some r → In r X × (r.stamp ≡ record { centre = me; seq = j + 1 })) A
-    (by_moments (λ X. (j : ℕ) (r : Record) → slice_get (own me X) j ≡ Some r → In r X × (r.stamp ≡ record { centre = me; seq = j + 1 })) A (λ j r there. absurd (none-some r there)) step)
+-- the record of centre e at a place is there, with the stamp of its number
+pub own_at : (me n e : ℕ) (A : List Record) → Each (Local me n) A → (j : ℕ) (r : Record) → slice_get (own e A) j ≡ Some r → In r A × (r.stamp ≡ record { centre = e; seq = j + 1 })
+own_at me n e A each = whole (λ X. (j : ℕ) (r : Record) → slice_get (own e X) j ≡ Some r → In r X × (r.stamp ≡ record { centre = e; seq = j + 1 })) A
+    (by_moments (λ X. (j : ℕ) (r : Record) → slice_get (own e X) j ≡ Some r → In r X × (r.stamp ≡ record { centre = e; seq = j + 1 })) A (λ j r there. absurd (none-some r there)) step)
   where
-    step : (p : ℕ) (s : Record) → slice_get A p ≡ Some s → ((j : ℕ) (r : Record) → slice_get (own me (take p A)) j ≡ Some r → In r (take p A) × (r.stamp ≡ record { centre = me; seq = j + 1 })) → (j : ℕ) (r : Record) → slice_get (own me (take p A ++ s ∷ [])) j ≡ Some r → In r (take p A ++ s ∷ []) × (r.stamp ≡ record { centre = me; seq = j + 1 })
-    step p s placed rest j r there = go (cases_Bool (s.stamp.centre == me))
+    step : (p : ℕ) (s : Record) → slice_get A p ≡ Some s → ((j : ℕ) (r : Record) → slice_get (own e (take p A)) j ≡ Some r → In r (take p A) × (r.stamp ≡ record { centre = e; seq = j + 1 })) → (j : ℕ) (r : Record) → slice_get (own e (take p A ++ s ∷ [])) j ≡ Some r → In r (take p A ++ s ∷ []) × (r.stamp ≡ record { centre = e; seq = j + 1 })
+    step p s placed rest j r there = go (cases_Bool (s.stamp.centre == e))
       where
         X : List Record
         X = take p A
 
-        before : slice_get (own me X) j ≡ Some r → In r (X ++ s ∷ []) × (r.stamp ≡ record { centre = me; seq = j + 1 })
+        before : slice_get (own e X) j ≡ Some r → In r (X ++ s ∷ []) × (r.stamp ≡ record { centre = e; seq = j + 1 })
         before at = let h = rest j r at in (In_left X (s ∷ []) r h.0, h.1)
 
-        go : ((s.stamp.centre == me) ≡ true) ⊎ ((s.stamp.centre == me) ≡ false) → In r (X ++ s ∷ []) × (r.stamp ≡ record { centre = me; seq = j + 1 })
+        go : ((s.stamp.centre == e) ≡ true) ⊎ ((s.stamp.centre == e) ≡ false) → In r (X ++ s ∷ []) × (r.stamp ≡ record { centre = e; seq = j + 1 })
         go (inl t) =
-            let list : own me (X ++ s ∷ []) ≡ own me X ++ s ∷ [] = filter-append (λ (r : Record). r.stamp.centre == me) X (s ∷ []) ∙ ap (λ b. own me X ++ cond b (s ∷ []) []) t in
-            ⊎_elim before last (get_last (own me X) s r j (subst (λ l. slice_get l j ≡ Some r) list there))
+            let list : own e (X ++ s ∷ []) ≡ own e X ++ s ∷ [] = filter-append (λ (r : Record). r.stamp.centre == e) X (s ∷ []) ∙ ap (λ b. own e X ++ cond b (s ∷ []) []) t in
+            ⊎_elim before last (get_last (own e X) s r j (subst (λ l. slice_get l j ≡ Some r) list there))
           where
-            last : (s ≡ r) × (j ≡ length (own me X)) → In r (X ++ s ∷ []) × (r.stamp ≡ record { centre = me; seq = j + 1 })
+            last : (s ≡ r) × (j ≡ length (own e X)) → In r (X ++ s ∷ []) × (r.stamp ≡ record { centre = e; seq = j + 1 })
             last l =
-                let same : s.stamp.centre ≡ me = eqb-true _ _ t in
-                let counts : count s.stamp.centre X ≡ count me X = ap (λ e. count e X) same in
-                let long = own_length me X in
+                let same : s.stamp.centre ≡ e = eqb-true _ _ t in
+                let counts : count s.stamp.centre X ≡ count e X = ap (λ c. count c X) same in
+                let long = own_length e X in
                 let place = l.1 in
                 let number = (each.by p s placed).number in
                 let seq : s.stamp.seq ≡ j + 1 = omega (arith, counts, long, place, number) in
-                subst (λ r. In r (X ++ s ∷ []) × (r.stamp ≡ record { centre = me; seq = j + 1 })) l.0 (In_right X (s ∷ []) s (inl refl), λ i. record { centre = same i; seq = seq i })
+                subst (λ r. In r (X ++ s ∷ []) × (r.stamp ≡ record { centre = e; seq = j + 1 })) l.0 (In_right X (s ∷ []) s (inl refl), λ i. record { centre = same i; seq = seq i })
         go (inr f) =
-            let list : own me (X ++ s ∷ []) ≡ own me X ++ [] = filter-append (λ (r : Record). r.stamp.centre == me) X (s ∷ []) ∙ ap (λ b. own me X ++ cond b (s ∷ []) []) f in
-            before (subst (λ l. slice_get l j ≡ Some r) (list ∙ append_none (own me X)) there)
+            let list : own e (X ++ s ∷ []) ≡ own e X ++ [] = filter-append (λ (r : Record). r.stamp.centre == e) X (s ∷ []) ∙ ap (λ b. own e X ++ cond b (s ∷ []) []) f in
+            before (subst (λ l. slice_get l j ≡ Some r) (list ∙ append_none (own e X)) there)
           where
             append_none : (l : List Record) → l ++ [] ≡ l
             append_none [] = refl
@@ -184,7 +184,7 @@ own_there me n A each k r low i is =
     let counts : count r.stamp.centre A ≡ count me A = ap (λ (s : Stamp). count s.centre A) is in
     let long = own_length me A in
     let s = get_within (own me A) (k - 1) (omega (arith, low, counted, seq, counts, long)) in
-    let h = own_at me n A each (k - 1) s.0 s.1 in
+    let h = own_at me n me A each (k - 1) s.0 s.1 in
     let back : k - 1 + 1 ≡ k = omega (arith, low) in
     let stamp : s.0.stamp ≡ r.stamp = h.1 ∙ ((λ i. record { centre = me; seq = back i }) ∙ sym is) in
     s.1 ∙ ap Some (one_record me n A each s.0 r h.0 i stamp)

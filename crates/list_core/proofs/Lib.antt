@@ -3,3 +3,4 @@ pub mod Moments
 pub mod Members
 pub mod Permutations
 pub mod Places
+pub mod Blocks

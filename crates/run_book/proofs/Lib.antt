@@ -5,14 +5,8 @@ pub mod Held
 pub mod Growth
 pub mod Pairing
 pub mod Dots
-pub mod Copies
-pub mod CopyAnswers
-pub mod Values
 pub mod Served
-pub mod Stands
-pub mod Chains
-pub mod OneClient
-pub mod OneClientReads
+pub mod Causal
 pub mod Happened
 pub mod Reached
 pub mod TogetherFits

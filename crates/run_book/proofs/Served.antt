@@ -15,12 +15,16 @@ use Rattle.ids_core.specs.Same.{same_object-true}
 use Rattle.vv_core.specs.Vectors.{at, Covers, kth_largest}
 use Rattle.vv_core.proofs.Covering.{covers-true, Covers_join, Covers-meet_right}
 use Rattle.tx_core.specs.declared.state.State.{State}
+use Rattle.tx_core.specs.declared.state.Value.{Value}
+use Rattle.tx_core.specs.States.{value_of}
+use Rattle.dc_talk.specs.declared.session.Outcome.TheVariants.{Got}
+use Rattle.dc_talk.specs.Calls.{read_outcome}
 use Rattle.dc_talk.specs.declared.session.Cached.{Cached}
 use Rattle.dc_talk.specs.declared.session.Change.{Change}
 use Rattle.dc_talk.specs.declared.trail.Entry.{Entry}
 use Rattle.dc_talk.specs.Records.{vector}
 use Rattle.dc_talk.specs.Trails.{applied, rows, stable}
-use Rattle.dc_talk.specs.Clients.{Client, same_vector, is_entry, cached, kept, promoted}
+use Rattle.dc_talk.specs.Clients.{Client, same_vector, is_entry, cached, kept, promoted, view}
 use Rattle.dc_talk.specs.Calls.{named, looked_up}
 use Rattle.dc_talk.proofs.Inversions.{SnapBy}
 
@@ -110,3 +114,21 @@ cached_some o w cache state is = go (first_that (is_entry o w) cache) refl is
         let f = first_that_some (is_entry o w) cache c first in
         let parts = and_parts (same_object c.object o) (same_vector c.vector w) f.1 in
         record { item = c; there = f.0; object = same_object-true c.object o parts.0; vector = same_vector-true c.vector w parts.1; gives = same_Some c.state state is }
+
+-- a read that gives a value found a state in the cache
+pub record IsRead (s : Client) (o : ObjectId) (value : Value) : Type 0 where
+  pub state : State
+  pub found : cached o s.vector s.cache ≡ Some state
+  pub is : value ≡ value_of (view s o state)
+
+-- equal outcomes have equal values
+same_value : (v w : Value) → Got v ≡ Got w → v ≡ w
+same_value v w same = cc
+
+-- a value that is read comes from the cache
+pub read_got : (s : Client) (o : ObjectId) (value : Value) → Got value ≡ read_outcome s o (cached o s.vector s.cache) → IsRead s o value
+read_got s o value is = go (cached o s.vector s.cache) refl is
+  where
+    go : (c : Option State) → cached o s.vector s.cache ≡ c → Got value ≡ read_outcome s o c → IsRead s o value
+    go None found is = absurd (cc)
+    go (Some state) found is = record { state = state; found = found; is = same_value value (value_of (view s o state)) is }

@@ -1,28 +1,18 @@
--- The graph of the transactions of a book, and what a read stands on. No code keeps a dependency set:
--- they are here alone.
-use Rattle.std.specs.Prelude.{◌≡◌, ℕ, ◌+◌, ◌-◌, ◌≤◌, map, flat_map, take, List, ◌++◌, Some, slice_get}
+-- The graph of the transactions of a book, and what a session stands on. No code keeps a dependency
+-- set: they are here alone.
+use Rattle.std.specs.Prelude.{ℕ, ◌+◌, ◌-◌, map, flat_map, take, List, ◌++◌}
 use Rattle.std.specs.List.{range_with_len}
 use Rattle.ids_core.specs.declared.ids.Dot.{Dot}
-use Rattle.ids_core.specs.declared.object.ObjectId.{ObjectId}
-use Rattle.ids_core.specs.declared.object.Sort.TheVariants.{Counter}
 use Rattle.vv_core.specs.Vectors.{at, centres}
-use Rattle.obj_counter.specs.Counter.{total}
 use Rattle.tx_core.specs.declared.tx.Tx.{Tx}
 use Rattle.tx_core.specs.declared.tx.Record.{Record}
-use Rattle.tx_core.specs.declared.state.Value.{Value}
-use Rattle.tx_core.specs.declared.state.Value.TheVariants.{Number}
-use Rattle.dc_talk.specs.declared.session.Call.TheVariants.{Read}
-use Rattle.dc_talk.specs.declared.session.Outcome.TheVariants.{Got}
-use Rattle.dc_talk.specs.declared.log.Deed.TheVariants.{Did}
-use Rattle.dc_talk.specs.declared.log.Note.{Note}
 use Rattle.dc_talk.specs.Records.{own}
 use Rattle.dc_talk.specs.Trails.{applied}
-use Rattle.dc_talk.specs.Clients.{Client, draft_updates}
+use Rattle.dc_talk.specs.Clients.{Client, next_dot, draft_updates}
 use Rattle.dc_talk.specs.Rule.{client_after, commits_of}
 use Rattle.run_book.specs.declared.book.Book.{Book}
-use Rattle.run_book.specs.Nodes.{Node, Within, Closed, WellMade}
-use Rattle.run_book.specs.Parts.{trail_of, notes_of, IsClient}
-use Rattle.run_book.specs.Values.{deltas_of, counter_over}
+use Rattle.run_book.specs.Nodes.{Node}
+use Rattle.run_book.specs.Parts.{trail_of, notes_of}
 
 -- the records that centre e stamped in the book, in order
 abbrev pub own_list : Book → ℕ → List Record
@@ -61,27 +51,6 @@ client_at b capacity a m = client_after b.n (a - 1) capacity (take m (notes_of b
 abbrev pub basis_at : Book → ℕ → ℕ → ℕ → List Dot
 basis_at b capacity a m = basis b (client_at b capacity a m)
 
--- at note m actor a read this value of the object
-pub record Reads (b : Book) (clients a m : ℕ) (o : ObjectId) (value : Value) : Type 0 where
-  pub client : IsClient clients a
-  pub note : Note
-  pub there : slice_get (notes_of b a) m ≡ Some note
-  pub is : note.deed ≡ Did (Read o) (Got value)
-
--- a value of a counter is that over the basis of the read and the updates open then, and the basis is
--- closed
-pub record IsCausalRead (b : Book) (clients capacity a m : ℕ) (o : ObjectId) (value : Value) : Type 0 where
-  pub value_is : o.sort ≡ Counter → value ≡ Number (counter_over (graph b clients capacity) (basis_at b capacity a m) (draft_updates (client_at b capacity a m)) o)
-  pub closed : Closed (graph b clients capacity) (basis_at b capacity a m)
-
--- a book is causal: its graph is well made, each read stands on a causally closed set, over which a
--- counter has the value that was read, and that set holds those of the session's earlier reads
-pub record IsCausal (b : Book) (clients capacity : ℕ) : Type 0 where
-  pub made : WellMade (graph b clients capacity)
-  pub reads : (a m : ℕ) (o : ObjectId) (value : Value) → Reads b clients a m o value → IsCausalRead b clients capacity a m o value
-  pub grows : (a m later : ℕ) (o p : ObjectId) (value later_value : Value) → m ≤ later → Reads b clients a m o value → Reads b clients a later p later_value → Within (basis_at b capacity a m) (basis_at b capacity a later)
-
--- before a client's first commit each value that it reads of a counter is the sum of the deltas that
--- its open transaction has added to it until then
-pub record FirstSums (b : Book) (clients capacity : ℕ) : Type 0 where
-  pub by : (a m : ℕ) (o : ObjectId) (value : Value) → Reads b clients a m o value → o.sort ≡ Counter → (client_at b capacity a m).own ≡ 0 → value ≡ Number (total (deltas_of o (draft_updates (client_at b capacity a m))))
+-- the node of a session's open transaction, behind all that the session stands on
+abbrev pub open_node : Book → Client → Node
+open_node b s = record { dot = next_dot s; deps = basis b s; rank = s.clock + 1; updates = draft_updates s }

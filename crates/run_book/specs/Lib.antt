@@ -5,5 +5,9 @@ pub mod Scripted
 pub mod Nodes
 pub mod Values
 pub mod Graphs
+pub mod Sound
+pub mod Known
+pub mod Causal
+pub mod Laws
 pub mod Numbers
 pub mod Together

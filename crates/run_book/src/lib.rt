@@ -6,4 +6,7 @@ mod book;
 mod laws;
 
 pub use book::{Book, Logs, Trails};
-pub use laws::{law_one_client, law_session};
+pub use laws::{
+    law_agree, law_causal, law_closed, law_known, law_numbers, law_one_list, law_session,
+    law_sound, law_value,
+};

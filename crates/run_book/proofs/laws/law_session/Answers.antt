@@ -1,8 +1,5 @@
-use Rattle.run_book.proofs.Growth.{numbers, grows}
+use Rattle.run_book.proofs.Causal.Theorem.{keeps_sessions}
 use Rattle.run_book.proofs.laws.law_session.Goals as goal
 
-pub returns-clause-numbers : goal.returns-clause-numbers
-returns-clause-numbers c = numbers
-
-pub returns-clause-grows : goal.returns-clause-grows
-returns-clause-grows c = grows
+pub returns : goal.returns
+returns c = keeps_sessions c.args.book.now

@@ -1,0 +1,137 @@
+-- What the law of values takes from the closed bases: a book that fits meets it.
+use Rattle.std.proofs.Common.{◌≡◌, ℕ, ◌+◌, ◌-◌, ◌≤◌, ⊎_elim, List, ◌++◌, Some, sym, ap, ◌∙◌, subst, arith}
+use Rattle.std.specs.Prelude.{filter, flat_map, ◌≡◌, ℕ, ◌≤◌, List, ◌++◌, Some}
+use Rattle.std.proofs.lemmas.List.Concat.{flat_map-append}
+use Rattle.std.proofs.lemmas.List.Folds.{flat_map-map}
+use Rattle.list_core.specs.Members.{In}
+use Rattle.list_core.specs.Permutations.{Perm}
+use Rattle.list_core.proofs.Members.{In_either, In_from_map}
+use Rattle.ids_core.specs.declared.ids.Dot.{Dot}
+use Rattle.ids_core.specs.declared.object.ObjectId.{ObjectId}
+use Rattle.tx_core.specs.declared.tx.Tx.{Tx}
+use Rattle.tx_core.specs.declared.state.State.{State}
+use Rattle.dc_talk.specs.Records.{has}
+use Rattle.dc_talk.specs.Objects.{ops_of}
+use Rattle.dc_talk.specs.Clients.{Client, cached, next_dot}
+use Rattle.run_book.specs.declared.book.Book.{Book}
+use Rattle.run_book.specs.Parts.{IsClient}
+use Rattle.run_book.specs.Fit.{FitsWith}
+use Rattle.run_book.specs.Nodes.{Node, Closed, WellMade}
+use Rattle.run_book.specs.Graphs.{cover, own_dots, node_of, committed, graph, basis, basis_at, client_at}
+use Rattle.run_book.proofs.Lists.{filter-map}
+use Rattle.run_book.proofs.Held.{dot_at}
+use Rattle.run_book.proofs.Dots.{own_dots_are}
+use Rattle.run_book.proofs.Served.{cached_some}
+use Rattle.run_book.proofs.Causal.Cover.{cover_in}
+use Rattle.run_book.proofs.Causal.Commits.{own_commit, carried, one_tx}
+use Rattle.run_book.proofs.Causal.ServedStates.{IsServed}
+use Rattle.run_book.proofs.Causal.SessionStates.{standing}
+use Rattle.run_book.proofs.Causal.Closure.{made, closed_basis, session_held, is_so_far}
+use Rattle.run_book.proofs.Causal.BasisOrder.{basis_order}
+use Rattle.run_book.proofs.Causal.InView.{node_ops, ops_in}
+use Rattle.list_core.proofs.Blocks.{turned_order, flat_order}
+use Rattle.ids_core.specs.declared.ids.Mark.{Mark}
+use Rattle.tx_core.specs.States.{empty_of, fold_of}
+use Rattle.tx_core.specs.declared.op.Op.{Op}
+
+-- a state of the object, with what is pending, is of the operations of the session's basis, each once
+pub record StandsOn (b : Book) (nodes : List Node) (s : Client) (o : ObjectId) (state : State) : Type 0 where
+  pub ops : List (Mark × Op)
+  pub state_is : state ≡ fold_of (empty_of o.sort) ops
+  pub all : Perm (ops_in nodes (basis b s) o) (ops ++ flat_map (ops_of o) s.pending)
+
+-- the graph is well made, each basis is closed, the open transaction is not in it and has a greater
+-- rank, and what the cache has at the session's snapshot, with what is pending, is of the basis
+pub record Premises (b : Book) (clients capacity : ℕ) : Type 0 where
+  pub made : WellMade (graph b clients capacity)
+  pub closed : (a m : ℕ) → IsClient clients a → Closed (graph b clients capacity) (basis_at b capacity a m)
+  pub fresh : (a m : ℕ) → IsClient clients a → In (next_dot (client_at b capacity a m)) (basis_at b capacity a m) → ⊥
+  pub ranked : (a m : ℕ) (t : Node) → IsClient clients a → In t (graph b clients capacity) → In t.dot (basis_at b capacity a m) → t.rank ≤ (client_at b capacity a m).clock
+  pub stands : (a m : ℕ) (o : ObjectId) (state : State) → IsClient clients a → cached o (client_at b capacity a m).vector (client_at b capacity a m).cache ≡ Some state → StandsOn b (graph b clients capacity) (client_at b capacity a m) o state
+
+module _ (b : Book) (clients limit capacity : ℕ) (fit : FitsWith b clients limit capacity) where
+  -- the open transaction is not in the basis
+  fresh : (a m : ℕ) → IsClient clients a → In (next_dot (client_at b capacity a m)) (basis_at b capacity a m) → ⊥
+  fresh a m c i = ⊎_elim covered own (In_either (cover b s.vector) (own_dots s.client s.own) (next_dot s) i)
+    where
+      s : Client
+      s = client_at b capacity a m
+
+      who : s.client ≡ a - 1
+      who = (session_held b clients limit capacity fit a m c).who
+
+      covered : In (next_dot (client_at b capacity a m)) (cover b (client_at b capacity a m).vector) → ⊥
+      covered j =
+          let st = standing b clients limit capacity fit a c m in
+          let h = session_held b clients limit capacity fit a m c in
+          let r = st.own_in (s.own + 1) (subst (λ client. In (dot_at client (s.own + 1)) (cover b s.vector)) who j) in
+          omega (arith, r.1, h.below)
+
+      own : In (next_dot (client_at b capacity a m)) (own_dots (client_at b capacity a m).client (client_at b capacity a m).own) → ⊥
+      own j = let o = own_dots_are s.client s.own (next_dot s) j in omega (arith, o.high, ap (λ (d : Dot). d.number) o.is)
+
+  -- the ranks in the basis are at most the clock
+  ranked : (a m : ℕ) (t : Node) → IsClient clients a → In t (graph b clients capacity) → In t.dot (basis_at b capacity a m) → t.rank ≤ (client_at b capacity a m).clock
+  ranked a m t c i j = go (In_from_map (node_of b) (committed b clients capacity) t i)
+    where
+      s : Client
+      s = client_at b capacity a m
+
+      go : (tx : Tx) × In tx (committed b clients capacity) × (t ≡ node_of b tx) → t.rank ≤ (client_at b capacity a m).clock
+      go (tx, k, is) = ⊎_elim covered own (In_either (cover b s.vector) (own_dots s.client s.own) tx.dot (subst (λ d. In d (basis_at b capacity a m)) dot j))
+        where
+          dot : t.dot ≡ tx.dot
+          dot = ap (λ (t : Node). t.dot) is
+
+          rank : t.rank ≡ tx.rank
+          rank = ap (λ (t : Node). t.rank) is
+
+          covered : In tx.dot (cover b (client_at b capacity a m).vector) → t.rank ≤ (client_at b capacity a m).clock
+          covered l =
+              let x = cover_in b s.vector tx.dot l in
+              let same : x.item.tx ≡ tx = one_tx b clients limit capacity fit x.item.tx tx (carried b clients limit capacity fit x.item.tx (own_commit b clients limit capacity fit x.centre x.place x.item x.low x.high x.there)) k x.dot in
+              omega (arith, (standing b clients limit capacity fit a c m).ranks tx.dot x, ap (λ (t : Tx). t.rank) same, rank)
+
+          own : In tx.dot (own_dots (client_at b capacity a m).client (client_at b capacity a m).own) → t.rank ≤ (client_at b capacity a m).clock
+          own l =
+              let o = own_dots_are s.client s.own tx.dot l in
+              let h = session_held b clients limit capacity fit a m c in
+              let there = is_so_far b clients limit capacity fit a m tx c k (ap (λ (d : Dot). d.client) o.is ∙ h.who) (omega (arith, o.high, ap (λ (d : Dot). d.number) o.is)) in
+              omega (arith, h.ranks (tx.dot.number - 1) tx there, rank)
+
+  -- what the cache has at the session's snapshot, with what is pending, is of the basis
+  stands : (a m : ℕ) (o : ObjectId) (state : State) → IsClient clients a → cached o (client_at b capacity a m).vector (client_at b capacity a m).cache ≡ Some state → StandsOn b (graph b clients capacity) (client_at b capacity a m) o state
+  stands a m o state c found = record {
+    ops = flat_map (ops_of o) served.txs;
+    state_is = served.is;
+    all = subst (λ l. Perm l (flat_map (ops_of o) served.txs ++ flat_map (ops_of o) s.pending)) (sym in_basis) (turned_order (flat_map (ops_of o) served.txs ++ flat_map (ops_of o) s.pending) (flat_map (ops_of o) based) (subst (λ l. Perm l (flat_map (ops_of o) based)) (flat_map-append (ops_of o) served.txs s.pending) (flat_order (ops_of o) (served.txs ++ s.pending) based (basis_order b clients limit capacity fit a m o state c served))));
+  }
+    where
+      s : Client
+      s = client_at b capacity a m
+
+      set : List Dot
+      set = basis_at b capacity a m
+
+      based : List Tx
+      based = filter (λ (t : Tx). has t.dot set) (committed b clients capacity)
+
+      served : IsServed b clients capacity o (client_at b capacity a m).vector state
+      served =
+          let k = cached_some o s.vector s.cache state found in
+          let st = (standing b clients limit capacity fit a c m).cache k.item k.there in
+          subst (λ state. IsServed b clients capacity o s.vector state) k.gives (subst (λ w. IsServed b clients capacity o w k.item.state) k.vector (subst (λ o. IsServed b clients capacity o k.item.vector k.item.state) k.object st))
+
+      in_basis : ops_in (graph b clients capacity) (basis b (client_at b capacity a m)) o ≡ flat_map (ops_of o) based
+      in_basis =
+          ap (flat_map (node_ops o)) (filter-map (λ (t : Node). has t.dot set) (node_of b) (committed b clients capacity))
+          ∙ flat_map-map (node_ops o) (node_of b) based
+
+  pub premises : Premises b clients capacity
+  premises = record {
+    made = made b clients limit capacity fit;
+    closed = closed_basis b clients limit capacity fit;
+    fresh = fresh;
+    ranked = ranked;
+    stands = stands;
+  }

@@ -1,0 +1,132 @@
+-- The laws of a book that fits, and that it is causal.
+use Rattle.std.proofs.Common.{◌≡◌, ℕ, suc, ◌+◌, ◌-◌, ◌≤◌, ◌<◌, List, [], length, take, Some, refl, sym, ap, ◌∙◌, subst, arith}
+use Rattle.std.specs.Prelude.{slice_get}
+use Rattle.list_core.specs.Members.{In}
+use Rattle.list_core.proofs.Members.{In_right, In_from_filter}
+use Rattle.list_core.proofs.Gets.{In_get}
+use Rattle.ids_core.specs.declared.ids.Dot.{Dot}
+use Rattle.ids_core.specs.declared.object.ObjectId.{ObjectId}
+use Rattle.tx_core.specs.declared.tx.Tx.{Tx}
+use Rattle.tx_core.specs.declared.tx.Record.{Record}
+use Rattle.tx_core.specs.declared.state.Value.{Value}
+use Rattle.tx_core.specs.States.{empty_of, fold_of, value_of}
+use Rattle.dc_talk.specs.Clients.{Client}
+use Rattle.run_book.specs.declared.book.Book.{Book}
+use Rattle.run_book.specs.Nodes.{Node}
+use Rattle.run_book.specs.Parts.{trail_of, IsClient}
+use Rattle.run_book.specs.Fit.{FitsWith}
+use Rattle.run_book.specs.Values.{counter_over, acts_over}
+use Rattle.run_book.specs.Graphs.{cover, own_dots, graph, basis_at, client_at, open_node}
+use Rattle.run_book.specs.Causal.{Reads, commits_at, IsCausal}
+use Rattle.run_book.specs.Laws.{applied_at, HasSoundVectors, HasOneList, HasClosedBases, KeepsSessions, HasKnownBases, HasValues, Agrees}
+use Rattle.run_book.proofs.Numbered.{numbered_at}
+use Rattle.run_book.proofs.Held.{dot_at, held_after}
+use Rattle.run_book.proofs.Dots.{are_own_dots}
+use Rattle.run_book.proofs.Causal.Origins.{each_at, agreement, vector_sound}
+use Rattle.run_book.proofs.Causal.Soundness.{told_sound, stable_sound, snap_sound, session_sound}
+use Rattle.run_book.proofs.Causal.OneList.{front, inside_covered, covered_inside}
+use Rattle.run_book.proofs.Causal.KnownToK.{basis_known}
+use Rattle.run_book.proofs.Causal.Moments.{moment}
+use Rattle.run_book.proofs.Causal.Commits.{own_commit, carried, one_tx}
+use Rattle.run_book.proofs.Causal.SessionStates.{standing}
+use Rattle.run_book.proofs.Causal.Closure.{made, closed_basis, basis_grows, session_held}
+use Rattle.run_book.proofs.Causal.InView.{ops_in}
+use Rattle.run_book.proofs.Causal.Premises.{Premises, premises}
+use Rattle.run_book.proofs.Causal.Operations.{apart_of}
+use Rattle.run_book.proofs.Causal.Views.{part, read_over, reads_agree}
+use Rattle.run_book.proofs.Causal.OneValue.{one_act, one_act_of_set, one_value}
+use Rattle.run_book.proofs.Causal.ClosedSetValues.{over_set}
+
+module _ (b : Book) (clients limit capacity : ℕ) (fit : FitsWith b clients limit capacity) where
+  -- the vectors are sound at each moment
+  pub sound_vectors : HasSoundVectors b clients capacity
+  sound_vectors = record {
+    centres = vector_sound b clients limit capacity fit;
+    told_rows = λ i j p low high. told_sound b clients limit capacity fit i j p;
+    stable_vectors = stable_sound b clients limit capacity fit;
+    snapshots = snap_sound b clients limit capacity fit;
+    sessions = λ a m client. session_sound b clients limit capacity fit a client m;
+  }
+
+  -- the transaction of a record that a centre applied was committed
+  applied_carried : (i p : ℕ) (r : Record) → 1 ≤ i → i ≤ b.n → In r (applied_at b i p) → In r.tx (Rattle.run_book.specs.Graphs.committed b clients capacity)
+  applied_carried i p r low high here =
+      let A = applied_at b i p in
+      let g = In_get A r here in
+      let local = (each_at b clients limit capacity fit i p low high).by g.0 r g.1 in
+      carried b clients limit capacity fit r.tx (own_commit b clients limit capacity fit r.stamp.centre (r.stamp.seq - 1) r local.centre.0 local.centre.1 (agreement b clients limit capacity fit i p low high r here))
+
+  -- all centres have one list of each centre's records
+  pub one_list : HasOneList b
+  one_list = record {
+    fronts = front b clients limit capacity fit;
+    served = λ i p w d low high le. (inside_covered b clients limit capacity fit i p low high w d, covered_inside b clients limit capacity fit i p low high w d le);
+    carried = λ i p j q r s i_low i_high j_low j_high here there same. one_tx b clients limit capacity fit r.tx s.tx (applied_carried i p r i_low i_high here) (applied_carried j q s j_low j_high there) same;
+  }
+
+  -- the graph is well made, and bases are closed
+  pub closed_bases : HasClosedBases b clients capacity
+  closed_bases = record {
+    made = made b clients limit capacity fit;
+    bases = λ a m o value r. closed_basis b clients limit capacity fit a m r.client;
+  }
+
+  -- what a session committed is in its basis
+  commits_in : (a m : ℕ) (t : Tx) → IsClient clients a → In t (commits_at b capacity a m) → In t.dot (basis_at b capacity a m)
+  commits_in a m t client i =
+      let s = client_at b capacity a m in
+      let held = session_held b clients limit capacity fit a m client in
+      let g = In_get (commits_at b capacity a m) t i in
+      let dot = numbered_at (λ (t : Tx). t.dot) (dot_at (a - 1)) 1 (commits_at b capacity a m) g.0 t held.dots g.1 in
+      let within = Rattle.std.proofs.lemmas.Option.slice_get_within (commits_at b capacity a m) g.0 t g.1 in
+      In_right (cover b s.vector) (own_dots s.client s.own) t.dot (are_own_dots s.client s.own t.dot (record { number = 1 + g.0; low = omega arith; high = omega (arith, within, held.number); is = dot ∙ ap (λ c. dot_at c (1 + g.0)) (sym held.who) }))
+
+  -- the basis of a read holds those of earlier reads, and all own commits
+  pub keeps_sessions : KeepsSessions b clients capacity
+  keeps_sessions = record {
+    earlier = λ a m later o p value other le r later_r. basis_grows b clients limit capacity fit a m later r.client le;
+    commits = commits_in;
+    own_numbers = λ a m number client. let h = standing b clients limit capacity fit a client m in (λ i. h.own_in number i, λ r. h.own_all number r.0 r.1);
+  }
+
+  -- what is not the session's own is known to K, and who is counted has it
+  pub known_bases : HasKnownBases b clients capacity
+  known_bases = record {
+    bases = λ a m o value d r i other. basis_known b clients limit capacity fit a r.client m d i other;
+    moments = moment b clients limit capacity fit;
+  }
+
+  -- the values of reads and of closed sets
+  pub values : HasValues b clients capacity
+  values = record {
+    reads = read_over b clients limit capacity fit held;
+    one = λ a m o value other client first second.
+        let set = basis_at b capacity a m in
+        let last = open_node b (client_at b capacity a m) in
+        one_value o.sort (counter_over nodes set last.updates o) (acts_over nodes set last o) value other (one_act nodes set last (part b clients limit capacity fit held a m client) o) first second;
+    over_sets = λ set last o closed none. (value_of (fold_of (empty_of o.sort) (ops_in nodes set o)), over_set b clients limit capacity fit set closed o last none);
+    one_over_sets = λ set last o value other none first second. one_value o.sort (counter_over nodes set last.updates o) (acts_over nodes set last o) value other (one_act_of_set nodes set last o (apart_of nodes held.made.unique) none) first second;
+  }
+    where
+      nodes : List Node
+      nodes = graph b clients capacity
+
+      held : Premises b clients capacity
+      held = premises b clients limit capacity fit
+
+  -- reads over equal bases give one value
+  pub agrees : Agrees b clients capacity
+  agrees = record { reads = reads_agree b clients limit capacity fit (premises b clients limit capacity fit) }
+
+  -- a book that fits is causal
+  pub causal : IsCausal b clients capacity
+  causal = record {
+    made = made b clients limit capacity fit;
+    reads = λ a m o value r. record {
+      closed = closed_basis b clients limit capacity fit a m r.client;
+      own = λ t i. commits_in a m t r.client i;
+      earlier = λ before p other le earlier. basis_grows b clients limit capacity fit a before m r.client le;
+      known = λ d i other. basis_known b clients limit capacity fit a r.client m d i other;
+      value_is = read_over b clients limit capacity fit (premises b clients limit capacity fit) a m o value r;
+    };
+  }
