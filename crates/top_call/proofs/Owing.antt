@@ -8,13 +8,12 @@ use Rattle.script_text.proofs.LongTexts.{passes_more}
 use Rattle.io_edge.specs.Streams.{puts_back}
 use Rattle.run_book.specs.declared.book.Book.{Book}
 use Rattle.run_book.specs.Fit.{FitsWith}
-use Rattle.run_book.specs.Graphs.{IsCausal, FirstSums}
 use Rattle.script_text.specs.Steps.{IsCount}
 use Rattle.run_book.proofs.TogetherFits.{together_fit}
 use Rattle.run_book.proofs.TogetherSteps.{together_scripted}
-use Rattle.run_book.proofs.OneClientReads.{one_client_causal, one_client_first}
+use Rattle.run_book.proofs.Causal.Theorem.{causal}
 use Rattle.world_core.specs.Shared.{IsSharedRun}
-use Rattle.top_call.specs.Runs.{IsNothing, IsBelievable, HoldsForOne, PlaysInput, EndsSo, IsSomeScript, IsNoScript, Meets, OwesFor, Owes, serial_words}
+use Rattle.top_call.specs.Runs.{IsNothing, IsCausalRun, PlaysInput, EndsSo, IsSomeScript, IsNoScript, Meets, OwesFor, Owes, serial_words}
 
 -- a run of a script's steps plays the script
 pub shared_plays : (bytes : List ℕ) (script : Script) (status : ℕ) (text : List ℕ) (book : Book) → IsScript bytes script → IsCount 100000 script.cache → IsCount 1000000 script.limit → status ≡ 0 → IsSharedRun script.clients script.limit script.cache script.steps book text → PlaysInput bytes status text book
@@ -30,12 +29,7 @@ shared_plays bytes script status text book is cache limit status_is r =
         fits = fits;
         steps = together_scripted script.clients script.limit script.cache script.steps r.all book r.together r.book_is script refl refl refl;
       };
-      believable = λ one.
-          let alone : FitsWith book 1 script.limit script.cache = subst (λ n. FitsWith book n script.limit script.cache) one fits in
-          record {
-            causal = subst (λ n. IsCausal book n script.cache) (sym one) (one_client_causal book script.limit script.cache r.book_is.n alone);
-            first = subst (λ n. FirstSums book n script.cache) (sym one) (one_client_first book script.limit script.cache r.book_is.n alone);
-          };
+      causal = causal book script.clients script.limit script.cache fits;
       text_is = r.text_is;
     }
 
@@ -66,25 +60,25 @@ script_left : (left : Option (List ℕ)) (bytes : List ℕ) (script : Script) �
 script_left None bytes script all is = tt
 script_left (Some other) bytes script all is = subst (λ all. IsScript all script) (sym all) is
 
--- what is believable of a script with one client holds where the run ended well
-pub ends_believable : (holds : Book → Script → Type 0) → ((book : Book) (script : Script) → IsBelievable script book → holds book script) → (words : List (List ℕ)) (left old new : Option (List ℕ)) (status : ℕ) (book : Book) → status ≡ 0 → EndsSo words left old new status book → HoldsForOne left book (holds book)
-ends_believable holds gives words left old new status book ended (inl wrote) = go wrote.owed
+-- where the run ended well, the book is causal
+pub ends_causal : (words : List (List ℕ)) (left old new : Option (List ℕ)) (status : ℕ) (book : Book) → status ≡ 0 → EndsSo words left old new status book → IsCausalRun left book
+ends_causal words left old new status book ended (inl wrote) = go wrote.owed
   where
-    go : Owes words left status wrote.text book → HoldsForOne left book (holds book)
+    go : Owes words left status wrote.text book → IsCausalRun left book
     go (inl run) = owed run.owed
       where
-        owed : OwesFor left status wrote.text book → HoldsForOne left book (holds book)
+        owed : OwesFor left status wrote.text book → IsCausalRun left book
         owed (inl play) = record {
           script = play.plays.script;
           is = script_left left play.bytes play.plays.script play.input play.plays.is;
           run = play.plays.run;
-          one = λ one. gives book play.plays.script (play.plays.believable one);
+          causal = play.plays.causal;
         }
         owed (inr refusal) = absurd (omega (arith, ended, refusal.refuses.status_is))
     go (inr usage) = absurd (omega (arith, ended, usage.status_is))
-ends_believable holds gives words left old new status book ended (inr (inl failed)) = absurd (omega (arith, ended, failed.0))
-ends_believable holds gives words left old new status book ended (inr (inr (inl failed))) = absurd (omega (arith, ended, failed.0))
-ends_believable holds gives words left old new status book ended (inr (inr (inr short))) = absurd (omega (arith, ended, short.0))
+ends_causal words left old new status book ended (inr (inl failed)) = absurd (omega (arith, ended, failed.0))
+ends_causal words left old new status book ended (inr (inr (inl failed))) = absurd (omega (arith, ended, failed.0))
+ends_causal words left old new status book ended (inr (inr (inr short))) = absurd (omega (arith, ended, short.0))
 
 -- ---- the input
 

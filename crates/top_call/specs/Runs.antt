@@ -8,7 +8,7 @@ use Rattle.script_text.specs.Scripts.{IsScript}
 use Rattle.run_book.specs.declared.book.Book.{Book}
 use Rattle.run_book.specs.Fit.{FitsWith}
 use Rattle.run_book.specs.Scripted.{HasSteps}
-use Rattle.run_book.specs.Graphs.{IsCausal, FirstSums}
+use Rattle.run_book.specs.Causal.{IsCausal}
 use Rattle.print_text.specs.Text.{text_of}
 use Rattle.io_edge.specs.Streams.{TookFront, puts_behind}
 
@@ -44,20 +44,13 @@ pub record IsRunOf (script : Script) (book : Book) : Type 0 where
   pub fits : FitsWith book script.clients script.limit script.cache
   pub steps : HasSteps script book
 
--- each read stands on a causally closed set, over which a counter has the value that was read, and
--- before the first commit that value is the sum of the deltas of the open transaction
-pub record IsBelievable (script : Script) (book : Book) : Type 0 where
-  pub causal : IsCausal book script.clients script.cache
-  pub first : FirstSums book script.clients script.cache
-
--- the bytes are a script, the book is one of its run, which can be believed where there is one client,
--- and the text is that of the book
+-- the bytes are a script, the book is one of its run and causal, and the text is that of the book
 pub record PlaysInput (bytes : List ℕ) (status : ℕ) (text : List ℕ) (book : Book) : Type 0 where
   pub script : Script
   pub is : IsScript bytes script
   pub status_is : status ≡ 0
   pub run : IsRunOf script book
-  pub believable : script.clients ≡ 1 → IsBelievable script book
+  pub causal : IsCausal book script.clients script.cache
   pub text_is : text ≡ text_of book.logs
 
 -- the bytes are no script, and are refused
@@ -130,13 +123,12 @@ pub record Serves (words : List (List ℕ)) (left old new : Option (List ℕ)) (
   pub run : IsRunOf script book
   pub text : new ≡ puts_behind (text_of book.logs) old
 
--- what a source has left is a script, the book is one of its run, and this holds where the script has
--- one client
-pub record HoldsForOne (left : Option (List ℕ)) (book : Book) (holds : Script → Type 0) : Type 0 where
+-- what a source has left is a script, and the book is one of its run and causal
+pub record IsCausalRun (left : Option (List ℕ)) (book : Book) : Type 0 where
   pub script : Script
   pub is : IfSome left (λ bytes. IsScript bytes script)
   pub run : IsRunOf script book
-  pub one : script.clients ≡ 1 → holds script
+  pub causal : IsCausal book script.clients script.cache
 
 -- the input was refused, and the line that says so was taken
 pub record RefusedInput (words : List (List ℕ)) (left old new : Option (List ℕ)) (book : Book) : Type 0 where

@@ -1,8 +1,7 @@
 // The top call.
 ghost use Rattle.std.specs.Prelude.{◌≡◌, ◌≢◌, ◌⊎◌, ◌↔◌, Err, IfOk, IfSome, IsTrue, None, codes};
 ghost use Rattle.io_edge.specs.Streams.{HasRisen};
-ghost use Rattle.run_book.specs.Graphs.{IsCausal, FirstSums};
-ghost use Rattle.top_call.specs.Runs.{EndsSo, HoldsForOne, IsNothing, IsSomeScript, IsStatus, Owes, OwesFor, RefusedInput, RefusedWords, Serves, WroteFront, WroteShort, empty_book, serial_words, texts, usage_text};
+ghost use Rattle.top_call.specs.Runs.{EndsSo, IsCausalRun, IsNothing, IsSomeScript, IsStatus, Owes, OwesFor, RefusedInput, RefusedWords, Serves, WroteFront, WroteShort, empty_book, serial_words, texts, usage_text};
 
 use crate::engine::{Owed, owed_for};
 use crate::stream::{ReadFault, read_input, write_all};
@@ -138,13 +137,10 @@ pub fn swift_main<S: Source, W: Sink, G: Gate>(
 
     ensures read_to_end { result.status ≡ 0 → IfSome (S.left source.new) IsNothing }
 
-    // Of a script with one client: each read stands on a causally closed set of transactions, which
-    // holds those of the session's earlier reads. A counter has the value that was read over this set
-    // and the open updates.
-    ensures causal { result.status ≡ 0 → HoldsForOne (S.left source.old) result.book (λ script. IsCausal result.book script.clients script.cache) }
-
-    // Before the first commit each value read of a counter is the sum of the open transaction's deltas.
-    ensures read_values { result.status ≡ 0 → HoldsForOne (S.left source.old) result.book (λ script. FirstSums result.book script.clients script.cache) }
+    // Each value that was read stands on a causally closed set of transactions. This set holds all that
+    // the session committed and the sets of its earlier reads, each other member of it was known to K
+    // centres, and the value is that of the object over the set and the open updates.
+    ensures causal { result.status ≡ 0 → IsCausalRun (S.left source.old) result.book }
 
     // 2: words of no form. 3: an input that is no script.
     ensures words { result.status ≡ 2 → RefusedWords (texts words.now) (W.taken sink.old) (W.taken sink.new) result.book }
