@@ -1,0 +1,69 @@
+"""The log: what refused each wrong body when it was last tried."""
+import re
+from typing import NamedTuple
+
+HEAD = """\
+# What refused each wrong body of this folder when `tests/bodies/run --log` last tried it. docs/tests.md says how to
+# read this. A line has the crate, the body, the sum of its text, what refused it, the function, and the goals.
+"""
+RUN = re.compile(r"# commit (\w+) of (\S+): (.*)")
+EVERY = "every crate"
+
+
+class Line(NamedTuple):
+    """What the log has of a body."""
+
+    crate: str
+    name: str
+    sum: str
+    kind: str
+    function: str
+    goals: str
+
+
+class Record:
+    """The log: the runs, each with the commit that it was made on, the date and the crates, and a line a body."""
+
+    def __init__(self, runs=(), lines=()):
+        self.runs = list(runs)
+        self.lines = list(lines)
+
+    @classmethod
+    def read(cls, file):
+        try:
+            with open(file, encoding="utf-8") as it:
+                text = it.read().splitlines()
+        except FileNotFoundError:
+            return cls()
+        runs = [it.groups() for it in map(RUN.fullmatch, text) if it]
+        return cls(runs, [Line(*it.split(" ")) for it in text if it and not it.startswith("#")])
+
+    def add_run(self, commit, date, crates, lines, is_whole):
+        """Puts the lines of a run in the place of those that there were of its crates."""
+        if is_whole:
+            self.runs, self.lines = [(commit, date, EVERY)], list(lines)
+            return
+        self.runs = [it for it in (without(run, crates) for run in self.runs) if it]
+        self.runs.append((commit, date, " ".join(sorted(crates))))
+        self.lines = [it for it in self.lines if it.crate not in crates] + list(lines)
+
+    def write(self, file):
+        with open(file, "w", encoding="utf-8") as it:
+            it.write(HEAD)
+            it.writelines(f"# commit {commit} of {date}: {crates}\n" for commit, date, crates in self.runs)
+            it.writelines(" ".join(line) + "\n" for line in sorted(self.lines))
+
+
+def without(run, crates):
+    """A run without crates that were tried again later, or None where none is left."""
+    commit, date, own = run
+    if own == EVERY:
+        return run
+    left = [it for it in own.split(" ") if it not in crates]
+    return (commit, date, " ".join(left)) if left else None
+
+
+def line_of(edit, result):
+    """The line of a body in the log."""
+    function = result.function.name if result.function else "-"
+    return Line(edit.crate, edit.name, edit.sum, result.kind, function, ",".join(result.goals) or "-")

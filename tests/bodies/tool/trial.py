@@ -1,0 +1,175 @@
+"""The trial of all wrong bodies of a crate, in batches of at most one body a function."""
+from typing import NamedTuple
+
+from edits import BadEdit, Edit, Sources, changes_of
+from functions import Function, function_at
+from judgement import (
+    BAD_EDIT,
+    NOT_REFUSED,
+    Result,
+    answered_goals,
+    is_proved,
+    may_tell_more,
+    refusal_of,
+    refusal_without_answers,
+    strongest,
+    verdicts_on,
+    waits_for_callee,
+)
+
+
+class Body(NamedTuple):
+    """A wrong body, and the functions that it changes: none where it changes a constant, say."""
+
+    edit: Edit
+    changes: tuple
+    functions: tuple
+
+
+class Batch:
+    """Bodies that are tried together, and the texts of the crate with them."""
+
+    def __init__(self, folder):
+        self.bodies = []
+        self.sources = Sources(folder)
+
+    def add(self, body):
+        """Adds a body, and returns whether it goes with those that are there: one that changes no function stands
+        alone, and a function has one body."""
+        if self.bodies and not all(is_apart(body, it) for it in self.bodies):
+            return False
+        mixed = self.sources.copy()
+        try:
+            mixed.apply(body.changes)
+        except BadEdit:
+            return False
+        self.sources = mixed
+        self.bodies.append(body)
+        return True
+
+
+def is_apart(body, other):
+    """Whether two bodies change functions alone, and none that is the same."""
+    functions = [{it.name for it in one.functions} for one in (body, other)]
+    return all(functions) and not functions[0] & functions[1]
+
+
+def batches_of(bodies, folder):
+    """Puts bodies together, each into the first batch that it goes with."""
+    batches = []
+    for body in bodies:
+        if not any(it.add(body) for it in batches):
+            batches.append(Batch(folder))
+            batches[-1].add(body)
+    return batches
+
+
+class Trial:
+    """Tries the wrong bodies of one crate in a room. The results are by the bodies' names."""
+
+    def __init__(self, room, edits):
+        self.room = room
+        self.edits = edits
+        self.results = {}
+        self.true_without_answers = None
+
+    def run(self):
+        """Tries all bodies, and returns the results in the order of the names."""
+        self.said = self.room.check_as_it_stands()
+        bodies = [it for it in map(self.read, self.edits) if it]
+        for batch in batches_of(bodies, self.room.kept):
+            self.try_batch(batch)
+        self.set_answers_aside([it for it in bodies if self.is_refused_by_answers(it)])
+        return dict(sorted(self.results.items()))
+
+    def read(self, edit):
+        """The body of an edit, or None where it is bad."""
+        try:
+            body = body_of(edit, self.room.kept)
+            lacking = [it.name for it in body.functions if not verdicts_on(it, self.said)]
+            if lacking:
+                raise BadEdit(f"the check names no function {lacking[0]}")
+            return body
+        except BadEdit as why:
+            self.results[edit.name] = Result(BAD_EDIT, remark=str(why))
+            return None
+
+    def try_batch(self, batch):
+        """Tries the bodies of a batch together, and then each by itself of which that settled nothing."""
+        said = self.room.check_with(batch.sources.texts)
+        is_alone = len(batch.bodies) == 1
+        for body in batch.bodies:
+            result = self.judge(body, batch.sources, said, is_alone)
+            if result:
+                self.results[body.edit.name] = result
+            else:
+                self.try_batch(*batches_of([body], self.room.kept))
+
+    def judge(self, body, sources, said, is_alone):
+        """What the try of a body came to, or None where it has to be tried by itself."""
+        if not said.is_judged:
+            return Result(BAD_EDIT, remark=said.complaint or f"no verdict: {said.last}") if is_alone else None
+        functions = body.functions or functions_with_goals(sources, said)
+        found = [self.refusal(it, said, is_alone) for it in functions]
+        return strongest(it for it in found if it) or (missed(body, said) if is_alone else None)
+
+    def refusal(self, function, said, is_alone):
+        """What refuses a function for itself, or None. Beside a callee that is not proved either, what is said of a
+        written proof is not trusted."""
+        result = refusal_of(function, said, answered_goals(self.room.kept, function))
+        if result and result.is_by_writing and waits_for_callee(function, said) and not is_alone:
+            return None
+        return result
+
+    def is_refused_by_answers(self, body):
+        result = self.results[body.edit.name]
+        return result.is_by_writing and bool(answered_goals(self.room.kept, result.function))
+
+    def set_answers_aside(self, bodies):
+        """Tries the bodies that a written proof alone refused once more, without the written answers."""
+        folders = {self.results[it.edit.name].function.folder for it in bodies}
+        for batch in batches_of(bodies, self.room.kept):
+            functions = {it.edit.name: self.results[it.edit.name].function for it in batch.bodies}
+            said = self.room.check_with(batch.sources.texts, [it.folder for it in functions.values()])
+            for name, function in functions.items():
+                self.results[name] = self.judge_without_answers(function, said, folders) or self.results[name]
+
+    def judge_without_answers(self, function, said, folders):
+        """What refuses a function without its written answers, or None where that tells nothing new."""
+        if not said.is_judged:
+            return None
+        if is_proved(function, said):
+            return Result(NOT_REFUSED, function, remark="it is proved once its written answers are set aside")
+        if not may_tell_more(function, said, answered_goals(self.room.kept, function)):
+            return None
+        if not self.true_without_answers:
+            self.true_without_answers = self.room.check_with({}, folders)
+        return refusal_without_answers(function, said, self.true_without_answers)
+
+
+def body_of(edit, folder):
+    """Reads a body against the crate as it stands."""
+    changes, sources, functions = changes_of(edit), Sources(folder), []
+    for change in changes:
+        if not change.file.startswith("src/"):
+            raise BadEdit(f"it changes {change.file}, which is no source")
+        place = sources.apply_one(change)
+        function = function_at(edit.crate, place.file, sources.text(place.file), place.line)
+        if function and function not in functions:
+            functions.append(function)
+    return Body(edit, tuple(changes), tuple(functions))
+
+
+def functions_with_goals(sources, said):
+    """The functions in which a goal stands open, or whose written proof does not fit: for a body that changes none."""
+    crate = next(iter(said.verdicts), "").partition("::")[0]
+    found = [function_at(crate, it.file, sources.text(it.file), it.line - 1) for it in said.goals]
+    found += [Function.of_folder(crate, it.folder) for it in said.misfits]
+    return list(dict.fromkeys(it for it in found if it))
+
+
+def missed(body, said):
+    """The result of a body that was tried by itself and that nothing refused."""
+    for function in body.functions:
+        return Result(NOT_REFUSED, function, remark=f"the check says: {verdicts_on(function, said)[0]}")
+    return Result(NOT_REFUSED, remark="no goal of any function stands open")
