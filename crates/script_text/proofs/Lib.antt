@@ -6,3 +6,5 @@ pub mod Spellings
 pub mod Rows
 pub mod Readings
 pub mod FewLines
+pub mod OneStep
+pub mod OneScript

@@ -26,6 +26,7 @@ abbrev is_plain : List ℕ → Bool
 is_plain [] = true
 is_plain (b ∷ bs) = not (b == 32) && is_plain bs
 
+-- the test tells it
 plain : (bytes : List ℕ) → is_plain bytes ≡ true → IsPlain bytes
 plain [] all = All-nil (λ x. x ≢ 32)
 plain (b ∷ bs) all =
@@ -33,10 +34,12 @@ plain (b ∷ bs) all =
     let other : b ≢ 32 = (let test : not (b == 32) ≡ true = parts.0 in λ e. absurd (grind arith)) in
     All-cons (λ x. x ≢ 32) b bs other (plain bs parts.1)
 
+-- there is none in a name
 pub name_plain : (name : List ℕ) → IsName name → IsPlain name
 name_plain name h = All-weaker IsNameByte (λ x. x ≢ 32) (λ x b. elim b [ inl r ↦ omega arith | inr (inl r) ↦ omega arith | inr (inr r) ↦ omega arith ]) name h.each
 
-word_plain : (change : ChangeOf) → IsPlain (change_word change)
+-- nor among those of a change's word
+pub word_plain : (change : ChangeOf) → IsPlain (change_word change)
 word_plain (Inc delta) = plain (codes "inc") refl
 word_plain (Write word) = plain (codes "set") refl
 word_plain (Add word) = plain (codes "add") refl
@@ -44,13 +47,15 @@ word_plain (Remove word) = plain (codes "del") refl
 word_plain (Put key word) = plain (codes "put") refl
 word_plain (Erase key) = plain (codes "drop") refl
 
+-- nor in the mark of an object
 mark_plain : (sort : Sort) → IsPlain (mark_of sort)
 mark_plain Counter = plain (codes "c.") refl
 mark_plain Register = plain (codes "r.") refl
 mark_plain Set = plain (codes "s.") refl
 mark_plain Map = plain (codes "m.") refl
 
-object_plain : (object : ObjectId) → IsName object.name → IsPlain (object_text object)
+-- nor in an object's text
+pub object_plain : (object : ObjectId) → IsName object.name → IsPlain (object_text object)
 object_plain object name = All-append (λ x. x ≢ 32) (mark_of object.sort) object.name (mark_plain object.sort) (name_plain object.name name)
 
 -- a change without a first space is none

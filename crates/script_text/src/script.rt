@@ -66,6 +66,7 @@ impl From<NoMemory> for ScriptFault {
 pub fn parse(alloc: Global, input: &Input) -> Result<Script, ScriptFault>
     requires { IsTrue input.now.past_limits ↔ PassesLimits input.now.bytes.items }
     ensures taken { IfOk result (λ script. IsScript input.now.bytes.items script) }
+    ensures only { IfOk result (λ script. (other : Told) → IsScript input.now.bytes.items other → other ≡ script) }
     ensures few { IfOk result (λ script. length script.steps ≤ 200000) }
     ensures steps { IfOk result (λ script. All (IsStepOf script.clients) script.steps) }
     ensures cache { IfOk result (λ script. IsCount 100000 script.cache) }

@@ -1,11 +1,13 @@
-use Rattle.std.proofs.Common.{◌≡◌, Err, ap, sym, subst, ◌∙◌}
+use Rattle.std.proofs.Common.{◌≡◌, Err, ap, sym, subst, ◌∙◌, rules}
 use Rattle.std.specs.Prelude.{All, map}
 use Rattle.std.specs.Result.{IsErrAnd}
 use Rattle.std.specs.Option.{unwrap_or}
 use Rattle.script_text.specs.Lines.{lines_of}
 use Rattle.script_text.specs.Steps.{IsCount, IsStepOf}
 use Rattle.script_text.specs.Rows.{row_text, IsRow, steps_in}
+use Rattle.script_text.specs.Scripts.{IsScript}
 use Rattle.script_text.proofs.Rows.{steps_each, cache_count, limit_count}
+use Rattle.script_text.proofs.OneScript.{one_script}
 use Rattle.script_text.proofs.script.parse.Goals as goal
 
 pub returns-in_err-reading-in-Some-clause-refused : goal.returns-in_err-reading-in-Some-clause-refused
@@ -28,3 +30,8 @@ pub returns-in_ok-reading-in-Some-clause-limit : goal.returns-in_ok-reading-in-S
 returns-in_ok-reading-in-Some-clause-limit c =
     let read = c.in_ok-reading-in-Some.ensures.taken in
     subst (IsCount 1000000) (sym (c.script_of.ensures.limit ∙ ap (λ set. unwrap_or set 1000000) read.1.limit)) (limit_count c.in-Some.clients read.0 read.2.each)
+
+pub returns-in_ok-reading-in-Some-clause-only : goal.returns-in_ok-reading-in-Some-clause-only
+returns-in_ok-reading-in-Some-clause-only c =
+    let is : IsScript c.args.input.now.bytes.items c.script_of.result = search rules in
+    λ other same. one_script c.args.input.now.bytes.items other c.script_of.result same is
