@@ -114,9 +114,17 @@ has_no_output() {
     [ ! -s "$room/out" ] && is_said "$@"
 }
 
+# has_help TEXT..: whether these were written, and nothing said.
+has_help() {
+    [ ! -s "$room/err" ] || return 1
+    for text in "$@"; do
+        grep -qF -- "$text" "$room/out" || return 1
+    done
+}
+
 check_wrapper_help() {
     wrapped --help
-    also 'help' 0 has_no_output 'usage: ./swift_sim serial < SCRIPT' './swift_sim --prove' 'Status 1' \
+    also 'help' 0 has_help 'usage: ./swift_sim serial < SCRIPT' './swift_sim --prove' 'Status 1' \
         'examples/first-path.script' 'docs/script.md' 'rattle-kit-13f'
     also 'help makes nothing' 0 is_called
     printf 'a\nb' | PATH=$repo/tools /bin/sh "$repo/swift_sim" serial x >"$room/out" 2>"$room/err"
