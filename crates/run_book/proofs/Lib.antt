@@ -11,3 +11,4 @@ pub mod Happened
 pub mod Reached
 pub mod TogetherFits
 pub mod TogetherSteps
+pub mod BareActs

@@ -11,3 +11,4 @@ pub mod Causal
 pub mod Laws
 pub mod Numbers
 pub mod Together
+pub mod Acts

@@ -2,10 +2,14 @@
 //! one another and a script. These definitions stand in this crate's `specs/`.
 #![tactic(auto)]
 
+mod acts;
 mod book;
+mod dot_set;
 mod laws;
 
+pub use acts::{BareAct, change_of};
 pub use book::{Book, Logs, Trails};
+pub use dot_set::{DotSet, is_in};
 pub use laws::{
     law_agree, law_causal, law_closed, law_known, law_numbers, law_one_list, law_session,
     law_sound, law_value,

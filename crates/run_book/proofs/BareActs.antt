@@ -1,0 +1,37 @@
+-- What acts tell by themselves, and what they do not need for it.
+use Rattle.std.proofs.Common.{◌≡◌, ℕ, ◌+◌, ℤ, Bool, true, false, cond, List, [], ◌∷◌, ◌++◌, refl, ap, ◌∙◌}
+use Rattle.std.specs.Prelude.{flat_map}
+use Rattle.std.specs.List.{filter_map, cons_option}
+use Rattle.std.proofs.lemmas.List.Elements.{filter_map-append}
+use Rattle.ids_core.specs.declared.ids.Dot.{Dot}
+use Rattle.ids_core.specs.declared.object.ObjectId.{ObjectId}
+use Rattle.ids_core.specs.Ids.{same_object}
+use Rattle.obj_counter.specs.Counter.{total}
+use Rattle.tx_core.specs.declared.tx.Update.{Update}
+use Rattle.dc_talk.specs.Objects.{mark}
+use Rattle.run_book.specs.Nodes.{Node}
+use Rattle.run_book.specs.Values.{Act, delta_of, deltas_of, nodes_in, counter_over, acts_from, acts_of, acts_over}
+use Rattle.run_book.specs.Acts.{deltas_in, sum_of}
+use Rattle.run_book.proofs.Lists.{filter_map-flat_map, flat_map-agree}
+
+-- ---- the deltas of the acts of nodes
+
+-- the deltas of the acts on an object among updates
+deltas_from : (o : ObjectId) (t : Node) (place : ℕ) (updates : List Update) → deltas_in (acts_from o t place updates) ≡ deltas_of o updates
+deltas_from o t place [] = refl
+deltas_from o t place (u ∷ updates) = go (same_object u.object o) (deltas_from o t (place + 1) updates)
+  where
+    go : (b : Bool) → deltas_in (acts_from o t (place + 1) updates) ≡ deltas_of o updates → deltas_in (cond b (record { mark = mark t.rank t.dot place; deps = t.deps; op = u.op } ∷ acts_from o t (place + 1) updates) (acts_from o t (place + 1) updates)) ≡ cond b (cons_option (delta_of u.op) (deltas_of o updates)) (deltas_of o updates)
+    go true rest = ap (λ l. cons_option (delta_of u.op) l) rest
+    go false rest = rest
+
+-- the deltas of the acts over a set of dots and an open node
+pub deltas_over : (nodes : List Node) (set : List Dot) (last : Node) (o : ObjectId) → deltas_in (acts_over nodes set last o) ≡ flat_map (λ t. deltas_of o t.updates) (nodes_in nodes set) ++ deltas_of o last.updates
+deltas_over nodes set last o =
+    filter_map-append (λ (act : Act). delta_of act.op) (flat_map (acts_of o) (nodes_in nodes set)) (acts_of o last)
+    ∙ (ap (λ l. l ++ deltas_in (acts_of o last)) (filter_map-flat_map (λ (act : Act). delta_of act.op) (acts_of o) (nodes_in nodes set) ∙ flat_map-agree (λ t. deltas_in (acts_of o t)) (λ t. deltas_of o t.updates) (nodes_in nodes set) (λ t i. deltas_from o t 0 t.updates))
+    ∙ ap (λ l. flat_map (λ t. deltas_of o t.updates) (nodes_in nodes set) ++ l) (deltas_from o last 0 last.updates))
+
+-- their sum is that of the counter over the set
+pub sum_over : (nodes : List Node) (set : List Dot) (last : Node) (o : ObjectId) → sum_of (acts_over nodes set last o) ≡ counter_over nodes set last.updates o
+sum_over nodes set last o = ap total (deltas_over nodes set last o)
