@@ -1,17 +1,21 @@
 -- What acts tell by themselves, and what they do not need for it.
-use Rattle.std.proofs.Common.{◌≡◌, ℕ, ◌+◌, ℤ, Bool, true, false, cond, List, [], ◌∷◌, ◌++◌, refl, ap, ◌∙◌}
+use Rattle.std.proofs.Common.{◌≡◌, ℕ, ◌+◌, ◌≤◌, ℤ, pos, Bool, true, false, cond, List, [], ◌∷◌, ◌++◌, length, drop, map, fold, refl, sym, ap, ◌∙◌}
 use Rattle.std.specs.Prelude.{flat_map}
+use Rattle.std.specs.Int.{w128, int_wrap}
 use Rattle.std.specs.List.{filter_map, cons_option}
+use Rattle.std.proofs.lemmas.List.{drop_all}
 use Rattle.std.proofs.lemmas.List.Elements.{filter_map-append}
 use Rattle.ids_core.specs.declared.ids.Dot.{Dot}
 use Rattle.ids_core.specs.declared.object.ObjectId.{ObjectId}
 use Rattle.ids_core.specs.Ids.{same_object}
-use Rattle.obj_counter.specs.Counter.{total}
+use Rattle.obj_counter.specs.Counter.{total, added}
+use Rattle.obj_counter.specs.Laws.{fold-added}
 use Rattle.tx_core.specs.declared.tx.Update.{Update}
 use Rattle.dc_talk.specs.Objects.{mark}
 use Rattle.run_book.specs.Nodes.{Node}
 use Rattle.run_book.specs.Values.{Act, delta_of, deltas_of, nodes_in, counter_over, acts_from, acts_of, acts_over}
-use Rattle.run_book.specs.Acts.{deltas_in, sum_of}
+use Rattle.run_book.specs.declared.acts.BareAct.{BareAct}
+use Rattle.run_book.specs.Acts.{act_of, deltas_in, sum_of}
 use Rattle.run_book.proofs.Lists.{filter_map-flat_map, flat_map-agree}
 
 -- ---- the deltas of the acts of nodes
@@ -35,3 +39,9 @@ deltas_over nodes set last o =
 -- their sum is that of the counter over the set
 pub sum_over : (nodes : List Node) (set : List Dot) (last : Node) (o : ObjectId) → sum_of (acts_over nodes set last o) ≡ counter_over nodes set last.updates o
 sum_over nodes set last o = ap total (deltas_over nodes set last o)
+
+-- ---- the loop over the deltas
+
+-- at the end the deltas are added up
+pub sum_done : (acts : List BareAct) (i : ℕ) (sum : ℤ) → length acts ≤ i → fold added sum (deltas_in (map act_of (drop i acts))) ≡ fold added (pos 0) (deltas_in (map act_of acts)) → sum ≡ int_wrap w128 (sum_of (map act_of acts))
+sum_done acts i sum end is = sym (ap (λ l. fold added sum (deltas_in (map act_of l))) (drop_all i acts end)) ∙ (is ∙ fold-added (deltas_in (map act_of acts)))

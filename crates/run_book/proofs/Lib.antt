@@ -12,3 +12,9 @@ pub mod Reached
 pub mod TogetherFits
 pub mod TogetherSteps
 pub mod BareActs
+pub mod FilterMaps
+pub mod LastWords
+pub mod AscendingNames
+pub mod UnseenActs
+pub mod PairsOfPuts
+pub mod SameValues

@@ -12,3 +12,4 @@ pub mod Laws
 pub mod Numbers
 pub mod Together
 pub mod Acts
+pub mod Unseen

@@ -5,7 +5,10 @@
 mod acts;
 mod book;
 mod dot_set;
+mod last;
 mod laws;
+mod unseen;
+mod values;
 
 pub use acts::{BareAct, change_of};
 pub use book::{Book, Logs, Trails};
@@ -14,3 +17,4 @@ pub use laws::{
     law_agree, law_causal, law_closed, law_known, law_numbers, law_one_list, law_session,
     law_sound, law_value,
 };
+pub use values::value_by_sees;
