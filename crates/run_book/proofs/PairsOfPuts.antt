@@ -1,11 +1,10 @@
 -- The keys of puts that no erase sees, each with the last word under it, are the value of the map.
-use Rattle.std.proofs.Common.{◌≡◌, ℕ, ◌+◌, ◌<◌, Bool, true, false, ◌↔◌, inl, inr, ⊎_elim, List, [], ◌∷◌, ◌++◌, length, take, get_or, map, Option, Some, None, refl, sym, ap, ◌∙◌, subst}
+use Rattle.std.proofs.Common.{◌≡◌, ℕ, ◌+◌, ◌<◌, Bool, true, false, ◌↔◌, inl, inr, ⊎_elim, List, [], ◌∷◌, ◌++◌, length, take, get_or, map, Some, refl, sym, ap, ◌∙◌, subst}
 use Rattle.std.specs.List.{filter_map}
 use Rattle.std.specs.List.Sorted.{IsStrictlySortedBy}
 use Rattle.std.specs.Ordering.{is_le}
 use Rattle.std.specs.Str.{bytes_eq}
 use Rattle.std.specs.Cmp.Lexicographic.{bytes_decides}
-use Rattle.std.proofs.lemmas.Bool.{false≢true}
 use Rattle.std.proofs.lemmas.List.{take_more, map_push}
 use Rattle.std.proofs.lemmas.Option.{none-some, same_Some, slice_get-get_or}
 use Rattle.list_core.specs.Members.{In}
@@ -17,9 +16,9 @@ use Rattle.ids_core.specs.Orders.{mark_cmp, name_cmp}
 use Rattle.run_book.specs.declared.unseen.UnseenPut.{UnseenPut}
 use Rattle.run_book.specs.Values.{Act, put, IsUnseenPut, IsWordAt, IsMapOver}
 use Rattle.run_book.specs.Acts.{HasUniqueMarks}
-use Rattle.run_book.specs.Unseen.{unseen_put, word_under, IsLast, IsLastOf, ArePairsOf}
+use Rattle.run_book.specs.Unseen.{unseen_put, word_under, IsLast, ArePairsOf}
 use Rattle.run_book.proofs.FilterMaps.{In_filter_map, In_from_filter_map}
-use Rattle.run_book.proofs.UnseenActs.{IsOfAct, put_of, of_put, kept_of}
+use Rattle.run_book.proofs.UnseenActs.{put_of, of_put, kept_of}
 use Rattle.run_book.proofs.LastWords.{same_mark}
 
 -- ---- the words under a key

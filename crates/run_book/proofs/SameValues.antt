@@ -1,5 +1,5 @@
 -- Acts that differ in what their operations are over alone have the same values.
-use Rattle.std.proofs.Common.{◌≡◌, ◌<◌, ◌^◌, ℕ, ℤ, Bool, false, ◌↔◌, List, [], ◌∷◌, map, Option, Some, None, IsTrue, refl, sym, ap, ◌∙◌, subst}
+use Rattle.std.proofs.Common.{◌≡◌, ◌<◌, ◌^◌, ℕ, ℤ, Bool, false, List, [], ◌∷◌, map, Option, Some, None, refl, sym, ap, ◌∙◌, subst}
 use Rattle.std.specs.Int.{w128, int_wrap}
 use Rattle.std.specs.List.{cons_option}
 use Rattle.std.specs.Ordering.{is_le}
@@ -20,7 +20,7 @@ use Rattle.dc_talk.specs.declared.session.Change.{Change}
 use Rattle.dc_talk.specs.declared.session.Change.TheVariants as change
 use Rattle.dc_talk.specs.Calls.{op_of}
 use Rattle.run_book.specs.declared.acts.BareAct.{BareAct}
-use Rattle.run_book.specs.Values.{Act, delta_of, sees, IsRegisterOver, IsLastWord, added, removed, IsUnseenAdd, IsSetOver, put, erased, IsUnseenPut, IsWordAt, IsMapOver, IsValueBy}
+use Rattle.run_book.specs.Values.{Act, delta_of, sees, IsRegisterOver, added, removed, IsUnseenAdd, IsSetOver, put, erased, IsUnseenPut, IsWordAt, IsMapOver, IsValueBy}
 use Rattle.run_book.specs.Acts.{change_of, bare_of, act_of, deltas_in, sum_of, HasUniqueMarks}
 use Rattle.run_book.specs.Unseen.{written}
 
