@@ -242,17 +242,17 @@ module _ (bares : List BareAct) (whole : List Act) (same : bares ≡ map bare_of
           m.2 ∙ (ap act_of (sym (again m.0) ∙ (l.same ∙ (ap bare_of one ∙ (sym k.same ∙ again n.0)))) ∙ sym n.2)
 
   -- what is a value of acts that are over nothing is one of any acts that they are: wrapped
-  pub value_wraps : (s : Sort) (value : Value) → (HasUniqueMarks (map act_of bares) → IsValueBy s (int_wrap w128 (sum_of (map act_of bares))) (map act_of bares) value) → HasUniqueMarks whole → IsValueBy s (int_wrap w128 (sum_of whole)) whole value
-  value_wraps s value is unique = subst (λ sum. IsValueBy s (int_wrap w128 sum) whole value) sums_like (value_like (map act_of bares) whole alike s (int_wrap w128 (sum_of (map act_of bares))) value (is (unique_like unique)))
+  value_wraps : (s : Sort) (value : Value) → ((s ≡ sort.Map → HasUniqueMarks (map act_of bares)) → IsValueBy s (int_wrap w128 (sum_of (map act_of bares))) (map act_of bares) value) → (s ≡ sort.Map → HasUniqueMarks whole) → IsValueBy s (int_wrap w128 (sum_of whole)) whole value
+  value_wraps s value is unique = subst (λ sum. IsValueBy s (int_wrap w128 sum) whole value) sums_like (value_like (map act_of bares) whole alike s (int_wrap w128 (sum_of (map act_of bares))) value (is (λ e. unique_like (unique e))))
 
   -- and exact, where the sizes of the deltas are small together
-  pub value_exact : (s : Sort) (value : Value) → (HasUniqueMarks (map act_of bares) → IsValueBy s (int_wrap w128 (sum_of (map act_of bares))) (map act_of bares) value) → HasUniqueMarks whole → sizes (deltas_in whole) < 2 ^ 127 → IsValueBy s (sum_of whole) whole value
+  value_exact : (s : Sort) (value : Value) → ((s ≡ sort.Map → HasUniqueMarks (map act_of bares)) → IsValueBy s (int_wrap w128 (sum_of (map act_of bares))) (map act_of bares) value) → (s ≡ sort.Map → HasUniqueMarks whole) → sizes (deltas_in whole) < 2 ^ 127 → IsValueBy s (sum_of whole) whole value
   value_exact s value is unique small = subst (λ sum. IsValueBy s sum whole value) (sym (fold-added (deltas_in whole)) ∙ fold-added_exact (deltas_in whole) small) (value_wraps s value is unique)
 
 -- both together
-pub values_like : (bares : List BareAct) (s : Sort) (value : Value) → (HasUniqueMarks (map act_of bares) → IsValueBy s (int_wrap w128 (sum_of (map act_of bares))) (map act_of bares) value) → record {
-  wraps : (whole : List Act) → bares ≡ map bare_of whole → HasUniqueMarks whole → IsValueBy s (int_wrap w128 (sum_of whole)) whole value;
-  exact : (whole : List Act) → bares ≡ map bare_of whole → HasUniqueMarks whole → sizes (deltas_in whole) < 2 ^ 127 → IsValueBy s (sum_of whole) whole value;
+pub values_like : (bares : List BareAct) (s : Sort) (value : Value) → ((s ≡ sort.Map → HasUniqueMarks (map act_of bares)) → IsValueBy s (int_wrap w128 (sum_of (map act_of bares))) (map act_of bares) value) → record {
+  wraps : (whole : List Act) → bares ≡ map bare_of whole → (s ≡ sort.Map → HasUniqueMarks whole) → IsValueBy s (int_wrap w128 (sum_of whole)) whole value;
+  exact : (whole : List Act) → bares ≡ map bare_of whole → (s ≡ sort.Map → HasUniqueMarks whole) → sizes (deltas_in whole) < 2 ^ 127 → IsValueBy s (sum_of whole) whole value;
 }
 values_like bares s value is = record {
   wraps = λ whole same. value_wraps bares whole same s value is;

@@ -21,11 +21,12 @@ use tx_core::{NamePairs, Names, Value};
 /// The value of an object of that kind which has these acts, by which act sees which (Shapiro and
 /// others, INRIA RR-7506), whatever identifiers their operations are over. It is computed as it is
 /// defined, in a time that grows with the square of their number and more. The sum of a counter wraps
-/// at the ends of an `i128`; it is exact where the sizes of the deltas together stay below 2^127.
+/// at the ends of an `i128`; it is exact where the sizes of the deltas together stay below 2^127. The
+/// value of a map is defined only where acts with one mark are one.
 pub fn value_by_sees(alloc: Global, sort: Sort, acts: &[BareAct]) -> Result<Value, NoMemory>
-    ensures wraps { (whole : List Act) → acts.now ≡ map bare_of whole → HasUniqueMarks whole →
+    ensures wraps { (whole : List Act) → acts.now ≡ map bare_of whole → (sort ≡ Sort.Map → HasUniqueMarks whole) →
         IfOk result (IsValueBy sort (int_wrap w128 (sum_of whole)) whole) }
-    ensures exact { (whole : List Act) → acts.now ≡ map bare_of whole → HasUniqueMarks whole →
+    ensures exact { (whole : List Act) → acts.now ≡ map bare_of whole → (sort ≡ Sort.Map → HasUniqueMarks whole) →
         sizes (deltas_in whole) < 2 ^ 127 → IfOk result (IsValueBy sort (sum_of whole) whole) }
 {
     match sort {

@@ -12,4 +12,4 @@ pub returns-in_ok-words-in-Set : goal.returns-in_ok-words-in-Set
 returns-in_ok-words-in-Set c = values_like c.args.acts.now c.args.sort _ (λ unique. rw (c.in-Set.is, c.from_vec.ensures) c.in_ok-words-in-Set.ensures)
 
 pub returns-in_ok-pairs-in-Map : goal.returns-in_ok-pairs-in-Map
-returns-in_ok-pairs-in-Map c = values_like c.args.acts.now c.args.sort _ (λ unique. rw (c.in-Map.is, c.from_vec-in-Map.ensures) (c.in_ok-pairs-in-Map.ensures unique))
+returns-in_ok-pairs-in-Map c = values_like c.args.acts.now c.args.sort _ (λ unique. rw (c.in-Map.is, c.from_vec-in-Map.ensures) (c.in_ok-pairs-in-Map.ensures (unique c.in-Map.is)))
