@@ -12,10 +12,11 @@ use Rattle.list_core.proofs.Gets.{In_get, get_In}
 use Rattle.ids_core.specs.Same.{equivalence_of}
 use Rattle.ids_core.specs.Orders.{name_cmp, name_cmp_total}
 
--- a member stands at a place, and the other way round
+-- a member stands at a place
 Contains-In : {X : Type 0} (xs : List X) (x : X) → In x xs → Contains xs x
 Contains-In xs x i = let r = In_get xs x i in (r.0, slice_get_within xs r.0 x r.1, get_or_from_slice_get xs r.0 x x r.1)
 
+-- what stands at a place is a member
 In-Contains : {X : Type 0} (xs : List X) (x : X) → Contains xs x → In x xs
 In-Contains xs x at = get_In xs at.0 x (slice_get-get_or xs at.0 x at.1 ∙ ap Some at.2)
 

@@ -90,8 +90,9 @@ record IsWriteOf (acts : List Act) (write : Mark × List ℕ) : Type 0 where
   writes : act.op ≡ Write write.1
   mark : act.mark ≡ write.0
 
-write_of : (acts : List Act) (write : Mark × List ℕ) → In write (filter_map marked_write acts) → IsWriteOf acts write
-write_of acts write i =
+-- a member of the marked writes is one of an act
+act_of_write : (acts : List Act) (write : Mark × List ℕ) → In write (filter_map marked_write acts) → IsWriteOf acts write
+act_of_write acts write i =
     let r = In_from_filter_map marked_write acts write i in
     go r.0 r.1 r.0.op refl r.2
   where
@@ -106,13 +107,14 @@ write_of acts write i =
     go act i (Put key word over) op is = absurd (none-some write is)
     go act i (Erase key over) op is = absurd (none-some write is)
 
+-- the write of an act is among them
 of_write : (acts : List Act) (act : Act) (word : List ℕ) → In act acts → act.op ≡ Write word → In (act.mark, word) (filter_map marked_write acts)
 of_write acts act word i is = In_filter_map marked_write acts act (act.mark, word) i (ap (λ op. option_map (λ word. (act.mark, word)) (written op)) is)
 
 -- the last of the writes is the value of the register
 pub last_word : (acts : List Act) (writes : List (Mark × List ℕ)) (last : Mark × List ℕ) → writes ≡ filter_map marked_write acts → IsLast writes last → IsLastWord acts last.1
 last_word acts writes last all is =
-    let w = write_of acts last (subst (λ l. In last l) all is.there) in
+    let w = act_of_write acts last (subst (λ l. In last l) all is.there) in
     record {
       act = w.act;
       there = w.there;

@@ -30,6 +30,7 @@ record IsUnder (puts : List UnseenPut) (key : List ℕ) (word : Mark × List ℕ
   key_is : kept.key ≡ key
   is : (kept.mark, kept.word) ≡ word
 
+-- what is among the words under a key is the word of a put of the key
 under : (puts : List UnseenPut) (key : List ℕ) (word : Mark × List ℕ) → In word (filter_map (word_under key) puts) → IsUnder puts key word
 under puts key word i =
     let r = In_from_filter_map (word_under key) puts word i in
@@ -39,12 +40,13 @@ under puts key word i =
     go kept i true test is = record { kept = kept; there = i; key_is = (bytes_decides kept.key key).0 test; is = same_Some (kept.mark, kept.word) word is }
     go kept i false test is = absurd (none-some word is)
 
+-- the word of a put is among the words under its key
 is_under : (puts : List UnseenPut) (kept : UnseenPut) → In kept puts → In (kept.mark, kept.word) (filter_map (word_under kept.key) puts)
 is_under puts kept i = In_filter_map (word_under kept.key) puts kept (kept.mark, kept.word) i (ap (λ b. when b (kept.mark, kept.word)) ((bytes_decides kept.key kept.key).1 refl))
 
 -- ---- the loop over the keys
 
--- a key of a put has a word
+-- there is a word under the key of a put
 some_under : (puts : List UnseenPut) (key : List ℕ) → In key (map (λ (kept : UnseenPut). kept.key) puts) → filter_map (word_under key) puts ≡ [] → ⊥
 some_under puts key i none =
     let m = In_from_map (λ (kept : UnseenPut). kept.key) puts key i in
@@ -61,7 +63,7 @@ pairs_more puts keys i key words last pairs new within at all is pushed are = su
     one pair (inl same) = (last.0, subst (λ (pair : List ℕ × List ℕ). IsLast (filter_map (word_under pair.0) puts) (last.0, pair.1)) (sym same) (subst (λ l. IsLast l last) all is))
     one pair (inr j) = absurd j
 
--- a key of a put has a last word
+-- there is one under each of the keys, where these are keys of puts
 pub some_last : (puts : List UnseenPut) (keys : List (List ℕ)) (i : ℕ) (key : List ℕ) → i < length keys → key ≡ get_or keys i key → ((key : List ℕ) → In key keys → In key (map (λ (kept : UnseenPut). kept.key) puts)) → filter_map (word_under key) puts ≡ [] → ⊥
 some_last puts keys i key within at of none = some_under puts key (of key (member keys i key within at)) none
   where
@@ -71,6 +73,7 @@ some_last puts keys i key within at of none = some_under puts key (of key (membe
 -- ---- the value
 
 module _ (acts : List Act) (unique : HasUniqueMarks acts) where
+  -- the puts that no erase sees
   abbrev puts : List UnseenPut
   puts = filter_map (unseen_put acts) acts
 
@@ -94,6 +97,7 @@ module _ (acts : List Act) (unique : HasUniqueMarks acts) where
       let puts : Some (key, v) ≡ Some (key, w) = sym a.is.puts ∙ (ap (λ (act : Act). put act.op) same ∙ b.is.puts) in
       ap (λ pair. pair.1) (same_Some (key, v) (key, w) puts)
 
+  -- pairs of those keys, with the last words under them, are the value
   pub map_over : (keys : List (List ℕ)) (pairs : List (List ℕ × List ℕ)) → IsStrictlySortedBy name_cmp keys → ((key : List ℕ) → In key keys ↔ In key (map (λ (kept : UnseenPut). kept.key) puts)) → ArePairsOf puts keys pairs → IsMapOver acts pairs
   map_over keys pairs ascending same are = record {
     ascending = subst (λ l. IsStrictlySortedBy name_cmp l) (sym are.keys_are) ascending;
@@ -111,7 +115,7 @@ module _ (acts : List Act) (unique : HasUniqueMarks acts) where
 
 -- ---- the keys
 
--- sorted keys are those of the puts
+-- keys that were sorted are those of the puts, in lists that are equal
 pub same_keys : (puts first second : List UnseenPut) (found sorted keys : List (List ℕ)) → first ≡ puts → second ≡ puts → found ≡ map (λ (kept : UnseenPut). kept.key) first → ((key : List ℕ) → In key sorted ↔ In key found) → keys ≡ sorted → (key : List ℕ) → In key keys ↔ In key (map (λ (kept : UnseenPut). kept.key) second)
 same_keys puts first second found sorted keys one two all same is key = (
   λ i. subst (λ l. In key l) to ((same key).0 (subst (λ l. In key l) is i)),
@@ -121,7 +125,7 @@ same_keys puts first second found sorted keys one two all same is key = (
     to : found ≡ map (λ (kept : UnseenPut). kept.key) second
     to = all ∙ ap (λ (l : List UnseenPut). map (λ (kept : UnseenPut). kept.key) l) (one ∙ sym two)
 
--- pairs of the keys are the value of the map
+-- the same, of lists that are equal to the puts and to the sorted keys
 pub map_of : (acts : List Act) (second : List UnseenPut) (keys sorted : List (List ℕ)) (pairs : List (List ℕ × List ℕ)) → HasUniqueMarks acts → second ≡ filter_map (unseen_put acts) acts → keys ≡ sorted → IsStrictlySortedBy name_cmp sorted → ((key : List ℕ) → In key keys ↔ In key (map (λ (kept : UnseenPut). kept.key) second)) → ArePairsOf second keys pairs → IsMapOver acts pairs
 map_of acts second keys sorted pairs unique all is ascending same are = map_over acts unique keys pairs
     (subst (λ l. IsStrictlySortedBy name_cmp l) (sym is) ascending)

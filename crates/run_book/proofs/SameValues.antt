@@ -35,6 +35,7 @@ record Told : Type 0 where
   puts : Option (List ℕ × List ℕ)
   erases : Option (List ℕ)
 
+-- what an operation tells
 abbrev told : Op → Told
 told op = record { delta = delta_of op; writes = written op; adds = added op; removes = removed op; puts = put op; erases = erased op }
 
@@ -51,6 +52,7 @@ told_blind (Erase key over) = refl
 same_told : (p q : Act) → bare_of p ≡ bare_of q → told p.op ≡ told q.op
 same_told p q same = told_blind p.op ∙ (ap (λ (bare : BareAct). told (op_of bare.change [])) same ∙ sym (told_blind q.op))
 
+-- and they have one mark
 same_mark : (p q : Act) → bare_of p ≡ bare_of q → p.mark ≡ q.mark
 same_mark p q same = ap (λ (bare : BareAct). bare.mark) same
 
@@ -76,6 +78,7 @@ write_of (Erase key over) word is = absurd (none-some word is)
 pub record AreAlike (acts others : List Act) : Type 0 where
   pub are : map bare_of acts ≡ map bare_of others
 
+-- alike both ways
 turned : (acts others : List Act) → AreAlike acts others → AreAlike others acts
 turned acts others alike = record { are = sym alike.are }
 
@@ -85,6 +88,7 @@ record HasLike (others : List Act) (act : Act) : Type 0 where
   there : In act' others
   same : bare_of act ≡ bare_of act'
 
+-- each act has its like
 like : (acts others : List Act) → AreAlike acts others → (act : Act) → In act acts → HasLike others act
 like acts others alike act i =
     let m = In_from_map bare_of others (bare_of act) (subst (λ l. In (bare_of act) l) alike.are (In_map bare_of acts act i)) in
@@ -106,6 +110,7 @@ module _ (acts others : List Act) (alike : AreAlike acts others) where
 
   -- ---- by kind
 
+  -- the value of a register is one of the other list
   register_like : (word : Option (List ℕ)) → IsRegisterOver acts word → IsRegisterOver others word
   register_like None none = λ act word i writes. let l = here act i in none l.act' word l.there (write_like act l.act' word l.same writes)
   register_like (Some word) last =
@@ -120,6 +125,7 @@ module _ (acts others : List Act) (alike : AreAlike acts others) where
             ap (λ mark. is_le (mark_cmp mark l.act'.mark)) (same_mark other m.act' m.same) ∙ (ap (λ mark. is_le (mark_cmp m.act'.mark mark)) (sym (same_mark last.act l.act' l.same)) ∙ is);
       }
 
+  -- an add that no remove sees has its like
   add_like : (word : List ℕ) (act : Act) → IsUnseenAdd acts word act → (act' : Act) × IsUnseenAdd others word act'
   add_like word act add =
       let l = like acts others alike act add.there in (
@@ -131,6 +137,7 @@ module _ (acts others : List Act) (alike : AreAlike acts others) where
         },
       )
 
+  -- a put that no erase sees has its like
   put_like : (key word : List ℕ) (act act' : Act) → bare_of act ≡ bare_of act' → In act' others → IsUnseenPut acts key word act → IsUnseenPut others key word act'
   put_like key word act act' same there is = record {
     there = there;
@@ -142,6 +149,7 @@ module _ (acts others : List Act) (alike : AreAlike acts others) where
   back : AreAlike others acts
   back = turned acts others alike
 
+  -- the value of a set is one of the other list
   set_like : (words : List (List ℕ)) → IsSetOver acts words → IsSetOver others words
   set_like words is = record {
     ascending = is.ascending;
@@ -151,6 +159,7 @@ module _ (acts others : List Act) (alike : AreAlike acts others) where
     );
   }
 
+  -- the word of the greatest put of a key is that of the other list
   word_like : (key word : List ℕ) → IsWordAt acts key word → IsWordAt others key word
   word_like key word w =
       let l = like acts others alike w.act w.is.there in
@@ -164,6 +173,7 @@ module _ (acts others : List Act) (alike : AreAlike acts others) where
       }
 
 module _ (acts others : List Act) (alike : AreAlike acts others) where
+  -- the value of a map is one of the other list
   map_like : (pairs : List (List ℕ × List ℕ)) → IsMapOver acts pairs → IsMapOver others pairs
   map_like pairs is = record {
     ascending = is.ascending;
@@ -179,18 +189,7 @@ module _ (acts others : List Act) (alike : AreAlike acts others) where
   value_like sort.Register sum (Word word) is = register_like acts others alike word is
   value_like sort.Set sum (Words words) is = set_like acts others alike words is
   value_like sort.Map sum (Pairs pairs) is = map_like pairs is
-  value_like sort.Counter sum (Word word) is = absurd is
-  value_like sort.Counter sum (Words words) is = absurd is
-  value_like sort.Counter sum (Pairs pairs) is = absurd is
-  value_like sort.Register sum (Number number) is = absurd is
-  value_like sort.Register sum (Words words) is = absurd is
-  value_like sort.Register sum (Pairs pairs) is = absurd is
-  value_like sort.Set sum (Number number) is = absurd is
-  value_like sort.Set sum (Word word) is = absurd is
-  value_like sort.Set sum (Pairs pairs) is = absurd is
-  value_like sort.Map sum (Number number) is = absurd is
-  value_like sort.Map sum (Word word) is = absurd is
-  value_like sort.Map sum (Words words) is = absurd is
+  value_like _ sum _ is = absurd is
 
 -- alike lists have the same deltas
 pub deltas_like : (acts others : List Act) → map bare_of acts ≡ map bare_of others → deltas_in acts ≡ deltas_in others
@@ -217,14 +216,17 @@ again bare = ap (λ (c : Change). record { mark = bare.mark; deps = bare.deps; c
     go (change.Put key word) = refl
     go (change.Erase key) = refl
 
+-- bare acts are those of the acts over nothing
 all_again : (bares : List BareAct) → map bare_of (map act_of bares) ≡ bares
 all_again [] = refl
 all_again (bare ∷ bares) = ap (λ b. b ∷ map bare_of (map act_of bares)) (again bare) ∙ ap (λ l. bare ∷ l) (all_again bares)
 
 module _ (bares : List BareAct) (whole : List Act) (same : bares ≡ map bare_of whole) where
+  -- the acts over nothing are alike any acts that the bare ones are of
   alike : AreAlike (map act_of bares) whole
   alike = record { are = all_again bares ∙ same }
 
+  -- and have the same sum
   sums_like : sum_of (map act_of bares) ≡ sum_of whole
   sums_like = ap total (deltas_like (map act_of bares) whole alike.are)
 

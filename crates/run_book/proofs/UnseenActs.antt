@@ -18,10 +18,12 @@ use Rattle.run_book.proofs.FilterMaps.{In_filter_map, In_from_filter_map}
 
 -- ---- names
 
+-- where the test holds, the name is there
 is_name-true : (o : Option (List ℕ)) (name : List ℕ) → is_name o name ≡ true → o ≡ Some name
 is_name-true None name is = absurd (false≢true is)
 is_name-true (Some other) name is = ap Some ((bytes_decides other name).0 is)
 
+-- of a name that is there the test holds
 is_name-from : (o : Option (List ℕ)) (name : List ℕ) → o ≡ Some name → is_name o name ≡ true
 is_name-from o name is = ap (λ o. is_name o name) is ∙ (bytes_decides name name).1 refl
 
@@ -32,12 +34,15 @@ module _ (takes : Op → Option (List ℕ)) (acts : List Act) where
   abbrev pub IsUntaken : List ℕ → Act → Type 0
   IsUntaken name act = (other : Act) → In other acts → takes other.op ≡ Some name → sees other act ≡ false
 
+  -- the other act takes out the name and sees the act
   abbrev does : List ℕ → Act → Act → Bool
   does name act other = is_name (takes other.op) name && sees other act
 
+  -- where the test fails, nothing takes out the name
   not_taken : (name : List ℕ) (act : Act) → is_taken takes acts name act ≡ false → IsUntaken name act
   not_taken name act none other i named = false_from_ne_true (sees other act) (λ s. false≢true (sym (any_false (does name act) acts other none i) ∙ and_from (is_name (takes other.op) name) (sees other act) (is_name-from (takes other.op) name named) s))
 
+  -- where nothing takes it out, the test fails
   untaken : (name : List ℕ) (act : Act) → IsUntaken name act → is_taken takes acts name act ≡ false
   untaken name act clear = false_from_ne_true (is_taken takes acts name act) seen
     where
@@ -62,6 +67,7 @@ module _ (takes : Op → Option (List ℕ)) (acts : List Act) where
         go None e there = absurd (none-some y there)
         go (Some z) e there = let r = tested z (is_taken takes acts (name z) act) refl there in (e ∙ ap Some r.0, r.1)
 
+    -- what an act gives and nothing takes out is there
     pub to_unseen : (act : Act) (y : Y) → gives act.op ≡ Some y → IsUntaken (name y) act → unseen gives name takes acts act ≡ Some y
     to_unseen act y is clear =
         ap (λ o. option_and_then (λ y. when (not (is_taken takes acts (name y) act)) y) o) is
@@ -97,15 +103,18 @@ pub record IsOfAct (acts : List Act) (kept : UnseenPut) : Type 0 where
   pub mark : act.mark ≡ kept.mark
 
 module _ (acts : List Act) where
+  -- a put with the mark of its act
   abbrev pub kept_of : Act → (List ℕ × List ℕ) → UnseenPut
   kept_of act put = record { mark = act.mark; key = put.0; word = put.1 }
 
+  -- what becomes of a put has its key, its word and the mark
   mapped : (act : Act) (o : Option (List ℕ × List ℕ)) (kept : UnseenPut) → option_map (kept_of act) o ≡ Some kept → (o ≡ Some (kept.key, kept.word)) × (act.mark ≡ kept.mark)
   mapped act None kept is = absurd (none-some kept is)
   mapped act (Some put) kept is =
       let same = same_Some (kept_of act put) kept is in
       (ap (λ kept. Some (kept.key, kept.word)) same, ap (λ kept. kept.mark) same)
 
+  -- each of the unseen puts is one of an act
   pub put_of : (kept : UnseenPut) → In kept (filter_map (unseen_put acts) acts) → IsOfAct acts kept
   put_of kept i =
       let r = In_from_filter_map (unseen_put acts) acts kept i in
@@ -113,5 +122,6 @@ module _ (acts : List Act) where
       let u = from_unseen erased acts put (λ put. put.0) r.0 (kept.key, kept.word) m.0 in
       record { act = r.0; is = record { there = r.1; puts = u.0; unseen = u.1 }; mark = m.1 }
 
+  -- each put that no erase sees is among them
   pub of_put : (key word : List ℕ) (act : Act) → IsUnseenPut acts key word act → In (kept_of act (key, word)) (filter_map (unseen_put acts) acts)
   of_put key word act is = In_filter_map (unseen_put acts) acts act (kept_of act (key, word)) is.there (ap (option_map (kept_of act)) (to_unseen erased acts put (λ put. put.0) act (key, word) is.puts is.unseen))

@@ -1,5 +1,5 @@
 -- The values of objects over a set of transactions of a graph, followed by open updates, by which
--- update sees which (Shapiro and others, INRIA RR-7506). No code computes them so.
+-- update sees which (Shapiro and others, INRIA RR-7506). Sessions and centres do not compute them so.
 use Rattle.std.specs.Prelude.{◌≡◌, ◌↔◌, ℕ, ◌+◌, ℤ, Bool, false, ◌&&◌, ◌||◌, cond, nat_lt, map, filter, flat_map, List, [], ◌∷◌, ◌++◌, Option, Some, None, IsTrue}
 use Rattle.std.specs.List.{cons_option}
 use Rattle.std.specs.List.Sorted.{IsStrictlySortedBy}
