@@ -40,7 +40,7 @@ in_range first (suc count) k low high =
     ⊎_elim (λ lt. inr (in_range (first + 1) count k (omega (arith, lt)) (omega (arith, high)))) (λ le. inl (omega (arith, le, low))) (cases_lt first k)
 
 -- a number of the range is from the first on, below the end
-range_in : (first count k : ℕ) → In k (range_with_len first count) → (first ≤ k) × (k < first + count)
+pub range_in : (first count k : ℕ) → In k (range_with_len first count) → (first ≤ k) × (k < first + count)
 range_in first zero k i = absurd i
 range_in first (suc count) k (inl same) = (omega (arith, same), omega (arith, same))
 range_in first (suc count) k (inr i) = let r = range_in (first + 1) count k i in (omega (arith, r.0), omega (arith, r.1))

@@ -18,3 +18,6 @@ pub mod AscendingNames
 pub mod UnseenActs
 pub mod PairsOfPuts
 pub mod SameValues
+pub mod Replays
+pub mod Ascending
+pub mod Bases

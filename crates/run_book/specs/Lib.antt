@@ -13,3 +13,6 @@ pub mod Numbers
 pub mod Together
 pub mod Acts
 pub mod Unseen
+pub mod Edits
+pub mod Replay
+pub mod Basis

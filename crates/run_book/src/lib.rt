@@ -3,10 +3,13 @@
 #![tactic(auto)]
 
 mod acts;
+mod basis;
 mod book;
 mod dot_set;
+mod edits;
 mod last;
 mod laws;
+mod replay;
 mod unseen;
 mod values;
 

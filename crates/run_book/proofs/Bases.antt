@@ -1,0 +1,200 @@
+-- What the centres stamped is what a vector covers, so a replay stands on what its client stands on.
+use Rattle.std.proofs.Common.{◌≡◌, ℕ, zero, suc, ◌+◌, ◌-◌, ◌≤◌, ◌<◌, Bool, true, false, cond, List, [], ◌∷◌, ◌++◌, length, take, map, fold, Some, refl, sym, ap, ◌∙◌, subst, arith, get_or, add-one}
+use Rattle.std.specs.Prelude.{slice_get, flat_map, ◌==◌, ◌&&◌}
+use Rattle.std.specs.List.{cons_option, range_with_len}
+use Rattle.std.proofs.lemmas.Bool.{and_parts, eq-eqb, false_from_ne_true, eqb-true}
+use Rattle.std.proofs.lemmas.List.FromFn.{map-range_with_len_more}
+use Rattle.std.proofs.lemmas.List.{append-nil, append_assoc, map-append, take-map, take_all, length-replicate, get_or-map}
+use Rattle.std.proofs.lemmas.List.Elements.{filter_map-append}
+use Rattle.std.proofs.lemmas.List.Sums.{fold_push}
+use Rattle.std.proofs.lemmas.Grind.{flat_map-append}
+use Rattle.list_core.proofs.Moments.{by_moments}
+use Rattle.ids_core.specs.declared.ids.Dot.{Dot}
+use Rattle.vv_core.specs.declared.stamp.Stamp.{Stamp}
+use Rattle.vv_core.specs.Vectors.{at, centres}
+use Rattle.tx_core.specs.declared.tx.Record.{Record}
+use Rattle.dc_talk.specs.declared.ask.Ask.{Ask}
+use Rattle.dc_talk.specs.declared.ask.Ask.TheVariants.{Hello, Refresh, Fetch, Commit, Deliver}
+use Rattle.dc_talk.specs.declared.say.Say.{Say}
+use Rattle.dc_talk.specs.declared.say.Say.TheVariants.{Welcome, Snap, Object, Known, Stamped, Applied}
+use Rattle.dc_talk.specs.declared.session.Call.{Call}
+use Rattle.dc_talk.specs.declared.session.Call.TheVariants.{Begin, Change as ChangeCall, Read, Commit as CommitCall, Abort}
+use Rattle.dc_talk.specs.declared.session.Outcome.{Outcome}
+use Rattle.dc_talk.specs.declared.session.Outcome.TheVariants.{Fine, Got, Number, Nothing, Refused}
+use Rattle.dc_talk.specs.declared.session.Refusal.TheVariants.{TooManyTags}
+use Rattle.dc_talk.specs.declared.log.Fate.TheVariants.{Heard}
+use Rattle.dc_talk.specs.declared.log.Deed.{Deed}
+use Rattle.dc_talk.specs.declared.log.Deed.TheVariants.{Did, Asked, Told}
+use Rattle.dc_talk.specs.declared.log.Note.{Note}
+use Rattle.dc_talk.specs.declared.trail.Entry.{Entry}
+use Rattle.dc_talk.specs.Logs.{Logged, Kept}
+use Rattle.dc_talk.specs.Records.{own, deps_of}
+use Rattle.dc_talk.specs.Trails.{committed_in, stamp_in, delivered_in, is_applied, stamped, received, grown, applied}
+use Rattle.dc_talk.specs.Answers.{answer, History}
+use Rattle.dc_talk.specs.Clients.{Client, new_client}
+use Rattle.dc_talk.specs.Calls.{did}
+use Rattle.dc_talk.specs.Rule.{after, takes, taken, is_linked, can_follow, client_after}
+use Rattle.dc_talk.proofs.Inversions.{stamped_by, applied_by}
+use Rattle.run_book.specs.declared.book.Book.{Book}
+use Rattle.run_book.specs.declared.replay.Replay.{Replay}
+use Rattle.run_book.specs.Books.{entries_of}
+use Rattle.run_book.specs.Parts.{trail_of, no_log, log_of, notes_of}
+use Rattle.run_book.specs.Fit.{FitsWith}
+use Rattle.run_book.specs.Graphs.{own_list, cover, own_dots, basis, client_at, basis_at}
+use Rattle.run_book.specs.Replay.{Shows}
+use Rattle.run_book.specs.Basis.{dot_stamped, stamped_dots, stamped_cover, basis_of}
+use Rattle.run_book.proofs.Lists.{flat_map-agree}
+use Rattle.run_book.proofs.Sessions.{can_follow-true}
+use Rattle.run_book.proofs.Held.{dot_at}
+use Rattle.run_book.proofs.Dots.{range_in}
+
+-- ---- the trail of a centre
+
+-- the trail that stands at a centre's place
+pub trail_there : (b : Book) (trails : List Kept) (centre place : ℕ) (trail : Kept) → entries_of trails ≡ b.trails → 1 ≤ centre → place ≡ centre - 1 → place < length trails → trail ≡ get_or trails place trail → trail.entries ≡ trail_of b centre
+trail_there b trails zero place trail is low at lt found = absurd (omega (arith, low))
+trail_there b trails (suc i) place trail is low at lt found =
+    let here : place ≡ i = omega (arith, at) in
+    ap (λ (t : Kept). t.entries) found ∙ (sym (get_or-map (λ (t : Kept). t.entries) trails place trail [] lt) ∙ (ap (λ l. get_or l place []) is ∙ ap (λ p. get_or b.trails p []) here))
+
+-- the log that stands at an actor's place
+pub log_there : (b : Book) (logs : List Logged) (place : ℕ) (log : Logged) → logs ≡ b.logs → log ≡ get_or logs place no_log → log ≡ log_of b (place + 1)
+log_there b logs place log is found = rw add-one (found ∙ ap (λ l. get_or l place no_log) is)
+
+-- ---- own records and stamped commits
+
+-- an own record more
+own_more : (me : ℕ) (A : List Record) (r : Record) → r.stamp.centre ≡ me → map (λ r. r.tx.dot) (own me (A ++ r ∷ [])) ≡ map (λ r. r.tx.dot) (own me A) ++ r.tx.dot ∷ []
+own_more me A r same =
+    ap (map (λ r. r.tx.dot)) (Rattle.std.proofs.lemmas.List.Elements.filter-append (λ (r : Record). r.stamp.centre == me) A (r ∷ []) ∙ ap (λ b. own me A ++ cond b (r ∷ []) []) (eq-eqb r.stamp.centre me same))
+    ∙ map-append (λ r. r.tx.dot) (own me A) (r ∷ [])
+
+-- a record of another centre is none
+own_other : (me : ℕ) (A : List Record) (r : Record) → (r.stamp.centre ≡ me → ⊥) → own me (A ++ r ∷ []) ≡ own me A
+own_other me A r other =
+    Rattle.std.proofs.lemmas.List.Elements.filter-append (λ (r : Record). r.stamp.centre == me) A (r ∷ [])
+    ∙ (ap (λ b. own me A ++ cond b (r ∷ []) []) (false_from_ne_true (r.stamp.centre == me) (λ t. other (eqb-true r.stamp.centre me t))) ∙ append-nil (own me A))
+
+-- the records that a centre stamped are its stamped commits, in order
+own_stamped_at : (me n k limit : ℕ) (trail : List Entry) → History me n k limit trail → (p : ℕ) → map (λ r. r.tx.dot) (own me (applied n (take p trail))) ≡ stamped_dots (take p trail)
+own_stamped_at me n k limit trail history = by_moments (λ X. map (λ r. r.tx.dot) (own me (applied n X)) ≡ stamped_dots X) trail refl step
+  where
+    step : (p : ℕ) (entry : Entry) → slice_get trail p ≡ Some entry → map (λ r. r.tx.dot) (own me (applied n (take p trail))) ≡ stamped_dots (take p trail) → map (λ r. r.tx.dot) (own me (applied n (take p trail ++ entry ∷ []))) ≡ stamped_dots (take p trail ++ entry ∷ [])
+    step p entry there before =
+        ap (λ A. map (λ r. r.tx.dot) (own me A)) (fold_push (grown n) [] (take p trail) entry)
+        ∙ (go entry.ask entry.say (history.by p entry there)
+        ∙ (ap (λ l. l ++ cons_option (dot_stamped entry.ask entry.say) []) before
+        ∙ sym (filter_map-append (λ (e : Entry). dot_stamped e.ask e.say) (take p trail) (entry ∷ []))))
+      where
+        A : List Record
+        A = applied n (take p trail)
+
+        same : own me A ≡ own me A → map (λ r. r.tx.dot) (own me A) ≡ map (λ r. r.tx.dot) (own me A) ++ []
+        same is = sym (append-nil (map (λ r. r.tx.dot) (own me A)))
+
+        go : (ask : Ask) (say : Say) → say ≡ answer me n k limit (take p trail) ask → map (λ r. r.tx.dot) (own me (received (stamped n A (committed_in ask) (stamp_in say)) (delivered_in ask) (is_applied say))) ≡ map (λ r. r.tx.dot) (own me A) ++ cons_option (dot_stamped ask say) []
+        go (Commit tx) (Stamped stamp) is =
+            let by = stamped_by me n k limit (take p trail) tx stamp is in
+            own_more me A (record { stamp = stamp; deps = deps_of n A tx; tx = tx }) (ap (λ (s : Stamp). s.centre) by.is)
+        go (Commit tx) _ is = same refl
+        go (Deliver item) (Applied fresh) is =
+            let by = applied_by me n k limit (take p trail) item fresh is in
+            ap (map (λ r. r.tx.dot)) (own_other me A item by.other) ∙ same refl
+        go (Deliver item) _ is = same refl
+        go _ _ is = same refl
+
+-- so are those of the whole trail
+own_stamped : (me n k limit : ℕ) (trail : List Entry) → History me n k limit trail → map (λ r. r.tx.dot) (own me (applied n trail)) ≡ stamped_dots trail
+own_stamped me n k limit trail history = subst (λ X. map (λ r. r.tx.dot) (own me (applied n X)) ≡ stamped_dots X) (take_all (length trail) trail (omega arith)) (own_stamped_at me n k limit trail history (length trail))
+
+-- ---- the width of a snapshot
+
+-- a call leaves it
+wide_did : (s : Client) (call : Call) (outcome : Outcome) → length (did s call outcome).vector ≡ length s.vector
+wide_did s Begin Fine = refl
+wide_did s (ChangeCall o change) Fine = refl
+wide_did s (ChangeCall o change) (Refused (TooManyTags count)) = refl
+wide_did s (Read o) (Got value) = refl
+wide_did s CommitCall (Number number) = refl
+wide_did s CommitCall Nothing = refl
+wide_did s Abort Fine = refl
+wide_did s _ _ = refl
+
+-- so does an answer that is taken
+wide_taken : (s : Client) (i : ℕ) (ask : Ask) (say : Say) → takes s i ask say ≡ true → length (taken s i ask say).vector ≡ length s.vector
+wide_taken s i (Hello c need) (Welcome through) is = refl
+wide_taken s i (Refresh c here) (Snap vector mine top) is =
+    let parts = and_parts ((c == s.client) && is_linked i s.link) (can_follow s vector mine top) is in
+    (can_follow-true s vector mine top parts.1).width
+wide_taken s i (Fetch o here) (Object state) is = refl
+wide_taken s i (Commit tx) (Stamped stamp) is = refl
+wide_taken s i (Commit tx) (Known through) is = refl
+wide_taken s i _ _ is = refl
+
+-- and a deed
+wide_deed : (s : Client) (deed : Deed) → length (after s deed).vector ≡ length s.vector
+wide_deed s (Did call outcome) = wide_did s call outcome
+wide_deed s (Asked i ask (Heard say)) = go (takes s i ask say) refl
+  where
+    go : (b : Bool) → takes s i ask say ≡ b → length (cond b (taken s i ask say) s).vector ≡ length s.vector
+    go true is = wide_taken s i ask say is
+    go false is = refl
+wide_deed s (Asked i ask _) = refl
+wide_deed s (Told line) = refl
+
+-- and notes
+wide_on : (s : Client) (notes : List Note) → length (fold (λ s note. after s note.deed) s notes).vector ≡ length s.vector
+wide_on s [] = refl
+wide_on s (note ∷ notes) = wide_on (after s note.deed) notes ∙ wide_deed s note.deed
+
+-- a snapshot has an entry for each centre
+pub wide_after : (n client capacity : ℕ) (notes : List Note) → length (client_after n client capacity notes).vector ≡ n
+wide_after n client capacity notes = wide_on (new_client n client capacity) notes ∙ length-replicate n 0
+
+-- ---- what a vector covers
+
+-- the dots of a client's first transactions, with one more
+pub own_dots_more : (front : List Dot) (client count : ℕ) → (front ++ own_dots client count) ++ record { client = client; number = count + 1 } ∷ [] ≡ front ++ own_dots client (count + 1)
+own_dots_more front client count =
+    append_assoc front (own_dots client count) (dot_at client (count + 1) ∷ [])
+    ∙ ap (λ l. front ++ l) (sym (map-range_with_len_more (dot_at client) 1 count (count + 1) (omega arith)))
+
+-- a centre more
+pub centre_more : (f : ℕ → List Dot) (centre : ℕ) → 1 ≤ centre → flat_map f (centres (centre - 1)) ++ f centre ≡ flat_map f (centres (centre + 1 - 1))
+centre_more f zero low = absurd (omega (arith, low))
+centre_more f (suc i) low =
+    let before : suc i - 1 ≡ i = omega arith in
+    let now : suc i + 1 - 1 ≡ suc i = omega arith in
+    let last : 1 + i ≡ suc i = omega arith in
+    ap (λ k. flat_map f (centres k) ++ f (suc i)) before
+    ∙ (ap (λ l. flat_map f (centres i) ++ l) (sym (append-nil (f (suc i))))
+    ∙ (sym (flat_map-append f (centres i) (suc i ∷ []))
+    ∙ (ap (λ k. flat_map f (centres i ++ k ∷ [])) (sym last)
+    ∙ (ap (flat_map f) (sym (range_more 1 i)) ∙ ap (λ k. flat_map f (centres k)) (sym now)))))
+  where
+    range_more : (first k : ℕ) → range_with_len first (suc k) ≡ range_with_len first k ++ (first + k) ∷ []
+    range_more first zero = ap (λ n. n ∷ []) (omega arith)
+    range_more first (suc k) = ap (λ l. first ∷ l) (range_more (first + 1) k ∙ ap (λ n. range_with_len (first + 1) k ++ n ∷ []) (omega arith))
+
+module _ (b : Book) (clients limit capacity : ℕ) (fit : FitsWith b clients limit capacity) where
+  -- what the centres stamped is what a vector covers
+  pub stamped_covers : (vector : List ℕ) → length vector ≡ b.n → stamped_cover b vector ≡ cover b vector
+  stamped_covers vector wide =
+      ap (λ n. flat_map (λ e. take (at vector e) (stamped_dots (trail_of b e))) (centres n)) wide
+      ∙ flat_map-agree _ _ (centres b.n) (λ e i. same e (range_in 1 b.n e i))
+    where
+      same : (e : ℕ) → (1 ≤ e) × (e < 1 + b.n) → take (at vector e) (stamped_dots (trail_of b e)) ≡ map (λ r. r.tx.dot) (take (at vector e) (own_list b e))
+      same e range =
+          ap (take (at vector e)) (sym (own_stamped e b.n b.k limit (trail_of b e) (fit.histories e range.0 (omega (arith, range.1)))))
+          ∙ take-map (λ (r : Record). r.tx.dot) (at vector e) (own_list b e)
+
+  -- a replay stands on what its client stands on
+  pub shows_basis : (r : Replay) (s : Client) → Shows r s → length s.vector ≡ b.n → basis_of b r ≡ basis b s
+  shows_basis r s h wide =
+      ap (λ v. stamped_cover b v ++ own_dots r.client r.own) h.vector
+      ∙ (ap (λ l. l ++ own_dots r.client r.own) (stamped_covers s.vector wide)
+      ∙ (ap (λ c. cover b s.vector ++ own_dots c r.own) h.client ∙ ap (λ k. cover b s.vector ++ own_dots s.client k) h.own))
+
+  -- the replay of a client at a note stands on the basis there
+  pub read_basis : (a note : ℕ) (r : Replay) → Shows r (client_at b capacity a note) → basis_of b r ≡ basis_at b capacity a note
+  read_basis a note r shows = shows_basis r (client_at b capacity a note) shows (wide_after b.n (a - 1) capacity (take note (notes_of b a)))

@@ -1,0 +1,76 @@
+-- What a replay shows of its client, deed by deed.
+use Rattle.std.proofs.Common.{◌≡◌, ℕ, ◌+◌, ◌-◌, min, max, Bool, true, false, cond, List, take, Option, Some, None, refl, ap, ◌∙◌, subst, arith, add-one}
+use Rattle.std.specs.Prelude.{slice_get}
+use Rattle.std.specs.Option.{option_map}
+use Rattle.std.proofs.lemmas.List.Sums.{fold_push}
+use Rattle.list_core.proofs.Moments.{take_one_more}
+use Rattle.dc_talk.specs.declared.ask.Ask.{Ask}
+use Rattle.dc_talk.specs.declared.ask.Ask.TheVariants.{Hello, Refresh, Fetch, Commit}
+use Rattle.dc_talk.specs.declared.say.Say.{Say}
+use Rattle.dc_talk.specs.declared.say.Say.TheVariants.{Object, Known, Stamped}
+use Rattle.dc_talk.specs.declared.session.Link.{Link}
+use Rattle.dc_talk.specs.declared.log.Note.{Note}
+use Rattle.dc_talk.specs.Clients.{Client, new_client}
+use Rattle.dc_talk.specs.Logs.{Logged}
+use Rattle.dc_talk.specs.Rule.{heard, takes, taken, sent_through, after, client_after, Allows, Follows}
+use Rattle.dc_talk.proofs.Growing.{each_take}
+use Rattle.run_book.specs.declared.book.Book.{Book}
+use Rattle.run_book.specs.declared.replay.Replay.{Replay}
+use Rattle.run_book.specs.Parts.{log_of, notes_of, IsClient}
+use Rattle.run_book.specs.Fit.{FitsWith}
+use Rattle.run_book.specs.Graphs.{client_at}
+use Rattle.run_book.specs.Replay.{Shows, IsInRange}
+use Rattle.run_book.proofs.Growth.{numbers}
+
+-- what is sent changes no centre
+sent_same : (number own : ℕ) (link : Option Link) → option_map (λ (l : Link). l.centre) link ≡ option_map (λ (l : Link). l.centre) (sent_through number own link)
+sent_same number own None = refl
+sent_same number own (Some link) = refl
+
+-- the client with another link to the same centre
+shows_link : (r : Replay) (s : Client) (link : Option Link) → option_map (λ (l : Link). l.centre) s.link ≡ option_map (λ (l : Link). l.centre) link → Shows r s → Shows r (record s { link = link })
+shows_link r s link same h = record { client = h.client; vector = h.vector; own = h.own; mine = h.mine; clock = h.clock; centre = h.centre ∙ same; open_edits = h.open_edits }
+
+-- the client with another cache
+shows_cache : (r : Replay) (s : Client) (cache : _) → Shows r s → Shows r (record s { cache = cache })
+shows_cache r s cache h = record { client = h.client; vector = h.vector; own = h.own; mine = h.mine; clock = h.clock; centre = h.centre; open_edits = h.open_edits }
+
+-- an answer to another ask than a hello or a refresh, taken
+other_taken : (r : Replay) (s : Client) (i : ℕ) (ask : Ask) (say : Say) → ((client : ℕ) (here : List ℕ) → ask ≡ Refresh client here → ⊥) → ((client : ℕ) (need : List ℕ) → ask ≡ Hello client need → ⊥) → Shows r s → Shows r (taken s i ask say)
+other_taken r s i (Hello client need) say no_refresh no_hello h = absurd (no_hello client need refl)
+other_taken r s i (Refresh client here) say no_refresh no_hello h = absurd (no_refresh client here refl)
+other_taken r s i (Fetch o here) (Object state) no_refresh no_hello h = shows_cache r s _ h
+other_taken r s i (Commit tx) (Stamped stamp) no_refresh no_hello h = shows_link r s _ (sent_same tx.dot.number s.own s.link) h
+other_taken r s i (Commit tx) (Known through) no_refresh no_hello h = shows_link r s _ (sent_same through s.own s.link) h
+other_taken r s i _ _ no_refresh no_hello h = h
+
+-- an answer to another ask than a hello or a refresh changes nothing that is shown
+pub other_heard : (r : Replay) (s : Client) (i : ℕ) (ask : Ask) (say : Say) → ((client : ℕ) (here : List ℕ) → ask ≡ Refresh client here → ⊥) → ((client : ℕ) (need : List ℕ) → ask ≡ Hello client need → ⊥) → Shows r s → Shows r (heard s i ask say)
+other_heard r s i ask say no_refresh no_hello h = go (takes s i ask say)
+  where
+    go : (b : Bool) → Shows r (cond b (taken s i ask say) s)
+    go true = other_taken r s i ask say no_refresh no_hello h
+    go false = h
+
+-- a client's numbers are in range at each moment of a log that follows the rule
+pub in_range_at : (n client capacity m : ℕ) (notes : List Note) → Follows n client capacity notes → IsInRange (client_after n client capacity (take m notes))
+in_range_at n client capacity m notes follows =
+    let h = numbers n client capacity notes follows m in
+    record { own = omega (arith, h.clock.0, h.clock.1); clock = h.clock.1 }
+
+-- the client after one more note
+pub after_more : (n client capacity m : ℕ) (notes : List Note) (note : Note) → slice_get notes m ≡ Some note → client_after n client capacity (take (m + 1) notes) ≡ after (client_after n client capacity (take m notes)) note.deed
+after_more n client capacity m notes note there =
+    rw add-one (ap (client_after n client capacity) (take_one_more notes m note there) ∙ fold_push (λ s note. after s note.deed) (new_client n client capacity) (take m notes) note)
+
+-- the client at a note of a book that fits, where the replay shows what its log tells
+pub shows_at : (b : Book) (clients limit capacity a note n client : ℕ) (notes : List Note) (log : Logged) (r : Replay) → FitsWith b clients limit capacity → IsClient clients a → log ≡ log_of b a → n ≡ max 1 (min b.n 8) → client ≡ log.actor - 1 → notes ≡ take note log.notes → ((capacity : ℕ) → Follows n client capacity notes → Shows r (client_after n client capacity notes)) → Shows r (client_at b capacity a note)
+shows_at b clients limit capacity a note n client notes log r fit is_client is many who first shows =
+    let n_is : n ≡ b.n = omega (arith, many, fit.form.n.0, fit.form.n.1) in
+    let actor : log.actor ≡ a = ap (λ (l : Logged). l.actor) is ∙ fit.form.actors a (omega (arith, is_client.low)) (omega (arith, is_client.high, fit.form.logs)) in
+    let who_is : client ≡ a - 1 = who ∙ ap (λ a. a - 1) actor in
+    let notes_are : notes ≡ take note (notes_of b a) = first ∙ ap (λ (l : Logged). take note l.notes) is in
+    subst (λ n. Follows n (a - 1) capacity (take note (notes_of b a)) → Shows r (client_after n (a - 1) capacity (take note (notes_of b a)))) n_is
+    (subst (λ c. Follows n c capacity (take note (notes_of b a)) → Shows r (client_after n c capacity (take note (notes_of b a)))) who_is
+    (subst (λ ns. Follows n client capacity ns → Shows r (client_after n client capacity ns)) notes_are (shows capacity)))
+    (each_take (λ before (note : Note). Allows (client_after b.n (a - 1) capacity before) before note.deed) (notes_of b a) note (fit.follows a is_client))
