@@ -1,13 +1,12 @@
 -- What the centres stamped is what a vector covers, so a replay stands on what its client stands on.
 use Rattle.std.proofs.Common.{◌≡◌, ℕ, zero, suc, ◌+◌, ◌-◌, ◌≤◌, ◌<◌, Bool, true, false, cond, List, [], ◌∷◌, ◌++◌, length, take, map, fold, Some, refl, sym, ap, ◌∙◌, subst, arith, get_or, add-one}
 use Rattle.std.specs.Prelude.{slice_get, flat_map, ◌==◌, ◌&&◌}
-use Rattle.std.specs.List.{cons_option, range_with_len}
+use Rattle.std.specs.List.{cons_option}
 use Rattle.std.proofs.lemmas.Bool.{and_parts, eq-eqb, false_from_ne_true, eqb-true}
 use Rattle.std.proofs.lemmas.List.FromFn.{map-range_with_len_more}
 use Rattle.std.proofs.lemmas.List.{append-nil, append_assoc, map-append, take-map, take_all, length-replicate, get_or-map}
 use Rattle.std.proofs.lemmas.List.Elements.{filter_map-append}
 use Rattle.std.proofs.lemmas.List.Sums.{fold_push}
-use Rattle.std.proofs.lemmas.Grind.{flat_map-append}
 use Rattle.list_core.proofs.Moments.{by_moments}
 use Rattle.ids_core.specs.declared.ids.Dot.{Dot}
 use Rattle.vv_core.specs.declared.stamp.Stamp.{Stamp}
@@ -158,23 +157,6 @@ pub own_dots_more : (front : List Dot) (client count : ℕ) → (front ++ own_do
 own_dots_more front client count =
     append_assoc front (own_dots client count) (dot_at client (count + 1) ∷ [])
     ∙ ap (λ l. front ++ l) (sym (map-range_with_len_more (dot_at client) 1 count (count + 1) (omega arith)))
-
--- a centre more
-pub centre_more : (f : ℕ → List Dot) (centre : ℕ) → 1 ≤ centre → flat_map f (centres (centre - 1)) ++ f centre ≡ flat_map f (centres (centre + 1 - 1))
-centre_more f zero low = absurd (omega (arith, low))
-centre_more f (suc i) low =
-    let before : suc i - 1 ≡ i = omega arith in
-    let now : suc i + 1 - 1 ≡ suc i = omega arith in
-    let last : 1 + i ≡ suc i = omega arith in
-    ap (λ k. flat_map f (centres k) ++ f (suc i)) before
-    ∙ (ap (λ l. flat_map f (centres i) ++ l) (sym (append-nil (f (suc i))))
-    ∙ (sym (flat_map-append f (centres i) (suc i ∷ []))
-    ∙ (ap (λ k. flat_map f (centres i ++ k ∷ [])) (sym last)
-    ∙ (ap (flat_map f) (sym (range_more 1 i)) ∙ ap (λ k. flat_map f (centres k)) (sym now)))))
-  where
-    range_more : (first k : ℕ) → range_with_len first (suc k) ≡ range_with_len first k ++ (first + k) ∷ []
-    range_more first zero = ap (λ n. n ∷ []) (omega arith)
-    range_more first (suc k) = ap (λ l. first ∷ l) (range_more (first + 1) k ∙ ap (λ n. range_with_len (first + 1) k ++ n ∷ []) (omega arith))
 
 module _ (b : Book) (clients limit capacity : ℕ) (fit : FitsWith b clients limit capacity) where
   -- what the centres stamped is what a vector covers

@@ -20,4 +20,6 @@ pub mod PairsOfPuts
 pub mod SameValues
 pub mod Replays
 pub mod Ascending
+pub mod Ranges
 pub mod Bases
+pub mod BareNodes

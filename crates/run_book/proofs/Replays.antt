@@ -1,5 +1,5 @@
 -- What a replay shows of its client, deed by deed.
-use Rattle.std.proofs.Common.{◌≡◌, ℕ, ◌+◌, ◌-◌, min, max, Bool, true, false, cond, List, take, Option, Some, None, refl, ap, ◌∙◌, subst, arith, add-one}
+use Rattle.std.proofs.Common.{◌≡◌, ℕ, ◌+◌, ◌-◌, min, max, Bool, true, false, cond, List, take, Option, Some, None, refl, sym, ap, ◌∙◌, subst, arith, add-one}
 use Rattle.std.specs.Prelude.{slice_get}
 use Rattle.std.specs.Option.{option_map}
 use Rattle.std.proofs.lemmas.List.Sums.{fold_push}
@@ -18,7 +18,6 @@ use Rattle.run_book.specs.declared.book.Book.{Book}
 use Rattle.run_book.specs.declared.replay.Replay.{Replay}
 use Rattle.run_book.specs.Parts.{log_of, notes_of, IsClient}
 use Rattle.run_book.specs.Fit.{FitsWith}
-use Rattle.run_book.specs.Graphs.{client_at}
 use Rattle.run_book.specs.Replay.{Shows, IsInRange}
 use Rattle.run_book.proofs.Growth.{numbers}
 
@@ -59,18 +58,26 @@ in_range_at n client capacity m notes follows =
     record { own = omega (arith, h.clock.0, h.clock.1); clock = h.clock.1 }
 
 -- the client after one more note
-pub after_more : (n client capacity m : ℕ) (notes : List Note) (note : Note) → slice_get notes m ≡ Some note → client_after n client capacity (take (m + 1) notes) ≡ after (client_after n client capacity (take m notes)) note.deed
+after_more : (n client capacity m : ℕ) (notes : List Note) (note : Note) → slice_get notes m ≡ Some note → client_after n client capacity (take (m + 1) notes) ≡ after (client_after n client capacity (take m notes)) note.deed
 after_more n client capacity m notes note there =
     rw add-one (ap (client_after n client capacity) (take_one_more notes m note there) ∙ fold_push (λ s note. after s note.deed) (new_client n client capacity) (take m notes) note)
 
--- the client at a note of a book that fits, where the replay shows what its log tells
-pub shows_at : (b : Book) (clients limit capacity a note n client : ℕ) (notes : List Note) (log : Logged) (r : Replay) → FitsWith b clients limit capacity → IsClient clients a → log ≡ log_of b a → n ≡ max 1 (min b.n 8) → client ≡ log.actor - 1 → notes ≡ take note log.notes → ((capacity : ℕ) → Follows n client capacity notes → Shows r (client_after n client capacity notes)) → Shows r (client_at b capacity a note)
-shows_at b clients limit capacity a note n client notes log r fit is_client is many who first shows =
+-- a replay that goes on by the next note shows the client after it
+pub shows_more : (n client capacity m : ℕ) (notes : List Note) (note : Note) (old new : Replay) → Follows n client capacity notes → slice_get notes m ≡ Some note → ((s : Client) → Shows old s → IsInRange s → Shows new (after s note.deed)) → Shows old (client_after n client capacity (take m notes)) → Shows new (client_after n client capacity (take (m + 1) notes))
+shows_more n client capacity m notes note old new follows there goes_on shows =
+    subst (λ s. Shows new s) (sym (after_more n client capacity m notes note there))
+    (goes_on (client_after n client capacity (take m notes)) shows (in_range_at n client capacity m notes follows))
+
+-- the replay of a client's log before its first note
+pub shows_first : (b : Book) (clients limit capacity a n client : ℕ) (log : Logged) (r : Replay) → FitsWith b clients limit capacity → IsClient clients a → log ≡ log_of b a → n ≡ max 1 (min b.n 8) → client ≡ log.actor - 1 → ((capacity : ℕ) → Shows r (new_client n client capacity)) → Shows r (new_client b.n (a - 1) capacity)
+shows_first b clients limit capacity a n client log r fit is_client is many who shows =
     let n_is : n ≡ b.n = omega (arith, many, fit.form.n.0, fit.form.n.1) in
     let actor : log.actor ≡ a = ap (λ (l : Logged). l.actor) is ∙ fit.form.actors a (omega (arith, is_client.low)) (omega (arith, is_client.high, fit.form.logs)) in
     let who_is : client ≡ a - 1 = who ∙ ap (λ a. a - 1) actor in
-    let notes_are : notes ≡ take note (notes_of b a) = first ∙ ap (λ (l : Logged). take note l.notes) is in
-    subst (λ n. Follows n (a - 1) capacity (take note (notes_of b a)) → Shows r (client_after n (a - 1) capacity (take note (notes_of b a)))) n_is
-    (subst (λ c. Follows n c capacity (take note (notes_of b a)) → Shows r (client_after n c capacity (take note (notes_of b a)))) who_is
-    (subst (λ ns. Follows n client capacity ns → Shows r (client_after n client capacity ns)) notes_are (shows capacity)))
-    (each_take (λ before (note : Note). Allows (client_after b.n (a - 1) capacity before) before note.deed) (notes_of b a) note (fit.follows a is_client))
+    subst (λ n. Shows r (new_client n (a - 1) capacity)) n_is (subst (λ c. Shows r (new_client n c capacity)) who_is (shows capacity))
+
+-- the first notes of a client's log follow the rule
+pub front_follows : (b : Book) (clients limit capacity a many : ℕ) (notes : List Note) (log : Logged) → FitsWith b clients limit capacity → IsClient clients a → log ≡ log_of b a → notes ≡ take many log.notes → Follows b.n (a - 1) capacity notes
+front_follows b clients limit capacity a many notes log fit is_client is front =
+    subst (λ ns. Follows b.n (a - 1) capacity ns) (sym (front ∙ ap (λ (l : Logged). take many l.notes) is))
+    (each_take (λ before (note : Note). Allows (client_after b.n (a - 1) capacity before) before note.deed) (notes_of b a) many (fit.follows a is_client))

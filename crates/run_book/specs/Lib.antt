@@ -16,3 +16,4 @@ pub mod Unseen
 pub mod Edits
 pub mod Replay
 pub mod Basis
+pub mod BareNodes

@@ -11,7 +11,7 @@ ghost use Rattle.run_book.specs.Replay.{Shows};
 ghost use Rattle.run_book.specs.Basis.{dot_stamped, stamped_dots, stamped_cover, basis_of};
 
 use crate::book::Book;
-use crate::replay::{Replay, replayed};
+use crate::replay::Replay;
 use dc_talk::{Ask, Entry, Log, Note, Say};
 use ids_core::{Dot, NoMemory};
 use std::alloc::Global;
@@ -39,13 +39,25 @@ impl Book {
         }
     }
 
-    /// The client of a log after its first notes.
-    pub(crate) fn replay(&self, alloc: Global, log: &Log, note: usize) -> Result<Replay, NoMemory>
-        ensures { IfOk result (λ replay. (a clients limit capacity : ℕ) → FitsWith self.now clients limit capacity → IsClient clients a → log.now ≡ log_of self.now a →
-            Shows replay (client_at self.now capacity a note)) }
+    /// The client of a log before its first note.
+    pub(crate) fn first_replay(&self, log: &Log) -> Replay
+        ensures { (a clients limit capacity : ℕ) → FitsWith self.now clients limit capacity → IsClient clients a → log.now ≡ log_of self.now a → Shows result (client_at self.now capacity a 0) }
     {
-        let client = log.actor().saturating_sub(1);
-        replayed(alloc, self.n.clamp(1, 8), client, first_notes(log, note))
+        // A vector has 1 to 8 entries, and a book that fits as many centres.
+        Replay::new(self.n.clamp(1, 8), log.actor().saturating_sub(1))
+    }
+
+    /// The client of a log after its first notes, of all where there are fewer.
+    pub(crate) fn replay(&self, alloc: Global, log: &Log, many: usize) -> Result<Replay, NoMemory>
+        ensures { IfOk result (λ replay. (a clients limit capacity : ℕ) → FitsWith self.now clients limit capacity → IsClient clients a → log.now ≡ log_of self.now a →
+            Shows replay (client_at self.now capacity a many)) }
+    {
+        let mut replay = self.first_replay(log);
+        let notes = first_notes(log, many);
+        for note in notes {
+            replay.go_on(alloc, &note.deed)?;
+        }
+        Ok(replay)
     }
 
     /// What the client of a replay stands on, in no order, and maybe twice.

@@ -3,6 +3,7 @@
 #![tactic(auto)]
 
 mod acts;
+mod bare_nodes;
 mod basis;
 mod book;
 mod dot_set;
@@ -14,8 +15,10 @@ mod unseen;
 mod values;
 
 pub use acts::{BareAct, change_of};
+pub use bare_nodes::BareNode;
 pub use book::{Book, Logs, Trails};
 pub use dot_set::{DotSet, is_in};
+pub use edits::{Edit, Edits};
 pub use laws::{
     law_agree, law_causal, law_closed, law_known, law_numbers, law_one_list, law_session,
     law_sound, law_value,

@@ -1,9 +1,10 @@
 // A client, by its log alone.
 ghost use Rattle.std.specs.Prelude.{◌≡◌, ◌≤◌, ℕ, List, OnOk, OnErr, IfOk};
 ghost use Rattle.dc_talk.specs.declared.ask.Ask.{Ask};
-ghost use Rattle.dc_talk.specs.Clients.{Client, new_client};
+ghost use Rattle.dc_talk.specs.Clients.{Client, new_client, draft_updates};
 ghost use Rattle.dc_talk.specs.Calls.{did};
 ghost use Rattle.dc_talk.specs.Rule.{is_linked, can_follow, heard, after, client_after, Follows};
+ghost use Rattle.run_book.specs.Edits.{edits_of};
 ghost use Rattle.run_book.specs.Replay.{Shows, IsInRange};
 
 use crate::edits::Edits;
@@ -66,6 +67,16 @@ impl Replay {
                 _ => Ok(()),
             },
             Deed::Told(_) => Ok(()),
+        }
+    }
+
+    /// The changes of the open transaction, none where none is open.
+    pub fn edits(&self, alloc: Global) -> Result<Edits, NoMemory>
+        ensures { IfOk result (λ edits. (s : Client) → Shows self.now s → edits ≡ edits_of (draft_updates s)) }
+    {
+        match &self.open {
+            None => Ok(Edits::new(alloc)),
+            Some(edits) => edits.copy(),
         }
     }
 
@@ -189,16 +200,4 @@ impl Replay {
             && self.mine <= mine
             && mine <= self.own
     }
-}
-
-/// The client of a log after these notes of it, among `n` centres.
-pub fn replayed(alloc: Global, n: u8, client: u32, notes: &[Note]) -> Result<Replay, NoMemory>
-    requires { (1 ≤ n) × (n ≤ 8) }
-    ensures { IfOk result (λ replay. (capacity : ℕ) → Follows n client capacity notes.now → Shows replay (client_after n client capacity notes.now)) }
-{
-    let mut replay = Replay::new(n, client);
-    for note in notes {
-        replay.go_on(alloc, &note.deed)?;
-    }
-    Ok(replay)
 }

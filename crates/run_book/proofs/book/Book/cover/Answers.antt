@@ -4,7 +4,7 @@ use Rattle.ids_core.specs.declared.ids.Dot.{Dot}
 use Rattle.vv_core.specs.Vectors.{at, centres}
 use Rattle.run_book.specs.Parts.{trail_of}
 use Rattle.run_book.specs.Basis.{stamped_dots}
-use Rattle.run_book.proofs.Bases.{centre_more}
+use Rattle.run_book.proofs.Ranges.{joined_more}
 use Rattle.run_book.proofs.book.Book.cover.Goals as goal
 
 pub loop-centre-preserved : goal.loop-centre-preserved
@@ -15,4 +15,4 @@ loop-centre-preserved c =
     c.in_ok-push_stamped.ensures
     ∙ (ap (λ l. l ++ take c.get.result (stamped_dots c.trail.result.now)) c.loop-centre.invariant
     ∙ (ap (λ n. before ++ take n (stamped_dots c.trail.result.now)) c.get.ensures
-    ∙ (ap (λ t. before ++ take (at c.args.vector.now centre) (stamped_dots t)) c.trail.ensures ∙ centre_more f centre (omega arith))))
+    ∙ (ap (λ t. before ++ take (at c.args.vector.now centre) (stamped_dots t)) c.trail.ensures ∙ joined_more f centre (omega arith))))
