@@ -13,7 +13,7 @@ use Rattle.dc_talk.specs.declared.log.Deed.{Deed}
 use Rattle.dc_talk.specs.declared.log.Deed.TheVariants.{Did}
 use Rattle.dc_talk.specs.declared.log.Note.{Note}
 use Rattle.dc_talk.specs.Logs.{Logged}
-use Rattle.dc_talk.specs.Clients.{Client, next_tx, draft_updates}
+use Rattle.dc_talk.specs.Clients.{Client, next_dot, next_tx, draft_updates}
 use Rattle.dc_talk.specs.Rule.{after, client_after, commit_in, commits_of, Follows}
 use Rattle.run_book.specs.declared.book.Book.{Book}
 use Rattle.run_book.specs.declared.edits.Edit.{Edit}
@@ -21,7 +21,7 @@ use Rattle.run_book.specs.declared.replay.Replay.{Replay}
 use Rattle.run_book.specs.declared.bare_nodes.BareNode.{BareNode}
 use Rattle.run_book.specs.Parts.{log_of, IsClient}
 use Rattle.run_book.specs.Fit.{FitsWith}
-use Rattle.run_book.specs.Graphs.{cover, own_dots, node_of}
+use Rattle.run_book.specs.Graphs.{cover, own_dots, node_of, basis, open_node}
 use Rattle.run_book.specs.Edits.{edits_of}
 use Rattle.run_book.specs.Replay.{Shows, IsInRange}
 use Rattle.run_book.specs.Basis.{basis_of}
@@ -31,12 +31,17 @@ use Rattle.run_book.proofs.Ranges.{joined_more}
 use Rattle.run_book.proofs.Replays.{in_range_at, shows_more}
 use Rattle.run_book.proofs.Bases.{wide_after, shows_basis}
 
--- the node of the transaction that a client would commit, by its replay
-pub next_is : (b : Book) (clients limit capacity : ℕ) (r : Replay) (s : Client) (number rank : ℕ) (deps : List Dot) (edits : List Edit) → FitsWith b clients limit capacity → Shows r s → length s.vector ≡ b.n → number ≡ s.own + 1 → rank ≡ s.clock + 1 → deps ≡ basis_of b r → edits ≡ edits_of (draft_updates s) → record { dot = record { client = r.client; number = number }; deps = deps; rank = rank; edits = edits } ≡ bare_node (node_of b (next_tx s (draft_updates s)))
+-- the node of a client's open transaction, by its replay
+pub next_is : (b : Book) (clients limit capacity : ℕ) (r : Replay) (s : Client) (number rank : ℕ) (deps : List Dot) (edits : List Edit) → FitsWith b clients limit capacity → Shows r s → length s.vector ≡ b.n → number ≡ s.own + 1 → rank ≡ s.clock + 1 → deps ≡ basis_of b r → edits ≡ edits_of (draft_updates s) → record { dot = record { client = r.client; number = number }; deps = deps; rank = rank; edits = edits } ≡ bare_node (open_node b s)
 next_is b clients limit capacity r s number rank deps edits fit h wide number_is rank_is deps_is edits_is =
-    let fewer : s.own ≡ s.own + 1 - 1 = omega arith in
-    let all : deps ≡ cover b s.vector ++ own_dots s.client (s.own + 1 - 1) = deps_is ∙ (shows_basis b clients limit capacity fit r s h wide ∙ ap (λ k. cover b s.vector ++ own_dots s.client k) fewer) in
+    let all : deps ≡ basis b s = deps_is ∙ shows_basis b clients limit capacity fit r s h wide in
     λ i. record { dot = record { client = h.client i; number = number_is i }; deps = all i; rank = rank_is i; edits = edits_is i }
+
+-- it is that of the transaction which is committed next
+pub open_is : (b : Book) (s : Client) → open_node b s ≡ node_of b (next_tx s (draft_updates s))
+open_is b s =
+    let fewer : s.own ≡ s.own + 1 - 1 = omega arith in
+    λ i. record { dot = next_dot s; deps = cover b s.vector ++ own_dots s.client (fewer i); rank = s.clock + 1; updates = draft_updates s }
 
 -- a commit that got a number commits the open transaction
 pub commit_is : (s : Client) (deed : Deed) → is_commit deed ≡ true → commit_in s deed ≡ next_tx s (draft_updates s) ∷ []

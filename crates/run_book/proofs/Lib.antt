@@ -23,3 +23,5 @@ pub mod Ascending
 pub mod Ranges
 pub mod Bases
 pub mod BareNodes
+pub mod ObjectActs
+pub mod ReadValues

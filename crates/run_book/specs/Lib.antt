@@ -17,3 +17,4 @@ pub mod Edits
 pub mod Replay
 pub mod Basis
 pub mod BareNodes
+pub mod ReadValues

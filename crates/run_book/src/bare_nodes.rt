@@ -1,10 +1,10 @@
 // The nodes of a book's graph, as they can be computed.
 ghost use Rattle.std.specs.Prelude.{◌≡◌, ◌+◌, ◌-◌, ◌++◌, ℕ, List, length, map, OnOk, IfOk};
-ghost use Rattle.dc_talk.specs.Clients.{Client, next_tx, draft_updates};
+ghost use Rattle.dc_talk.specs.Clients.{Client};
 ghost use Rattle.dc_talk.specs.Rule.{commit_in, commits_of};
 ghost use Rattle.run_book.specs.Parts.{log_of, notes_of, IsClient};
 ghost use Rattle.run_book.specs.Fit.{FitsWith};
-ghost use Rattle.run_book.specs.Graphs.{node_of, graph};
+ghost use Rattle.run_book.specs.Graphs.{node_of, graph, open_node};
 ghost use Rattle.run_book.specs.Replay.{Shows, IsInRange};
 ghost use Rattle.run_book.specs.BareNodes.{bare_node, is_commit};
 
@@ -93,10 +93,10 @@ impl Book {
         Ok(())
     }
 
-    /// The node of the open transaction.
+    /// The node of the open transaction, behind all that the client stands on.
     pub(crate) fn next_node(&self, alloc: Global, replay: &Replay) -> Result<BareNode, NoMemory>
         ensures { IfOk result (λ node. (clients limit capacity : ℕ) (s : Client) → FitsWith self.now clients limit capacity → Shows replay.now s → IsInRange s → length s.vector ≡ self.now.n →
-            node ≡ bare_node (node_of self.now (next_tx s (draft_updates s)))) }
+            node ≡ bare_node (open_node self.now s)) }
     {
         Ok(BareNode {
             dot: Dot {

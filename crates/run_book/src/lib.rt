@@ -10,6 +10,8 @@ mod dot_set;
 mod edits;
 mod last;
 mod laws;
+mod object_acts;
+mod read_values;
 mod replay;
 mod unseen;
 mod values;

@@ -1,0 +1,124 @@
+-- The acts in a book that fits are few and apart, so the value that is computed is the one that is defined.
+use Rattle.std.proofs.Common.{◌≡◌, ℕ, ◌+◌, ◌-◌, ◌≤◌, ◌<◌, ◌^◌, List, [], ◌++◌, length, take, map, Some, Ok, Err, Result, refl, sym, ap, ◌∙◌, subst, arith}
+use Rattle.std.specs.Prelude.{slice_get, flat_map, All, IfOk}
+use Rattle.std.proofs.lemmas.Option.{same_Some, get_or_from_slice_get}
+use Rattle.std.proofs.lemmas.List.{append-nil, take_all}
+use Rattle.list_core.specs.Members.{In}
+use Rattle.list_core.proofs.Members.{In_from_map}
+use Rattle.list_core.proofs.Gets.{get_within, get_In, In_get}
+use Rattle.ids_core.specs.declared.ids.Dot.{Dot}
+use Rattle.ids_core.specs.declared.object.ObjectId.{ObjectId}
+use Rattle.ids_core.specs.declared.object.Sort.TheVariants as sort
+use Rattle.obj_counter.specs.Counter.{sizes}
+use Rattle.tx_core.specs.declared.state.Value.{Value}
+use Rattle.dc_talk.specs.Logs.{Logged}
+use Rattle.dc_talk.specs.Clients.{Client, draft_updates}
+use Rattle.dc_talk.specs.Rule.{commits_of, Follows}
+use Rattle.run_book.specs.declared.book.Book.{Book}
+use Rattle.run_book.specs.declared.acts.BareAct.{BareAct}
+use Rattle.run_book.specs.declared.replay.Replay.{Replay}
+use Rattle.run_book.specs.declared.bare_nodes.BareNode.{BareNode}
+use Rattle.run_book.specs.Nodes.{Node}
+use Rattle.run_book.specs.Parts.{log_of, notes_of, IsClient}
+use Rattle.run_book.specs.Fit.{FitsWith}
+use Rattle.run_book.specs.Values.{Act, acts_of, acts_over, acts_from, nodes_in, IsValueBy, IsValueOver}
+use Rattle.run_book.specs.Graphs.{node_of, committed, graph, basis_at, client_at, open_node}
+use Rattle.run_book.specs.Causal.{Reads}
+use Rattle.run_book.specs.Replay.{Shows, IsInRange}
+use Rattle.run_book.specs.Acts.{bare_of, deltas_in, sum_of, HasUniqueMarks}
+use Rattle.run_book.specs.BareNodes.{bare_node}
+use Rattle.run_book.specs.ReadValues.{read_in, read_of}
+use Rattle.run_book.proofs.Sessions.{IsModest, modest_none}
+use Rattle.run_book.proofs.Held.{held_after}
+use Rattle.run_book.proofs.Replays.{in_range_at}
+use Rattle.run_book.proofs.Bases.{wide_after}
+use Rattle.run_book.proofs.BareActs.{deltas_over, sum_over}
+use Rattle.run_book.proofs.Causal.Commits.{committed_is}
+use Rattle.run_book.proofs.Causal.Sums.{small}
+use Rattle.run_book.proofs.Causal.Sums.{deltas_over as operations_over}
+use Rattle.run_book.proofs.Causal.Operations.{apart_of}
+use Rattle.run_book.proofs.Causal.OneValue.{one_act, one_act_of_set}
+use Rattle.run_book.proofs.Causal.Premises.{premises}
+use Rattle.run_book.proofs.Causal.Views.{part}
+use Rattle.run_book.proofs.Causal.Theorem.{values}
+
+-- what holds of each member of a list, holds of each element
+all_members : {X : Type 0} (P : X → Type 0) (xs : List X) → ((x : X) → In x xs → P x) → All P xs
+all_members P xs each = λ p d lt.
+    let g = get_within xs p lt in
+    subst P (sym (get_or_from_slice_get xs p g.0 d g.1)) (each g.0 (get_In xs p g.0 g.1))
+
+-- what holds of the value of a result, where there is one
+pub ok_from : {T E : Type 0} (r : Result T E) (P : T → Type 0) → ((value : T) → r ≡ Ok value → P value) → IfOk r P
+ok_from (Ok value) P each = each value refl
+ok_from (Err e) P each = tt
+
+module _ (b : Book) (clients limit capacity : ℕ) (fit : FitsWith b clients limit capacity) where
+  abbrev nodes : List Node
+  nodes = graph b clients capacity
+
+  -- each transaction has few updates
+  pub few_updates : All (λ t. length t.updates ≤ 256) (graph b clients capacity)
+  few_updates = all_members (λ (t : Node). length t.updates ≤ 256) nodes few
+    where
+      few : (t : Node) → In t nodes → length t.updates ≤ 256
+      few t i =
+          let m = In_from_map (node_of b) (committed b clients capacity) t i in
+          let c = committed_is b clients limit capacity fit m.0 m.1 in
+          let client = m.0.dot.client in
+          let notes = notes_of b (client + 1) in
+          let same : client + 1 - 1 ≡ client = omega arith in
+          let follows : Follows b.n client capacity notes = subst (λ c. Follows b.n c capacity notes) same (fit.follows (client + 1) (record { low = omega (arith, c.low); high = omega (arith, c.high) })) in
+          let held = held_after b.n client capacity notes follows (length notes) in
+          let here : In m.0 (commits_of b.n client capacity (take (length notes) notes)) = subst (λ l. In m.0 (commits_of b.n client capacity l)) (sym (take_all (length notes) notes (omega arith))) c.there in
+          let g = In_get (commits_of b.n client capacity (take (length notes) notes)) m.0 here in
+          let modest = held.modest g.0 m.0 g.1 in
+          omega (arith, ap (λ (t : Node). length t.updates) m.2, modest.few)
+
+  -- the deltas over a set of dots and modest open updates are small together
+  small_deltas : (set : List Dot) (last : Node) (o : ObjectId) → IsModest last.updates → sizes (deltas_in (acts_over nodes set last o)) < 2 ^ 127
+  small_deltas set last o modest =
+      let same = deltas_over nodes set last o ∙ sym (operations_over nodes set o last.rank last.dot last.updates) in
+      subst (λ l. sizes l < 2 ^ 127) (sym same) (small b clients limit capacity fit set o last.rank last.dot last.updates modest)
+
+  -- the value by sum and acts is the value over the set
+  by_sum : (set : List Dot) (last : Node) (o : ObjectId) (value : Value) → IsValueBy o.sort (sum_of (acts_over nodes set last o)) (acts_over nodes set last o) value → IsValueOver nodes set last o value
+  by_sum set last o value is = subst (λ sum. IsValueBy o.sort sum (acts_over nodes set last o) value) (sum_over nodes set last o) is
+
+  -- where nothing is open, the acts over a set are those of its nodes
+  pub acts_closed : (set : List Dot) (last : Node) (o : ObjectId) → last.updates ≡ [] → flat_map (acts_of o) (nodes_in nodes set) ≡ acts_over nodes set last o
+  acts_closed set last o none =
+      sym (append-nil (flat_map (acts_of o) (nodes_in nodes set)))
+      ∙ ap (λ us. flat_map (acts_of o) (nodes_in nodes set) ++ acts_from o last 0 us) (sym none)
+
+  -- so the value over a set is that of its acts
+  pub value_of_set : (set : List Dot) (last : Node) (o : ObjectId) (acts : List BareAct) (value : Value) → last.updates ≡ [] → acts ≡ map bare_of (flat_map (acts_of o) (nodes_in nodes set)) → ((whole : List Act) → acts ≡ map bare_of whole → (o.sort ≡ sort.Map → HasUniqueMarks whole) → sizes (deltas_in whole) < 2 ^ 127 → IsValueBy o.sort (sum_of whole) whole value) → IsValueOver nodes set last o value
+  value_of_set set last o acts value none are exact =
+      let one = one_act_of_set nodes set last o (apart_of nodes (premises b clients limit capacity fit).made.unique) none in
+      by_sum set last o value (exact (acts_over nodes set last o) (are ∙ ap (map bare_of) (acts_closed set last o none)) (λ map. record { by = one.by }) (small_deltas set last o (subst IsModest (sym none) modest_none)))
+
+  -- the open updates of a client are modest
+  pub open_modest : (a m : ℕ) → IsClient clients a → IsModest (draft_updates (client_at b capacity a m))
+  open_modest a m client = (held_after b.n (a - 1) capacity (notes_of b a) (fit.follows a client) m).draft
+
+  -- and the value at a moment is that of the acts in its basis and of the open updates
+  pub value_at : (a m : ℕ) (o : ObjectId) (acts : List BareAct) (value : Value) → IsClient clients a → acts ≡ map bare_of (acts_over nodes (basis_at b capacity a m) (open_node b (client_at b capacity a m)) o) → ((whole : List Act) → acts ≡ map bare_of whole → (o.sort ≡ sort.Map → HasUniqueMarks whole) → sizes (deltas_in whole) < 2 ^ 127 → IsValueBy o.sort (sum_of whole) whole value) → IsValueOver nodes (basis_at b capacity a m) (open_node b (client_at b capacity a m)) o value
+  value_at a m o acts value client are exact =
+      let set = basis_at b capacity a m in
+      let last = open_node b (client_at b capacity a m) in
+      let one = one_act nodes set last (part b clients limit capacity fit (premises b clients limit capacity fit) a m client) o in
+      by_sum set last o value (exact (acts_over nodes set last o) are (λ map. record { by = one.by }) (small_deltas set last o (open_modest a m client)))
+
+  -- the client at a read, as its replay shows it, has the open node of the moment
+  pub last_there : (a m : ℕ) (r : Replay) (last : BareNode) → IsClient clients a → Shows r (client_at b capacity a m) → ((clients limit capacity : ℕ) (s : Client) → FitsWith b clients limit capacity → Shows r s → IsInRange s → length s.vector ≡ b.n → last ≡ bare_node (open_node b s)) → last ≡ bare_node (open_node b (client_at b capacity a m))
+  last_there a m r last client shows node =
+      node clients limit capacity (client_at b capacity a m) fit shows (in_range_at b.n (a - 1) capacity m (notes_of b a) (fit.follows a client)) (wide_after b.n (a - 1) capacity (take m (notes_of b a)))
+
+  -- the object that is found at a read is the one that was read
+  pub read_there : (a m : ℕ) (o found : ObjectId) (value : Value) (log : Logged) → Reads b clients a m o value → log ≡ log_of b a → Some found ≡ read_of (slice_get log.notes m) → found ≡ o
+  read_there a m o found value log r is there =
+      same_Some found o (there ∙ (ap (λ (l : Logged). read_of (slice_get l.notes m)) is ∙ (ap read_of r.there ∙ ap read_in r.is)))
+
+  -- its value is the only one
+  pub same_value : (a m : ℕ) (o : ObjectId) (value got : Value) → Reads b clients a m o got → IsValueOver nodes (basis_at b capacity a m) (open_node b (client_at b capacity a m)) o value → value ≡ got
+  same_value a m o value got r is = let h = values b clients limit capacity fit in h.one a m o value got r.client is (h.reads a m o got r)

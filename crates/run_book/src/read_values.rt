@@ -1,0 +1,109 @@
+// The values of objects over sets of transactions, and at reads.
+ghost use Rattle.std.specs.Prelude.{◌≡◌, ◌+◌, ◌↔◌, ℕ, [], None, slice_get, IfOk, IfSome, IsNone};
+ghost use Rattle.ids_core.specs.declared.object.ObjectId.{ObjectId};
+ghost use Rattle.tx_core.specs.declared.state.Value.{Value};
+ghost use Rattle.run_book.specs.Nodes.{Node};
+ghost use Rattle.run_book.specs.Parts.{IsClient};
+ghost use Rattle.run_book.specs.Fit.{FitsWith};
+ghost use Rattle.run_book.specs.Values.{IsValueOver};
+ghost use Rattle.run_book.specs.Graphs.{graph, basis_at, client_at, open_node};
+ghost use Rattle.run_book.specs.Causal.{Reads};
+ghost use Rattle.run_book.specs.BareNodes.{bare_node};
+ghost use Rattle.run_book.specs.ReadValues.{read_in, read_of, object_read};
+
+use crate::bare_nodes::BareNode;
+use crate::book::Book;
+use crate::object_acts::{acts_over, push_acts};
+use crate::values::value_by_sees;
+use dc_talk::{Call, Deed, Log, Outcome};
+use ids_core::{Dot, NoMemory, ObjectId};
+use std::alloc::Global;
+use tx_core::Value;
+
+impl Book {
+    /// The value of an object over a set of transactions, each counted once, by which update sees which
+    /// (Shapiro and others, INRIA RR-7506). Of a book that does not fit nothing is said.
+    pub fn value_over(
+        &self,
+        alloc: Global,
+        object: &ObjectId,
+        dots: &[Dot],
+    ) -> Result<Value, NoMemory>
+        ensures { IfOk result (λ value. (clients limit capacity : ℕ) (last : Node) → FitsWith self.now clients limit capacity → last.updates ≡ [] →
+            IsValueOver (graph self.now clients capacity) dots.now last object.now value) }
+    {
+        let nodes = self.nodes(alloc)?;
+        let acts = acts_over(alloc, &nodes, dots, object)?;
+        value_by_sees(alloc, object.sort, &acts)
+    }
+
+    /// What the object of a read is worth: its value over the basis of the read, and the updates that
+    /// were open. Logs and notes are counted from 0. It is none exactly where the note is no read that got
+    /// a value. In a book that fits it is the value that was read.
+    pub fn value_read(
+        &self,
+        alloc: Global,
+        log: usize,
+        note: usize,
+    ) -> Result<Option<Value>, NoMemory>
+        ensures none { IfOk result (λ found. IsNone found ↔ (object_read self.now (log + 1) note ≡ None)) }
+        ensures value { IfOk result (λ found. IfSome found (λ value. (clients limit capacity : ℕ) (o : ObjectId) (got : Value) → FitsWith self.now clients limit capacity → Reads self.now clients (log + 1) note o got →
+            IsValueOver (graph self.now clients capacity) (basis_at self.now capacity (log + 1) note) (open_node self.now (client_at self.now capacity (log + 1) note)) o value)) }
+        ensures same { IfOk result (λ found. IfSome found (λ value. (clients limit capacity : ℕ) (o : ObjectId) (got : Value) → FitsWith self.now clients limit capacity → Reads self.now clients (log + 1) note o got → value ≡ got)) }
+    {
+        match self.logs.as_slice().get(log) {
+            None => Ok(None),
+            Some(log) => match object_read(log, note) {
+                None => Ok(None),
+                Some(object) => {
+                    let replay = self.replay(alloc, log, note)?;
+                    let last = self.next_node(alloc, &replay)?;
+                    let value = self.value_before(alloc, &object, &last)?;
+                    Ok(Some(value))
+                }
+            },
+        }
+    }
+
+    // The value of an object over all that an open transaction may have seen, and its own updates.
+    fn value_before(
+        &self,
+        alloc: Global,
+        object: &ObjectId,
+        last: &BareNode,
+    ) -> Result<Value, NoMemory>
+        ensures { IfOk result (λ value. (clients limit capacity a m : ℕ) → FitsWith self.now clients limit capacity → IsClient clients a → last.now ≡ bare_node (open_node self.now (client_at self.now capacity a m)) →
+            IsValueOver (graph self.now clients capacity) (basis_at self.now capacity a m) (open_node self.now (client_at self.now capacity a m)) object.now value) }
+    {
+        let nodes = self.nodes(alloc)?;
+        let mut acts = acts_over(alloc, &nodes, last.deps.as_slice(), object)?;
+        push_acts(last, object, &mut acts)?;
+        value_by_sees(alloc, object.sort, &acts)
+    }
+}
+
+// The object that a note of a log read, where it got a value.
+fn object_read(log: &Log, note: usize) -> Option<ObjectId>
+    ensures { result ≡ read_of (slice_get log.now.notes note) }
+{
+    match log.as_slice().get(note) {
+        None => None,
+        Some(note) => object_of(&note.deed),
+    }
+}
+
+// The object that a deed read, where it got a value.
+fn object_of(deed: &Deed) -> Option<ObjectId>
+    ensures { result ≡ read_in deed.now }
+{
+    match deed {
+        Deed::Did { call, outcome } => match call {
+            Call::Read { object } => match outcome {
+                Outcome::Got(_) => Some(*object),
+                _ => None,
+            },
+            _ => None,
+        },
+        _ => None,
+    }
+}
