@@ -1,5 +1,5 @@
--- The graph of the transactions of a book, and what a session stands on. No code keeps a dependency
--- set: they are here alone.
+-- The graph of the transactions of a book, and what a session stands on. Sessions and centres keep no
+-- dependency set; `Book::nodes` and `Book::basis` compute them from the book.
 use Rattle.std.specs.Prelude.{ℕ, ◌+◌, ◌-◌, map, flat_map, take, List, ◌++◌}
 use Rattle.std.specs.List.{range_with_len}
 use Rattle.ids_core.specs.declared.ids.Dot.{Dot}

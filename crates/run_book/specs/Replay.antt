@@ -17,7 +17,7 @@ pub record Shows (r : Replay) (s : Client) : Type 0 where
   pub centre : r.centre ≡ option_map (λ link. link.centre) s.link
   pub open_edits : r.open ≡ option_map edits_of s.draft
 
--- the client's numbers are in range
+-- neither the number of the client's commits nor its clock passes the greatest rank
 pub record IsInRange (s : Client) : Type 0 where
   pub own : s.own ≤ most_rank
   pub clock : s.clock ≤ most_rank

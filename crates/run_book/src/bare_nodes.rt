@@ -1,5 +1,5 @@
 // The nodes of a book's graph, as they can be computed.
-ghost use Rattle.std.specs.Prelude.{◌≡◌, ◌+◌, ◌-◌, ◌++◌, ℕ, List, length, map, OnOk, IfOk};
+ghost use Rattle.std.specs.Prelude.{◌≡◌, ◌+◌, ◌-◌, ◌++◌, ℕ, length, map, OnOk, IfOk};
 ghost use Rattle.dc_talk.specs.Clients.{Client};
 ghost use Rattle.dc_talk.specs.Rule.{commit_in, commits_of};
 ghost use Rattle.run_book.specs.Parts.{log_of, notes_of, IsClient};

@@ -6,7 +6,7 @@ ghost use Rattle.ids_core.specs.declared.ids.Dot.{Dot};
 ghost use Rattle.ids_core.specs.Orders.{dot_cmp};
 ghost use Rattle.run_book.specs.Parts.{trail_of, log_of, IsClient};
 ghost use Rattle.run_book.specs.Fit.{FitsWith};
-ghost use Rattle.run_book.specs.Graphs.{own_dots, basis_at, client_at};
+ghost use Rattle.run_book.specs.Graphs.{basis_at, client_at};
 ghost use Rattle.run_book.specs.Replay.{Shows};
 ghost use Rattle.run_book.specs.Basis.{dot_stamped, stamped_dots, stamped_cover, basis_of};
 

@@ -1,5 +1,6 @@
 //! What a run leaves: the trails of the centres and the logs of the actors, and what makes them fit
-//! one another and a script. These definitions stand in this crate's `specs/`.
+//! one another and a script. These definitions stand in this crate's `specs/`. By them a book can be
+//! asked for the basis of a read, for its graph of transactions, and for values of objects.
 #![tactic(auto)]
 
 mod acts;

@@ -6,10 +6,10 @@ ghost use Rattle.run_book.specs.Nodes.{Node};
 ghost use Rattle.run_book.specs.Parts.{IsClient};
 ghost use Rattle.run_book.specs.Fit.{FitsWith};
 ghost use Rattle.run_book.specs.Values.{IsValueOver};
-ghost use Rattle.run_book.specs.Graphs.{graph, basis_at, client_at, open_node};
+ghost use Rattle.run_book.specs.Graphs.{graph, client_at, open_node};
 ghost use Rattle.run_book.specs.Causal.{Reads};
 ghost use Rattle.run_book.specs.BareNodes.{bare_node};
-ghost use Rattle.run_book.specs.ReadValues.{read_in, read_of, object_read};
+ghost use Rattle.run_book.specs.ReadValues.{read_in, read_of, object_read, IsValueAt};
 
 use crate::bare_nodes::BareNode;
 use crate::book::Book;
@@ -37,9 +37,9 @@ impl Book {
         value_by_sees(alloc, object.sort, &acts)
     }
 
-    /// What the object of a read is worth: its value over the basis of the read, and the updates that
-    /// were open. Logs and notes are counted from 0. It is none exactly where the note is no read that got
-    /// a value. In a book that fits it is the value that was read.
+    /// What the read at a note of a log has to give: the value of its object over the basis of the read
+    /// and the updates that were open. Logs and notes are counted from 0. It is none exactly where the
+    /// note is no read that got a value. In a book that fits it is the value that was read.
     pub fn value_read(
         &self,
         alloc: Global,
@@ -48,8 +48,9 @@ impl Book {
     ) -> Result<Option<Value>, NoMemory>
         ensures none { IfOk result (λ found. IsNone found ↔ (object_read self.now (log + 1) note ≡ None)) }
         ensures value { IfOk result (λ found. IfSome found (λ value. (clients limit capacity : ℕ) (o : ObjectId) (got : Value) → FitsWith self.now clients limit capacity → Reads self.now clients (log + 1) note o got →
-            IsValueOver (graph self.now clients capacity) (basis_at self.now capacity (log + 1) note) (open_node self.now (client_at self.now capacity (log + 1) note)) o value)) }
-        ensures same { IfOk result (λ found. IfSome found (λ value. (clients limit capacity : ℕ) (o : ObjectId) (got : Value) → FitsWith self.now clients limit capacity → Reads self.now clients (log + 1) note o got → value ≡ got)) }
+            IsValueAt self.now clients capacity (log + 1) note o value)) }
+        ensures same { IfOk result (λ found. IfSome found (λ value. (clients limit capacity : ℕ) (o : ObjectId) (got : Value) → FitsWith self.now clients limit capacity → Reads self.now clients (log + 1) note o got →
+            value ≡ got)) }
     {
         match self.logs.as_slice().get(log) {
             None => Ok(None),
@@ -73,7 +74,7 @@ impl Book {
         last: &BareNode,
     ) -> Result<Value, NoMemory>
         ensures { IfOk result (λ value. (clients limit capacity a m : ℕ) → FitsWith self.now clients limit capacity → IsClient clients a → last.now ≡ bare_node (open_node self.now (client_at self.now capacity a m)) →
-            IsValueOver (graph self.now clients capacity) (basis_at self.now capacity a m) (open_node self.now (client_at self.now capacity a m)) object.now value) }
+            IsValueAt self.now clients capacity a m object.now value) }
     {
         let nodes = self.nodes(alloc)?;
         let mut acts = acts_over(alloc, &nodes, last.deps.as_slice(), object)?;

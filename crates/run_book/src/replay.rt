@@ -1,14 +1,13 @@
 // A client, by its log alone.
 ghost use Rattle.std.specs.Prelude.{◌≡◌, ◌≤◌, ℕ, List, OnOk, OnErr, IfOk};
-ghost use Rattle.dc_talk.specs.declared.ask.Ask.{Ask};
 ghost use Rattle.dc_talk.specs.Clients.{Client, new_client, draft_updates};
 ghost use Rattle.dc_talk.specs.Calls.{did};
-ghost use Rattle.dc_talk.specs.Rule.{is_linked, can_follow, heard, after, client_after, Follows};
+ghost use Rattle.dc_talk.specs.Rule.{is_linked, can_follow, heard, after};
 ghost use Rattle.run_book.specs.Edits.{edits_of};
 ghost use Rattle.run_book.specs.Replay.{Shows, IsInRange};
 
 use crate::edits::Edits;
-use dc_talk::{Ask, Call, Change, Deed, Fate, Note, Outcome, Say};
+use dc_talk::{Ask, Call, Change, Deed, Fate, Outcome, Say};
 use ids_core::{NoMemory, ObjectId};
 use std::alloc::Global;
 use vv_core::Vector;
