@@ -44,7 +44,7 @@ def function_at(crate, file, text, line):
         items.pop()
     if not items:
         return None
-    names = [crate, *modules_of(file), *(name_of(kind, rest) for kind, rest, _ in items)]
+    names = [crate, *modules_around(file, text, items), *(name_of(kind, rest) for kind, rest, _ in items)]
     first = items[-1][2]
     return Function("::".join(names), file, first + 1, end_of(lines, first) + 1)
 
@@ -75,6 +75,15 @@ def end_of(lines, first):
 
 def indent_of(line):
     return len(line) - len(line.lstrip(" "))
+
+
+def modules_around(file, text, items):
+    """The modules that the name of a function begins with: those of its file, or where it is a method of a type of
+    another file, those of that file, from which the type is brought in."""
+    own = [split_parameters(rest)[1] for kind, rest, _ in items if kind == "impl"]
+    of = re.match(r"\s*(\w+)", own[0]) if own and " for " not in own[0] else None
+    brought = of and re.search(rf"^use crate::(\w+(?:::\w+)*)::(?:\{{[^}}]*\b)?{of[1]}\b", text, re.MULTILINE)
+    return brought[1].split("::") if brought else modules_of(file)
 
 
 def modules_of(file):
