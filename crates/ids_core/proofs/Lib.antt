@@ -1,1 +1,4 @@
+pub mod Orders
+pub mod Ascending
+pub mod Distinct
 pub mod Folds

@@ -1,47 +1,30 @@
 -- The greatest of several puts is one that no other exceeds.
-use Rattle.std.proofs.Common.{◌≡◌, ℕ, Bool, true, false, cond, ◌⊎◌, inl, inr, ⊎_elim, List, [], ◌∷◌, fold, Option, Some, None, refl, sym, ap, ◌∙◌, subst}
+use Rattle.std.proofs.Common.{◌≡◌, ℕ, Bool, true, false, cond, ◌⊎◌, inl, inr, ⊎_elim, List, [], ◌∷◌, fold, Some, refl, sym, ap, ◌∙◌, subst}
 use Rattle.std.specs.Prelude.{option_map}
 use Rattle.std.proofs.lemmas.Bool.{cases_Bool, false≢true}
 use Rattle.std.proofs.lemmas.Option.{none-some, same_Some}
-use Rattle.std.proofs.lemmas.Cmp.{tied_itself, alike_right}
-use Rattle.std.specs.Ordering.{is_lt, ordering_reverse}
-use Rattle.std.specs.declared.cmp.Ordering.{Ordering}
-use Rattle.std.specs.declared.cmp.Ordering.TheVariants.{Less, Equal, Greater}
+use Rattle.std.specs.Ordering.{is_lt}
 use Rattle.list_core.specs.Members.{In}
 use Rattle.ids_core.specs.declared.ids.OpId.{OpId}
 use Rattle.ids_core.specs.declared.ids.Mark.{Mark}
 use Rattle.ids_core.specs.Orders.{mark_cmp, mark_cmp_total, mark_cmp_same}
+use Rattle.ids_core.proofs.Orders.{not_below_itself, below_through, at_most_through, at_most_from_not_below, not_below_from_at_most, tied_from_at_most}
 use Rattle.obj_map.specs.declared.put.Put.{Put}
 use Rattle.obj_map.specs.Puts.{mark_of, later, greatest, IsWordOf}
 
+-- whether a mark is below another
 abbrev lt : Mark → Mark → Bool
 lt x y = is_lt (mark_cmp x y)
 
-is_less : (o : Ordering) → is_lt o ≡ true → o ≡ Less
-is_less Less e = refl
-is_less Equal e = cc
-is_less Greater e = cc
+-- what is not below a mark that is not below another is not below that
+not_below_through : (r b a : Mark) → lt b a ≡ false → lt r b ≡ false → lt r a ≡ false
+not_below_through r b a f g =
+    let order = mark_cmp_total in
+    not_below_from_at_most order r a (at_most_through order a b r (at_most_from_not_below order b a f) (at_most_from_not_below order r b g))
 
-never_below : (m : Mark) → lt m m ≡ false
-never_below m = ap is_lt (tied_itself mark_cmp_total m)
-
--- r is not below b, and b is not below a: so r is not below a
-down_to : (r b a : Mark) → lt b a ≡ false → lt r b ≡ false → lt r a ≡ false
-down_to r b a f g = ⊎_elim (λ t. absurd (false≢true (sym g ∙ go (mark_cmp b a) refl (is_less _ t)))) (λ e. e) (cases_Bool (lt r a))
-  where
-    go : (o : Ordering) → mark_cmp b a ≡ o → mark_cmp r a ≡ Less → lt r b ≡ true
-    go Less e h = absurd (false≢true (sym f ∙ ap is_lt e))
-    go Equal e h = ap is_lt (alike_right mark_cmp_total b a r e ∙ h)
-    go Greater e h = ap is_lt (mark_cmp_total.trans r a b h (mark_cmp_total.antisymm a b ∙ ap ordering_reverse e))
-
--- what is not below and not above is the same
-tied : (a b : Mark) → lt a b ≡ false → lt b a ≡ false → a ≡ b
-tied a b f g = go (mark_cmp a b) refl
-  where
-    go : (o : Ordering) → mark_cmp a b ≡ o → a ≡ b
-    go Less e = absurd (false≢true (sym f ∙ ap is_lt e))
-    go Equal e = mark_cmp_same a b e
-    go Greater e = absurd (false≢true (sym g ∙ ap is_lt (mark_cmp_total.antisymm b a ∙ ap ordering_reverse e)))
+-- two marks of which neither is below the other are the same
+one_mark : (a b : Mark) → lt a b ≡ false → lt b a ≡ false → a ≡ b
+one_mark a b f g = mark_cmp_same a b (tied_from_at_most mark_cmp_total a b (at_most_from_not_below mark_cmp_total b a g) (at_most_from_not_below mark_cmp_total a b f))
 
 -- a put as it is kept in view
 abbrev told : (OpId × Put) → Mark × List ℕ
@@ -54,7 +37,7 @@ record Best (puts : List (OpId × Put)) (b r : Mark × List ℕ) : Type 0 where
   each : (p : OpId × Put) → In p puts → lt r.0 (mark_of p) ≡ false
 
 best : (puts : List (OpId × Put)) (b : Mark × List ℕ) → (r : Mark × List ℕ) × Best puts b r
-best [] b = (b, record { state = refl; source = inl refl; first = never_below b.0; each = λ p i. absurd i })
+best [] b = (b, record { state = refl; source = inl refl; first = not_below_itself mark_cmp_total b.0; each = λ p i. absurd i })
 best (a ∷ puts) b = go (lt b.0 (mark_of a)) refl (λ c. best puts c)
   where
     go : (t : Bool) → lt b.0 (mark_of a) ≡ t → ((c : Mark × List ℕ) → (r : Mark × List ℕ) × Best puts c r) → (r : Mark × List ℕ) × Best (a ∷ puts) b r
@@ -64,7 +47,7 @@ best (a ∷ puts) b = go (lt b.0 (mark_of a)) refl (λ c. best puts c)
           record {
             state = ap (λ t. fold later (Some (cond t (told a) b)) puts) e ∙ h.1.state;
             source = ⊎_elim (λ p. inr (a, inl refl, p)) (λ p. inr (p.0, inr p.1, p.2)) h.1.source;
-            first = ⊎_elim (λ t. absurd (false≢true (sym h.1.first ∙ ap is_lt (mark_cmp_total.trans h.0.0 b.0 (mark_of a) (is_less _ t) (is_less _ e))))) (λ f. f) (cases_Bool (lt h.0.0 b.0));
+            first = ⊎_elim (λ t. absurd (false≢true (sym h.1.first ∙ below_through mark_cmp_total h.0.0 b.0 (mark_of a) t e))) (λ f. f) (cases_Bool (lt h.0.0 b.0));
             each = λ p i. ⊎_elim (λ s. ap (λ p. lt h.0.0 (mark_of p)) s ∙ h.1.first) (h.1.each p) i;
           },
         )
@@ -75,7 +58,7 @@ best (a ∷ puts) b = go (lt b.0 (mark_of a)) refl (λ c. best puts c)
             state = ap (λ t. fold later (Some (cond t (told a) b)) puts) e ∙ h.1.state;
             source = ⊎_elim inl (λ p. inr (p.0, inr p.1, p.2)) h.1.source;
             first = h.1.first;
-            each = λ p i. ⊎_elim (λ s. ap (λ p. lt h.0.0 (mark_of p)) s ∙ down_to h.0.0 b.0 (mark_of a) e h.1.first) (h.1.each p) i;
+            each = λ p i. ⊎_elim (λ s. ap (λ p. lt h.0.0 (mark_of p)) s ∙ not_below_through h.0.0 b.0 (mark_of a) e h.1.first) (h.1.each p) i;
           },
         )
 
@@ -104,7 +87,7 @@ pub is_greatest : (puts : List (OpId × Put)) (word : List ℕ) → ((id : OpId)
 is_greatest [] word one w = absurd w.there
 is_greatest (a ∷ puts) word one w =
     let g = some_greatest a puts in
-    let same = tied (mark_of g.2.put) (mark_of w.put) (g.2.above w.put w.there) (w.above g.2.put g.2.there) in
+    let same = one_mark (mark_of g.2.put) (mark_of w.put) (g.2.above w.put w.there) (w.above g.2.put g.2.there) in
     let id : g.2.put.0 ≡ w.put.0 = ap (λ m. m.id) same in
     let put : g.2.put.1 ≡ w.put.1 = one w.put.0 g.2.put.1 w.put.1 (subst (λ id. In (id, g.2.put.1) (a ∷ puts)) id g.2.there) w.there in
     g.1 ∙ ap Some (sym g.2.is ∙ (ap (λ p. p.word) put ∙ w.is))

@@ -1,6 +1,6 @@
 -- The pairs of a map, from its operations.
-use Rattle.std.proofs.Common.{◌≡◌, ℕ, ◌≤◌, ◌++◌, drop, length, subst, Bool, true, false, ◌⊎◌, inl, inr, ⊎_elim, ◌↔◌, List, [], ◌∷◌, Option, Some, None, is_some, refl, sym, ap, ◌∙◌}
-use Rattle.std.specs.Prelude.{option_map, filter_map, map}
+use Rattle.std.proofs.Common.{◌≡◌, ℕ, ◌≤◌, ◌++◌, drop, length, subst, true, inl, inr, ◌↔◌, List, [], ◌∷◌, Option, Some, None, is_some, refl, sym, ap, ◌∙◌}
+use Rattle.std.specs.Prelude.{option_map, map}
 use Rattle.std.specs.List.{cons_option, AllByRecursion}
 use Rattle.std.specs.List.Sorted.{IsStrictlySortedBy}
 use Rattle.std.specs.Ordering.{is_lt}
@@ -21,7 +21,7 @@ use Rattle.tally_core.proofs.Listed.{kept_exact, names_ascend}
 use Rattle.tally_core.proofs.Sparse.{is_same}
 use Rattle.obj_map.specs.declared.put.Put.{Put}
 use Rattle.obj_map.specs.declared.map.MapOp.{MapOp}
-use Rattle.obj_map.specs.Puts.{mark_of, greatest, IsWordOf}
+use Rattle.obj_map.specs.Puts.{mark_of, IsWordOf}
 use Rattle.obj_map.specs.Maps.{Map, does, pairs, pairs_of, word_at, IsStateOf, IsGreatestPut}
 use Rattle.obj_map.proofs.Greatest.{greatest_is, is_greatest}
 

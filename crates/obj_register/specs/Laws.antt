@@ -1,14 +1,15 @@
 -- The laws of the register as a kind of replicated objects.
 use Rattle.std.specs.Prelude.{◌≡◌, Bool, true, false, not, cond, List, [], ◌∷◌, Some, None, fold, refl}
-use Rattle.std.specs.Ordering.{is_lt, is_le, is_gt, ordering_reverse}
+use Rattle.std.specs.Ordering.{is_lt, is_le, ordering_reverse}
 use Rattle.std.specs.declared.cmp.Ordering.{Ordering}
 use Rattle.std.specs.declared.cmp.Ordering.TheVariants.{Less, Equal, Greater}
 use Rattle.std.proofs.Common.{sym, ap, ◌∙◌, subst, inl, inr, ⊎_elim}
 use Rattle.std.proofs.lemmas.Bool.{false≢true}
-use Rattle.std.proofs.lemmas.Cmp.{upto, tied_itself}
+use Rattle.std.proofs.lemmas.Cmp.{tied_itself}
 use Rattle.ids_core.specs.Kinds.{Commutes, Distinct}
 use Rattle.ids_core.specs.Orders.{mark_cmp, mark_cmp_total, mark_cmp_same}
 use Rattle.ids_core.specs.declared.ids.Mark.{Mark}
+use Rattle.ids_core.proofs.Orders.{below_through, at_most_through, at_most_from_below, at_most_from_not_below}
 use Rattle.obj_register.specs.declared.register.RegisterOp.{RegisterOp}
 use Rattle.obj_register.specs.Registers.{greater_of, step, IsGreatest, IsStateOf}
 
@@ -19,39 +20,6 @@ lt x y = is_lt (mark_cmp x y)
 
 abbrev le : Mark → Mark → Bool
 le x y = is_le (mark_cmp x y)
-
-is_lt-true : (o : Ordering) → is_lt o ≡ true → o ≡ Less
-is_lt-true Less e = refl
-is_lt-true Equal e = cc
-is_lt-true Greater e = cc
-
-is_le-true : (o : Ordering) → is_le o ≡ true → is_gt o ≡ false
-is_le-true Less e = refl
-is_le-true Equal e = refl
-is_le-true Greater e = cc
-
-is_gt-false : (o : Ordering) → is_gt o ≡ false → is_le o ≡ true
-is_gt-false Less e = refl
-is_gt-false Equal e = refl
-is_gt-false Greater e = cc
-
-lt_le : (x y : Mark) → lt x y ≡ true → le x y ≡ true
-lt_le x y e = ap is_le (is_lt-true (mark_cmp x y) e)
-
-lt_trans : (x y z : Mark) → lt x y ≡ true → lt y z ≡ true → lt x z ≡ true
-lt_trans x y z e f = ap is_lt (mark_cmp_total.trans x y z (is_lt-true (mark_cmp x y) e) (is_lt-true (mark_cmp y z) f))
-
-le_trans : (x y z : Mark) → le x y ≡ true → le y z ≡ true → le x z ≡ true
-le_trans x y z e f = is_gt-false (mark_cmp x z) (upto mark_cmp_total x y z (is_le-true (mark_cmp x y) e) (is_le-true (mark_cmp y z) f))
-
--- what is not above is at most as great
-not_lt : (x y : Mark) → lt x y ≡ false → le y x ≡ true
-not_lt x y e = ap is_le (mark_cmp_total.antisymm y x) ∙ go (mark_cmp x y) e
-  where
-    go : (o : Ordering) → is_lt o ≡ false → is_le (ordering_reverse o) ≡ true
-    go Less e = cc
-    go Equal e = refl
-    go Greater e = refl
 
 -- of two marks with different identifiers one is greater
 lt-turned : (a b : Mark) → (a.id ≡ b.id → ⊥) → lt b a ≡ not (lt a b)
@@ -74,10 +42,10 @@ greater_of-turned w a b apart = go (lt w.0 a.0) (lt w.0 b.0) (lt a.0 b.0) refl r
     go : (x y z : Bool) → lt w.0 a.0 ≡ x → lt w.0 b.0 ≡ y → lt a.0 b.0 ≡ z → greater_of (greater_of w a) b ≡ greater_of (greater_of w b) a
     go true true true p q r = rw (p, q, other, r) refl
     go true true false p q r = rw (p, q, other, r) refl
-    go true false true p q r = absurd (false≢true (sym q ∙ lt_trans w.0 a.0 b.0 p r))
+    go true false true p q r = absurd (false≢true (sym q ∙ below_through mark_cmp_total w.0 a.0 b.0 p r))
     go true false false p q r = rw (p, q, r, p) refl
     go false true true p q r = rw (p, q, other, r) refl
-    go false true false p q r = absurd (false≢true (sym p ∙ lt_trans w.0 b.0 a.0 q (other ∙ ap not r)))
+    go false true false p q r = absurd (false≢true (sym p ∙ below_through mark_cmp_total w.0 b.0 a.0 q (other ∙ ap not r)))
     go false false z p q r = rw (p, q, p) refl
 
 pub step_commutes : Commutes step
@@ -103,7 +71,7 @@ ends (op ∷ ops) w = go (lt w.0 op.0) refl (ends ops)
     go : (b : Bool) → lt w.0 op.0 ≡ b → ((v : Mark × RegisterOp) → Ends v ops) → Ends w (op ∷ ops)
     go true less rest =
         let r = rest op in
-        let first : le w.0 r.last.0 ≡ true = le_trans w.0 op.0 r.last.0 (lt_le w.0 op.0 less) (r.greatest.above op (inl refl)) in
+        let first : le w.0 r.last.0 ≡ true = at_most_through mark_cmp_total w.0 op.0 r.last.0 (at_most_from_below mark_cmp_total w.0 op.0 less) (r.greatest.above op (inl refl)) in
         record {
           last = r.last;
           state = ap (λ b. fold step (Some (cond b op w)) ops) less ∙ r.state;
@@ -114,7 +82,7 @@ ends (op ∷ ops) w = go (lt w.0 op.0) refl (ends ops)
         }
     go false not_less rest =
         let r = rest w in
-        let second : le op.0 r.last.0 ≡ true = le_trans op.0 w.0 r.last.0 (not_lt w.0 op.0 not_less) (r.greatest.above w (inl refl)) in
+        let second : le op.0 r.last.0 ≡ true = at_most_through mark_cmp_total op.0 w.0 r.last.0 (at_most_from_not_below mark_cmp_total w.0 op.0 not_less) (r.greatest.above w (inl refl)) in
         record {
           last = r.last;
           state = ap (λ b. fold step (Some (cond b op w)) ops) not_less ∙ r.state;

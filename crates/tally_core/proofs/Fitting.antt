@@ -5,14 +5,14 @@ use Rattle.std.proofs.lemmas.Int.{ints}
 use Rattle.std.proofs.lemmas.List.{drop_more}
 use Rattle.std.proofs.lemmas.Bool.{cases_Bool, and_parts}
 use Rattle.std.specs.Ordering.{eq_by_cmp, is_lt}
-use Rattle.std.specs.declared.cmp.Ordering.{Ordering}
-use Rattle.std.specs.declared.cmp.Ordering.TheVariants.{Less, Equal, Greater}
+use Rattle.std.specs.declared.cmp.Ordering.TheVariants.{Less}
 use Rattle.std.specs.Cmp.{tied_itself}
 use Rattle.std.specs.BTreeMap.{BTreeMap, get}
 use Rattle.list_core.specs.Members.{In}
 use Rattle.ids_core.specs.declared.ids.OpId.{OpId}
 use Rattle.ids_core.specs.Orders.{id_cmp, id_cmp_total, name_cmp_total}
 use Rattle.ids_core.specs.Ascending.{IsAscending, ascends_from}
+use Rattle.ids_core.proofs.Orders.{is_lt-true}
 use Rattle.tally_core.specs.declared.place.Place.{Place}
 use Rattle.tally_core.specs.declared.place.Cell.{Cell}
 use Rattle.tally_core.specs.Places.{place, place_cmp, least_id}
@@ -21,17 +21,12 @@ use Rattle.tally_core.specs.Room.{fits, Fits, CanLower, Stays}
 use Rattle.tally_core.proofs.Places.{place_cmp_same}
 use Rattle.tally_core.proofs.Sparse.{is_same}
 
-is_less : (o : Ordering) → is_lt o ≡ true → o ≡ Less
-is_less Less e = refl
-is_less Equal e = cc
-is_less Greater e = cc
-
 -- what follows an element of an ascending list is above it, and ascends
 above_first : (low : OpId) (ids : List OpId) → ascends_from low ids ≡ true → (id : OpId) → In id ids → id_cmp low id ≡ Less
 above_first low [] h id i = absurd i
 above_first low (x ∷ ids) h id i =
     let parts = and_parts (is_lt (id_cmp low x)) (ascends_from x ids) h in
-    let first = is_less (id_cmp low x) parts.0 in
+    let first = is_lt-true (id_cmp low x) parts.0 in
     ⊎_elim (λ e. ap (id_cmp low) e ∙ first) (λ j. id_cmp_total.trans low x id first (above_first x ids parts.1 id j)) i
 
 pub ascending_rest : (x : OpId) (ids : List OpId) → IsAscending (x ∷ ids) → IsAscending ids

@@ -1,10 +1,6 @@
 -- The order of places is total.
 use Rattle.std.specs.Cmp.{IsTotalOrder}
 use Rattle.std.specs.FinMap.{IsAntisymmetric}
-use Rattle.std.proofs.Common.{◌≡◌, refl}
-use Rattle.std.specs.Ordering.{ordering_then}
-use Rattle.std.specs.declared.cmp.Ordering.{Ordering}
-use Rattle.std.specs.declared.cmp.Ordering.TheVariants.{Less, Equal, Greater}
 use Rattle.std.proofs.lemmas.Cmp.{then_total, on_total}
 use Rattle.ids_core.specs.Orders.{both_equal, name_cmp, name_cmp_total, name_cmp_same, id_cmp, id_cmp_total, id_cmp_same}
 use Rattle.tally_core.specs.Places.{place_cmp}

@@ -1,8 +1,6 @@
 -- Pairs and tags of a map are those of its operations.
-use Rattle.std.proofs.Common.{◌≡◌, ◌↔◌, ℕ, true, false, List, Some, fold, refl, sym, ap, ◌∙◌, subst}
-use Rattle.std.specs.Ordering.{is_le, is_lt, ordering_reverse}
-use Rattle.std.specs.declared.cmp.Ordering.{Ordering}
-use Rattle.std.specs.declared.cmp.Ordering.TheVariants.{Less, Equal, Greater}
+use Rattle.std.proofs.Common.{◌≡◌, ◌↔◌, ℕ, false, List, Some, fold, refl, sym, ap, ◌∙◌, subst}
+use Rattle.std.specs.Ordering.{is_lt}
 use Rattle.std.proofs.lemmas.Option.{none-some, same_Some}
 use Rattle.list_core.specs.Members.{In}
 use Rattle.ids_core.specs.declared.ids.OpId.{OpId}
@@ -10,6 +8,7 @@ use Rattle.ids_core.specs.declared.ids.Mark.{Mark}
 use Rattle.ids_core.specs.declared.object.Sort.TheVariants as sort
 use Rattle.ids_core.specs.Kinds.{Distinct}
 use Rattle.ids_core.specs.Orders.{mark_cmp, mark_cmp_total}
+use Rattle.ids_core.proofs.Orders.{at_most_from_not_below, not_below_from_at_most}
 use Rattle.obj_map.specs.declared.map.MapOp.{MapOp}
 use Rattle.obj_map.specs.Maps as map
 use Rattle.obj_map.specs.Laws.{step_defined}
@@ -45,23 +44,6 @@ put_of (Write w) o key word is some under = cc
 put_of (Add w over) o key word is some under = cc
 put_of (Remove w over) o key word is some under = cc
 
--- a mark that is not below another is at least as great
-at_most : (a b : Mark) → is_lt (mark_cmp a b) ≡ false → is_le (mark_cmp b a) ≡ true
-at_most a b e = ap is_le (mark_cmp_total.antisymm b a) ∙ go (mark_cmp a b) e
-  where
-    go : (o : Ordering) → is_lt o ≡ false → is_le (ordering_reverse o) ≡ true
-    go Less e = cc
-    go Equal e = refl
-    go Greater e = refl
-
-not_below : (a b : Mark) → is_le (mark_cmp b a) ≡ true → is_lt (mark_cmp a b) ≡ false
-not_below a b e = ap is_lt (mark_cmp_total.antisymm a b) ∙ go (mark_cmp b a) e
-  where
-    go : (o : Ordering) → is_le o ≡ true → is_lt (ordering_reverse o) ≡ false
-    go Less e = refl
-    go Equal e = refl
-    go Greater e = cc
-
 module _ (ops : List (Mark × Op)) (distinct : Distinct ops) (are : AreOf sort.Map ops) where
   abbrev pub map_after : map.Map
   map_after = fold map.step map.start (marked map_op ops)
@@ -84,7 +66,7 @@ module _ (ops : List (Mark × Op)) (distinct : Distinct ops) (are : AreOf sort.M
         live = subst (λ op. IsLive ops key (g.live.op.0, op)) put.1 f.live;
         above = λ op l.
             let t = live_to sort.Map map_op map.does map_takes ops are key op l in
-            at_most g.live.op.0 op.0 (subst (λ mark. is_lt (mark_cmp g.live.op.0 mark) ≡ false) t.mark (g.above op.0.id t.live));
+            at_most_from_not_below mark_cmp_total g.live.op.0 op.0 (subst (λ mark. is_lt (mark_cmp g.live.op.0 mark) ≡ false) t.mark (g.above op.0.id t.live));
       }
 
   word_to : (key word : List ℕ) → IsWordAt ops key word → map.IsGreatestPut (marked map_op ops) key word
@@ -96,7 +78,7 @@ module _ (ops : List (Mark × Op)) (distinct : Distinct ops) (are : AreOf sort.M
         is = sym (ap (λ (o : MapOp). o.word) (same_Some _ t.live.op.1 t.is));
         above = λ id l.
             let f = live_from sort.Map map_op map.does map_takes ops are key id l in
-            subst (λ mark. is_lt (mark_cmp mark l.op.0) ≡ false) (sym t.mark) (not_below w.mark l.op.0 (w.above (l.op.0, f.op) f.live));
+            subst (λ mark. is_lt (mark_cmp mark l.op.0) ≡ false) (sym t.mark) (not_below_from_at_most mark_cmp_total w.mark l.op.0 (w.above (l.op.0, f.op) f.live));
       }
 
   pub map_pairs : ArePairs ops (map.pairs map_after)
