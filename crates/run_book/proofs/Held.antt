@@ -4,9 +4,7 @@ use Rattle.std.specs.Prelude.{slice_get, ◌==◌, is_none}
 use Rattle.std.proofs.lemmas.Bool.{and_parts, leb-true, eqb-true}
 use Rattle.std.proofs.lemmas.Option.{none-some, same_Some}
 use Rattle.std.proofs.lemmas.List.{append-nil, drop-drop, drop-append-le, length-append}
-use Rattle.std.proofs.lemmas.List.Sums.{fold_push}
 use Rattle.list_core.proofs.Gets.{get_last}
-use Rattle.list_core.proofs.Moments.{by_moments}
 use Rattle.ids_core.specs.declared.ids.Dot.{Dot}
 use Rattle.ids_core.specs.declared.object.ObjectId.{ObjectId}
 use Rattle.tx_core.specs.declared.tx.Update.{Update}
@@ -31,7 +29,7 @@ use Rattle.dc_talk.specs.Clients.{Client, new_client, next_tx, next_dot, draft_u
 use Rattle.dc_talk.specs.Calls.{most_rank, op_of, over, looked_up, outcome_of, did, committed}
 use Rattle.dc_talk.specs.Rule.{after, heard, takes, taken, is_linked, can_follow, client_after, commit_in, commits_of, Allows, Follows}
 use Rattle.run_book.proofs.Numbered.{Numbered, numbered_more}
-use Rattle.run_book.proofs.Sessions.{IsModest, modest_none, modest_more, begin_fine, ChangeFine, change_fine, commit_number, CanFollow, can_follow-true, commits_of_more, small_delta}
+use Rattle.run_book.proofs.Sessions.{IsModest, modest_none, modest_more, begin_fine, ChangeFine, change_fine, commit_number, CanFollow, can_follow-true, by_notes, small_delta}
 
 -- the dot of a client's k-th transaction
 abbrev pub dot_at : ℕ → ℕ → Dot
@@ -153,7 +151,7 @@ unchanged : (client : ℕ) (s : Client) (C : List Tx) → Held client s C → He
 unchanged client s C h = subst (λ C. Held client s C) (sym (append-nil C)) h
 
 -- the open transaction has one update more
-held_change : (client : ℕ) (s : Client) (C : List Tx) (o : ObjectId) (change : Change) → ChangeFine s change → Held client s C → Held client (record s { draft = Some (draft_updates s ++ record { object = o; op = op_of change (over s o change) } ∷ []) }) C
+held_change : (client : ℕ) (s : Client) (C : List Tx) (o : ObjectId) (change : Change) → ChangeFine s o change → Held client s C → Held client (record s { draft = Some (draft_updates s ++ record { object = o; op = op_of change (over s o change) } ∷ []) }) C
 held_change client s C o change fine h = go s.draft refl
   where
     go : (draft : Option (List Update)) → s.draft ≡ draft → Held client (record s { draft = Some (draft_updates s ++ record { object = o; op = op_of change (over s o change) } ∷ []) }) C
@@ -201,12 +199,6 @@ held_new n client capacity = record {
 
 -- a client after the first m notes of a log that follows the rule
 pub held_after : (n client capacity : ℕ) (notes : List Note) → Follows n client capacity notes → (m : ℕ) → Held client (client_after n client capacity (take m notes)) (commits_of n client capacity (take m notes))
-held_after n client capacity notes follows = by_moments (λ X. Held client (client_after n client capacity X) (commits_of n client capacity X)) notes (held_new n client capacity) step
-  where
-    step : (p : ℕ) (note : Note) → slice_get notes p ≡ Some note → Held client (client_after n client capacity (take p notes)) (commits_of n client capacity (take p notes)) → Held client (client_after n client capacity (take p notes ++ note ∷ [])) (commits_of n client capacity (take p notes ++ note ∷ []))
-    step p note there h =
-        let X = take p notes in
-        let s = client_after n client capacity X in
-        subst (λ s. Held client s (commits_of n client capacity (X ++ note ∷ []))) (sym (fold_push (λ s note. after s note.deed) (new_client n client capacity) X note))
-        (subst (λ C. Held client (after s note.deed) C) (sym (commits_of_more n client capacity X note))
-        (held_deed client s (commits_of n client capacity X) X note.deed (follows.by p note there) h))
+held_after n client capacity notes follows = by_notes n client capacity notes (Held client) (held_new n client capacity) (λ p note there h.
+    let X = take p notes in
+    held_deed client (client_after n client capacity X) (commits_of n client capacity X) X note.deed (follows.by p note there) h)

@@ -1,4 +1,5 @@
 pub mod Lists
+pub mod Sizes
 pub mod Numbered
 pub mod Sessions
 pub mod Held

@@ -1,13 +1,16 @@
 -- What the log of one client tells by itself: its commits, its numbers and its open transaction.
-use Rattle.std.proofs.Common.{◌≡◌, ℕ, ◌+◌, ◌*◌, ◌≤◌, ◌<◌, Bool, true, false, cond, List, [], ◌∷◌, ◌++◌, length, take, drop, fold, ℤ, unsigned_abs, Option, Some, None, refl, sym, ap, ◌∙◌, arith}
-use Rattle.std.specs.Prelude.{◌==◌, nat_le, not, is_none, is_some}
+use Rattle.std.proofs.Common.{◌≡◌, ℕ, ◌+◌, ◌*◌, ◌≤◌, ◌<◌, Bool, true, false, cond, List, [], ◌∷◌, ◌++◌, length, take, drop, fold, unsigned_abs, Option, Some, None, refl, sym, ap, ◌∙◌, subst, arith}
+use Rattle.std.specs.Prelude.{◌==◌, nat_le, not, is_none, is_some, slice_get}
 use Rattle.std.specs.List.{cons_option}
 use Rattle.std.proofs.lemmas.Bool.{and_parts, leb-true, leb-false, eqb-true, not-false}
+use Rattle.std.proofs.lemmas.List.Sums.{fold_push}
 use Rattle.std.proofs.lemmas.List.{append-nil, append_assoc, drop-drop, drop-append-le, length-append}
 use Rattle.list_core.specs.Choices.{when}
+use Rattle.list_core.proofs.Moments.{by_moments}
 use Rattle.ids_core.specs.declared.ids.OpId.{OpId}
 use Rattle.ids_core.specs.declared.object.ObjectId.{ObjectId}
 use Rattle.ids_core.specs.Ids.{same_sort, same_object}
+use Rattle.ids_core.specs.Same.{same_sort-true}
 use Rattle.vv_core.specs.Vectors.{Covers, covers}
 use Rattle.vv_core.proofs.Covering.{covers-true}
 use Rattle.obj_counter.specs.Counter.{sizes}
@@ -26,6 +29,7 @@ use Rattle.dc_talk.specs.Calls.{most_rank, most_updates, kind_of, named, op_of, 
 use Rattle.dc_talk.specs.Rule.{after, can_follow, client_after, commit_in, commits_from, commits_of}
 use Rattle.run_book.specs.Values.{delta_of, deltas_of}
 use Rattle.dc_talk.proofs.Inversions.{last_of, when_some, when_none, is_none_true}
+use Rattle.run_book.proofs.Sizes.{sizes-append, deltas_of-append}
 
 -- ---- the commits of a log
 
@@ -53,6 +57,17 @@ commits_of_prefix n client capacity m notes = (
   ap (commits_of n client capacity) (sym (Rattle.std.proofs.lemmas.List.take-append-drop m notes)) ∙ commits_from-append (new_client n client capacity) (take m notes) (drop m notes),
 )
 
+-- what holds of a client at first, and goes on from each note to the next, holds at each moment of its log
+pub by_notes : (n client capacity : ℕ) (notes : List Note) (P : Client → List Tx → Type 0) → P (new_client n client capacity) [] → ((p : ℕ) (note : Note) → slice_get notes p ≡ Some note → P (client_after n client capacity (take p notes)) (commits_of n client capacity (take p notes)) → P (after (client_after n client capacity (take p notes)) note.deed) (commits_of n client capacity (take p notes) ++ commit_in (client_after n client capacity (take p notes)) note.deed)) → (m : ℕ) → P (client_after n client capacity (take m notes)) (commits_of n client capacity (take m notes))
+by_notes n client capacity notes P first next = by_moments (λ X. P (client_after n client capacity X) (commits_of n client capacity X)) notes first step
+  where
+    step : (p : ℕ) (note : Note) → slice_get notes p ≡ Some note → P (client_after n client capacity (take p notes)) (commits_of n client capacity (take p notes)) → P (client_after n client capacity (take p notes ++ note ∷ [])) (commits_of n client capacity (take p notes ++ note ∷ []))
+    step p note there h =
+        let X = take p notes in
+        let s = client_after n client capacity X in
+        subst (λ s. P s (commits_of n client capacity (X ++ note ∷ []))) (sym (fold_push (λ s note. after s note.deed) (new_client n client capacity) X note))
+        (subst (λ C. P (after s note.deed) C) (sym (commits_of_more n client capacity X note)) (next p note there h))
+
 -- ---- updates of a moderate size
 
 -- at most so many updates, each with a small delta
@@ -64,27 +79,23 @@ pub record IsModest (updates : List Update) : Type 0 where
 abbrev pub size_of : Op → ℕ
 size_of op = sizes (cons_option (delta_of op) [])
 
--- one update more adds at most its own size
-deltas_of-more : (o : ObjectId) (updates : List Update) (u : Update) (most : ℕ) → size_of u.op ≤ most → sizes (deltas_of o (updates ++ u ∷ [])) ≤ sizes (deltas_of o updates) + most
-deltas_of-more o [] u most small = go (same_object u.object o)
+-- one update more adds at most the size of its own delta
+sizes_more : (o : ObjectId) (updates : List Update) (u : Update) → sizes (deltas_of o (updates ++ u ∷ [])) ≤ sizes (deltas_of o updates) + size_of u.op
+sizes_more o updates u = omega (arith, ap sizes (deltas_of-append o updates (u ∷ [])), sizes-append (deltas_of o updates) (deltas_of o (u ∷ [])), go (same_object u.object o))
   where
-    go : (b : Bool) → sizes (cond b (cons_option (delta_of u.op) []) []) ≤ 0 + most
-    go true = omega (arith, small)
+    go : (b : Bool) → sizes (cond b (cons_option (delta_of u.op) []) []) ≤ size_of u.op
+    go true = omega arith
     go false = omega arith
-deltas_of-more o (v ∷ updates) u most small = go (same_object v.object o) (delta_of v.op) (deltas_of-more o updates u most small)
-  where
-    go : (b : Bool) (delta : Option ℤ) → sizes (deltas_of o (updates ++ u ∷ [])) ≤ sizes (deltas_of o updates) + most → sizes (cond b (cons_option delta (deltas_of o (updates ++ u ∷ []))) (deltas_of o (updates ++ u ∷ []))) ≤ sizes (cond b (cons_option delta (deltas_of o updates)) (deltas_of o updates)) + most
-    go true None rest = rest
-    go true (Some delta) rest = omega (arith, rest)
-    go false delta rest = rest
 
+-- no updates are modest
 pub modest_none : IsModest []
 modest_none = record { few = omega arith; sized = λ o. omega arith }
 
+-- so are modest updates with one more of a small delta, where there is room for it
 pub modest_more : (updates : List Update) (u : Update) → IsModest updates → length updates < 256 → size_of u.op ≤ 1000000000000 → IsModest (updates ++ u ∷ [])
 modest_more updates u modest room small = record {
   few = omega (arith, length-append updates (u ∷ []), room);
-  sized = λ o. omega (arith, length-append updates (u ∷ []), deltas_of-more o updates u 1000000000000 small, modest.sized o);
+  sized = λ o. omega (arith, length-append updates (u ∷ []), sizes_more o updates u, small, modest.sized o);
 }
 
 -- the operation of a modest change has a small delta, or none
@@ -108,14 +119,17 @@ begin_fine s is =
     let l = last_of (when (is_some s.draft) (Refused AlreadyOpen) ∷ when (nat_le most_rank s.clock) (Refused ClockFull) ∷ []) Fine Fine is (differs _ AlreadyOpen, (differs _ ClockFull, tt)) in
     leb-false most_rank s.clock (when_none _ _ l.0.1.0)
 
--- a change that is made is modest, and there is room for it
-pub record ChangeFine (s : Client) (change : Change) : Type 0 where
+-- a change that is made is of its object's kind and modest, there is room for it, and what it has to know of
+-- the object is there
+pub record ChangeFine (s : Client) (o : ObjectId) (change : Change) : Type 0 where
   pub opened : is_none s.draft ≡ false
+  pub kind : kind_of change ≡ o.sort
   pub small : is_modest change ≡ true
   pub room : length (draft_updates s) < 256
+  pub found : Fine ≡ look_up_outcome o (named change) (viewed s o)
 
 -- what a change tells that is made
-pub change_fine : (s : Client) (o : ObjectId) (change : Change) → Fine ≡ change_outcome s o change → ChangeFine s change
+pub change_fine : (s : Client) (o : ObjectId) (change : Change) → Fine ≡ change_outcome s o change → ChangeFine s o change
 change_fine s o change is =
     let refusals =
     when (is_none s.draft) (Refused NotOpen)
@@ -126,8 +140,10 @@ change_fine s o change is =
     let l = last_of refusals (look_up_outcome o (named change) (viewed s o)) Fine is (differs _ NotOpen, (differs _ WrongKind, (differs _ DeltaTooLarge, (differs _ (TooManyUpdates most_updates), tt)))) in
     record {
       opened = when_none _ _ l.0.0;
+      kind = same_sort-true (kind_of change) o.sort (not-false _ (when_none _ _ l.0.1.0));
       small = not-false _ (when_none _ _ l.0.1.1.0);
       room = leb-false most_updates (length (draft_updates s)) (when_none _ _ l.0.1.1.1.0);
+      found = l.1;
     }
 
 -- a commit that gets a number has its transaction open
