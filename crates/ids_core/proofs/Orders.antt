@@ -6,7 +6,7 @@ use Rattle.std.specs.declared.cmp.Ordering.TheVariants.{Less, Equal, Greater}
 use Rattle.std.specs.Cmp.{IsTotalOrder}
 use Rattle.std.proofs.lemmas.Cmp.{upto, tied_itself}
 use Rattle.ids_core.specs.declared.ids.Mark.{Mark}
-use Rattle.ids_core.specs.Orders.{mark_cmp, dot_cmp, dot_cmp_total}
+use Rattle.ids_core.specs.Orders.{mark_cmp, mark_cmp_total, mark_cmp_same, dot_cmp, dot_cmp_total}
 
 -- only the answer less passes the test for less
 pub is_lt-true : (o : Ordering) → is_lt o ≡ true → o ≡ Less
@@ -71,6 +71,10 @@ module _ {K : Type 0} {R : K → K → Ordering} (order : IsTotalOrder R) where
       go Greater below above = cc
 
 -- ---- marks
+
+-- two marks of which neither is greater are one
+pub one_mark : (x y : Mark) → is_le (mark_cmp x y) ≡ true → is_le (mark_cmp y x) ≡ true → x ≡ y
+one_mark x y below above = mark_cmp_same x y (tied_from_at_most mark_cmp_total x y below above)
 
 -- of two marks the one with the lesser rank is below
 pub below_by_rank : (x y : Mark) → x.rank < y.rank → is_lt (mark_cmp x y) ≡ true

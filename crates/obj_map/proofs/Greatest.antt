@@ -7,8 +7,8 @@ use Rattle.std.specs.Ordering.{is_lt}
 use Rattle.list_core.specs.Members.{In}
 use Rattle.ids_core.specs.declared.ids.OpId.{OpId}
 use Rattle.ids_core.specs.declared.ids.Mark.{Mark}
-use Rattle.ids_core.specs.Orders.{mark_cmp, mark_cmp_total, mark_cmp_same}
-use Rattle.ids_core.proofs.Orders.{not_below_itself, below_through, at_most_through, at_most_from_not_below, not_below_from_at_most, tied_from_at_most}
+use Rattle.ids_core.specs.Orders.{mark_cmp, mark_cmp_total}
+use Rattle.ids_core.proofs.Orders.{not_below_itself, below_through, at_most_through, at_most_from_not_below, not_below_from_at_most, one_mark}
 use Rattle.obj_map.specs.declared.put.Put.{Put}
 use Rattle.obj_map.specs.Puts.{mark_of, later, greatest, IsWordOf}
 
@@ -22,20 +22,18 @@ not_below_through r b a f g =
     let order = mark_cmp_total in
     not_below_from_at_most order r a (at_most_through order a b r (at_most_from_not_below order b a f) (at_most_from_not_below order r b g))
 
--- two marks of which neither is below the other are the same
-one_mark : (a b : Mark) → lt a b ≡ false → lt b a ≡ false → a ≡ b
-one_mark a b f g = mark_cmp_same a b (tied_from_at_most mark_cmp_total a b (at_most_from_not_below mark_cmp_total b a g) (at_most_from_not_below mark_cmp_total a b f))
-
 -- a put as it is kept in view
 abbrev told : (OpId × Put) → Mark × List ℕ
 told p = (mark_of p, p.1.word)
 
+-- the greatest of a marked word and of the puts behind it: one of them, and none of them is above it
 record Best (puts : List (OpId × Put)) (b r : Mark × List ℕ) : Type 0 where
   state : fold later (Some b) puts ≡ Some r
   source : (r ≡ b) ⊎ ((p : OpId × Put) × In p puts × (r ≡ told p))
   first : lt r.0 b.0 ≡ false
   each : (p : OpId × Put) → In p puts → lt r.0 (mark_of p) ≡ false
 
+-- there is a greatest of a marked word and the puts behind it
 best : (puts : List (OpId × Put)) (b : Mark × List ℕ) → (r : Mark × List ℕ) × Best puts b r
 best [] b = (b, record { state = refl; source = inl refl; first = not_below_itself mark_cmp_total b.0; each = λ p i. absurd i })
 best (a ∷ puts) b = go (lt b.0 (mark_of a)) refl (λ c. best puts c)
@@ -78,6 +76,7 @@ some_greatest a puts =
       },
     )
 
+-- what the fold finds is the word of a greatest put
 pub greatest_is : (puts : List (OpId × Put)) (word : List ℕ) → greatest puts ≡ Some word → IsWordOf puts word
 greatest_is [] word e = absurd (none-some word e)
 greatest_is (a ∷ puts) word e = let g = some_greatest a puts in subst (IsWordOf (a ∷ puts)) (same_Some _ _ (sym g.1 ∙ e)) g.2
@@ -87,7 +86,7 @@ pub is_greatest : (puts : List (OpId × Put)) (word : List ℕ) → ((id : OpId)
 is_greatest [] word one w = absurd w.there
 is_greatest (a ∷ puts) word one w =
     let g = some_greatest a puts in
-    let same = one_mark (mark_of g.2.put) (mark_of w.put) (g.2.above w.put w.there) (w.above g.2.put g.2.there) in
+    let same = one_mark (mark_of g.2.put) (mark_of w.put) (at_most_from_not_below mark_cmp_total (mark_of w.put) (mark_of g.2.put) (w.above g.2.put g.2.there)) (at_most_from_not_below mark_cmp_total (mark_of g.2.put) (mark_of w.put) (g.2.above w.put w.there)) in
     let id : g.2.put.0 ≡ w.put.0 = ap (λ m. m.id) same in
     let put : g.2.put.1 ≡ w.put.1 = one w.put.0 g.2.put.1 w.put.1 (subst (λ id. In (id, g.2.put.1) (a ∷ puts)) id g.2.there) w.there in
     g.1 ∙ ap Some (sym g.2.is ∙ (ap (λ p. p.word) put ∙ w.is))

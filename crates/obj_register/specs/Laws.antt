@@ -15,9 +15,11 @@ use Rattle.obj_register.specs.Registers.{greater_of, step, IsGreatest, IsStateOf
 
 -- ---- the order of marks
 
+-- whether a mark is below another
 abbrev lt : Mark → Mark → Bool
 lt x y = is_lt (mark_cmp x y)
 
+-- whether a mark is at most as great as another
 abbrev le : Mark → Mark → Bool
 le x y = is_le (mark_cmp x y)
 
@@ -48,6 +50,7 @@ greater_of-turned w a b apart = go (lt w.0 a.0) (lt w.0 b.0) (lt a.0 b.0) refl r
     go false true false p q r = absurd (false≢true (sym p ∙ below_through mark_cmp_total w.0 b.0 a.0 q (other ∙ ap not r)))
     go false false z p q r = rw (p, q, p) refl
 
+-- writes with different identifiers change places
 pub step_commutes : Commutes step
 step_commutes None a b apart = ap Some (go (lt a.0 b.0) (lt b.0 a.0) (lt-turned a.0 b.0 apart))
   where
@@ -64,6 +67,7 @@ record Ends (w : Mark × RegisterOp) (ops : List (Mark × RegisterOp)) : Type 0 
   state : fold step (Some w) ops ≡ Some last
   greatest : IsGreatest (w ∷ ops) last
 
+-- a fold ends in the greatest of the write that it begins with and of those that follow
 ends : (ops : List (Mark × RegisterOp)) (w : Mark × RegisterOp) → Ends w ops
 ends [] w = record { last = w; state = refl; greatest = record { member = inl refl; above = λ x i. ⊎_elim (λ same. ap (λ y. le y.0 w.0) same ∙ ap is_le (tied_itself mark_cmp_total w.0)) (λ j. absurd j) i } }
 ends (op ∷ ops) w = go (lt w.0 op.0) refl (ends ops)
@@ -92,6 +96,7 @@ ends (op ∷ ops) w = go (lt w.0 op.0) refl (ends ops)
           };
         }
 
+-- a fold of writes with different identifiers has the state of the definition
 pub fold-step_defined : (ops : List (Mark × RegisterOp)) → Distinct ops → IsStateOf ops (fold step None ops)
 fold-step_defined [] apart = refl
 fold-step_defined (op ∷ ops) apart =

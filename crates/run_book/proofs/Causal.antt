@@ -1,6 +1,5 @@
 -- The causal theorem over every book that fits, each file one part of it.
 pub mod Apart
-pub mod Marks
 pub mod Cover
 pub mod Answers
 pub mod Origins
@@ -15,15 +14,23 @@ pub mod SessionStates
 pub mod Closure
 pub mod BasisOrder
 pub mod InView
-pub mod Premises
+pub mod OnBasis
+pub mod SetNodes
 pub mod Acts
 pub mod Operations
+pub mod CommitMoments
+pub mod Drafts
 pub mod Changes
 pub mod Sums
 pub mod Issued
 pub mod Views
+pub mod OpenNodes
+pub mod ActTests
 pub mod TagsAndSees
+pub mod AddsAndRemoves
 pub mod ValueBySees
 pub mod OneValue
+pub mod FoldedValues
+pub mod Reads
 pub mod ClosedSetValues
 pub mod Theorem

@@ -2,37 +2,31 @@
 use Rattle.std.proofs.Common.{◌≡◌, ℕ, ◌+◌, ◌<◌, true, false, inl, inr, ⊎_elim, List, [], ◌∷◌, ◌++◌, length, take, get_or, Option, Some, None, refl, sym, ap, ◌∙◌, subst}
 use Rattle.std.specs.Option.{option_map}
 use Rattle.std.specs.List.{filter_map}
-use Rattle.std.specs.Ordering.{is_le, ordering_reverse}
-use Rattle.std.specs.declared.cmp.Ordering.{Ordering}
-use Rattle.std.specs.declared.cmp.Ordering.TheVariants.{Less, Equal, Greater}
-use Rattle.std.proofs.lemmas.Bool.{cases_Bool, false≢true}
+use Rattle.std.specs.Ordering.{is_le, is_lt}
+use Rattle.std.proofs.lemmas.Bool.{false≢true}
 use Rattle.std.proofs.lemmas.List.{take_more}
 use Rattle.std.proofs.lemmas.Option.{none-some, same_Some}
 use Rattle.list_core.specs.Members.{In}
 use Rattle.list_core.proofs.Members.{In_left, In_right, In_either}
 use Rattle.ids_core.specs.declared.ids.Mark.{Mark}
-use Rattle.ids_core.specs.Orders.{mark_cmp, mark_cmp_total, mark_cmp_same}
+use Rattle.ids_core.specs.Orders.{mark_cmp, mark_cmp_total}
+use Rattle.ids_core.proofs.Orders.{not_below_itself, at_most_through, at_most_from_below, at_most_from_not_below}
 use Rattle.tx_core.specs.declared.op.Op.{Op}
 use Rattle.tx_core.specs.declared.op.Op.TheVariants.{Inc, Write, Add, Remove, Put, Erase}
 use Rattle.run_book.specs.Values.{Act, Writes, IsLastWord}
 use Rattle.run_book.specs.Unseen.{written, marked_write, IsLast, IsLastOf, is_later}
 use Rattle.run_book.proofs.FilterMaps.{In_filter_map, In_from_filter_map}
-use Rattle.run_book.proofs.Causal.Marks.{before, itself, before_trans, not_before, at_most}
 
 -- a mark is at most itself
 upto_itself : (x : Mark) → is_le (mark_cmp x x) ≡ true
-upto_itself x = not_before x x (itself x)
-
--- what is at most a mark is at most a later one
-upto_later : (x y z : Mark) → is_le (mark_cmp x y) ≡ true → before y z ≡ true → is_le (mark_cmp x z) ≡ true
-upto_later x y z upto later = not_before z x (⊎_elim (λ e. absurd (false≢true (sym (at_most y x upto) ∙ before_trans y z x later e))) (λ e. e) (cases_Bool (before z x)))
+upto_itself x = at_most_from_not_below mark_cmp_total x x (not_below_itself mark_cmp_total x)
 
 -- a later word is the last of both
-later_takes : (words : List (Mark × List ℕ)) (last next : Mark × List ℕ) → IsLast words last → before last.0 next.0 ≡ true → IsLast (words ++ next ∷ []) next
+later_takes : (words : List (Mark × List ℕ)) (last next : Mark × List ℕ) → IsLast words last → is_lt (mark_cmp last.0 next.0) ≡ true → IsLast (words ++ next ∷ []) next
 later_takes words last next is later = record {
   there = In_right words (next ∷ []) next (inl refl);
   above = λ other i. ⊎_elim
-      (λ j. upto_later other.0 last.0 next.0 (is.above other j) later)
+      (λ j. at_most_through mark_cmp_total other.0 last.0 next.0 (is.above other j) (at_most_from_below mark_cmp_total last.0 next.0 later))
       (λ j. at other j)
       (In_either words (next ∷ []) other i);
 }
@@ -42,14 +36,14 @@ later_takes words last next is later = record {
     at other (inr j) = absurd j
 
 -- one that is not later leaves the last as it is
-later_keeps : (words : List (Mark × List ℕ)) (last next : Mark × List ℕ) → IsLast words last → before last.0 next.0 ≡ false → IsLast (words ++ next ∷ []) last
+later_keeps : (words : List (Mark × List ℕ)) (last next : Mark × List ℕ) → IsLast words last → is_lt (mark_cmp last.0 next.0) ≡ false → IsLast (words ++ next ∷ []) last
 later_keeps words last next is not_later = record {
   there = In_left words (next ∷ []) last is.there;
   above = λ other i. ⊎_elim (is.above other) (λ j. at other j) (In_either words (next ∷ []) other i);
 }
   where
     at : (other : Mark × List ℕ) → In other (next ∷ []) → is_le (mark_cmp other.0 last.0) ≡ true
-    at other (inl same) = ap (λ (w : Mark × List ℕ). is_le (mark_cmp w.0 last.0)) same ∙ not_before last.0 next.0 not_later
+    at other (inl same) = ap (λ (w : Mark × List ℕ). is_le (mark_cmp w.0 last.0)) same ∙ at_most_from_not_below mark_cmp_total last.0 next.0 not_later
     at other (inr j) = absurd j
 
 -- one more word that is later is the last
@@ -71,15 +65,6 @@ pub last_more : (words : List (Mark × List ℕ)) (i : ℕ) (last new : Option (
 last_more words i last new next within at is step =
     let same : take i words ++ next ∷ [] ≡ take (i + 1) words = ap (λ w. take i words ++ w ∷ []) at ∙ sym (take_more words i next within) in
     subst (λ l. IsLastOf l new) same (step (take i words) is)
-
--- two marks that do not exceed each other are the same
-pub same_mark : (x y : Mark) → is_le (mark_cmp x y) ≡ true → is_le (mark_cmp y x) ≡ true → x ≡ y
-same_mark x y below above = mark_cmp_same x y (go (mark_cmp x y) below (sym (ap is_le (mark_cmp_total.antisymm y x)) ∙ above))
-  where
-    go : (o : Ordering) → is_le o ≡ true → is_le (ordering_reverse o) ≡ true → o ≡ Equal
-    go Less a b = absurd (false≢true b)
-    go Equal a b = refl
-    go Greater a b = absurd (false≢true a)
 
 -- ---- registers
 

@@ -19,7 +19,7 @@ use Rattle.run_book.specs.Acts.{HasUniqueMarks}
 use Rattle.run_book.specs.Unseen.{unseen_put, word_under, IsLast, ArePairsOf}
 use Rattle.run_book.proofs.FilterMaps.{In_filter_map, In_from_filter_map}
 use Rattle.run_book.proofs.UnseenActs.{put_of, of_put, kept_of}
-use Rattle.run_book.proofs.LastWords.{same_mark}
+use Rattle.ids_core.proofs.Orders.{one_mark}
 
 -- ---- the words under a key
 
@@ -92,7 +92,7 @@ module _ (acts : List Act) (unique : HasUniqueMarks acts) where
   -- a key has one greatest put
   one_word : (key v w : List ℕ) → IsWordAt acts key v → IsWordAt acts key w → v ≡ w
   one_word key v w a b =
-      let marks = same_mark a.act.mark b.act.mark (b.above a.act v a.is) (a.above b.act w b.is) in
+      let marks = one_mark a.act.mark b.act.mark (b.above a.act v a.is) (a.above b.act w b.is) in
       let same = unique.by a.act b.act a.is.there b.is.there marks in
       let puts : Some (key, v) ≡ Some (key, w) = sym a.is.puts ∙ (ap (λ (act : Act). put act.op) same ∙ b.is.puts) in
       ap (λ pair. pair.1) (same_Some (key, v) (key, w) puts)

@@ -1,11 +1,11 @@
 -- The acts in a book that fits are few and apart, so the value that is computed is the one that is defined.
-use Rattle.std.proofs.Common.{◌≡◌, ℕ, ◌+◌, ◌-◌, ◌≤◌, ◌<◌, ◌^◌, List, [], ◌++◌, length, take, map, Some, Ok, Err, Result, refl, sym, ap, ◌∙◌, subst, arith}
+use Rattle.std.proofs.Common.{◌≡◌, ℕ, ◌-◌, ◌≤◌, ◌<◌, ◌^◌, List, [], ◌++◌, length, take, map, Some, Ok, Err, Result, refl, sym, ap, ◌∙◌, subst, arith}
 use Rattle.std.specs.Prelude.{slice_get, flat_map, All, IfOk}
 use Rattle.std.proofs.lemmas.Option.{same_Some, get_or_from_slice_get}
-use Rattle.std.proofs.lemmas.List.{append-nil, take_all}
+use Rattle.std.proofs.lemmas.List.{append-nil}
 use Rattle.list_core.specs.Members.{In}
 use Rattle.list_core.proofs.Members.{In_from_map}
-use Rattle.list_core.proofs.Gets.{get_within, get_In, In_get}
+use Rattle.list_core.proofs.Gets.{get_within, get_In}
 use Rattle.ids_core.specs.declared.ids.Dot.{Dot}
 use Rattle.ids_core.specs.declared.object.ObjectId.{ObjectId}
 use Rattle.ids_core.specs.declared.object.Sort.TheVariants as sort
@@ -13,7 +13,6 @@ use Rattle.obj_counter.specs.Counter.{sizes}
 use Rattle.tx_core.specs.declared.state.Value.{Value}
 use Rattle.dc_talk.specs.Logs.{Logged}
 use Rattle.dc_talk.specs.Clients.{Client, draft_updates}
-use Rattle.dc_talk.specs.Rule.{commits_of, Follows}
 use Rattle.run_book.specs.declared.book.Book.{Book}
 use Rattle.run_book.specs.declared.acts.BareAct.{BareAct}
 use Rattle.run_book.specs.declared.replay.Replay.{Replay}
@@ -29,17 +28,14 @@ use Rattle.run_book.specs.Acts.{bare_of, deltas_in, sum_of, HasUniqueMarks}
 use Rattle.run_book.specs.BareNodes.{bare_node}
 use Rattle.run_book.specs.ReadValues.{read_in, read_of}
 use Rattle.run_book.proofs.Sessions.{IsModest, modest_none}
-use Rattle.run_book.proofs.Held.{held_after}
 use Rattle.run_book.proofs.Replays.{in_range_at}
 use Rattle.run_book.proofs.Bases.{wide_after}
-use Rattle.run_book.proofs.BareActs.{deltas_over, sum_over}
-use Rattle.run_book.proofs.Causal.Commits.{committed_is}
-use Rattle.run_book.proofs.Causal.Sums.{small}
-use Rattle.run_book.proofs.Causal.Sums.{deltas_over as operations_over}
-use Rattle.run_book.proofs.Causal.Operations.{apart_of}
-use Rattle.run_book.proofs.Causal.OneValue.{one_act, one_act_of_set}
-use Rattle.run_book.proofs.Causal.Premises.{premises}
-use Rattle.run_book.proofs.Causal.Views.{part}
+use Rattle.run_book.proofs.BareActs.{sum_over}
+use Rattle.run_book.proofs.Causal.Closure.{made, session_held}
+use Rattle.run_book.proofs.Causal.CommitMoments.{commit_modest}
+use Rattle.run_book.proofs.Causal.Sums.{sum_fits}
+use Rattle.run_book.proofs.Causal.Views.{well_issued, open_over}
+use Rattle.run_book.proofs.Causal.OneValue.{unique_marks, unique_marks_in}
 use Rattle.run_book.proofs.Causal.Theorem.{values}
 
 -- what holds of each member of a list, holds of each element
@@ -64,22 +60,8 @@ module _ (b : Book) (clients limit capacity : ℕ) (fit : FitsWith b clients lim
       few : (t : Node) → In t nodes → length t.updates ≤ 256
       few t i =
           let m = In_from_map (node_of b) (committed b clients capacity) t i in
-          let c = committed_is b clients limit capacity fit m.0 m.1 in
-          let client = m.0.dot.client in
-          let notes = notes_of b (client + 1) in
-          let same : client + 1 - 1 ≡ client = omega arith in
-          let follows : Follows b.n client capacity notes = subst (λ c. Follows b.n c capacity notes) same (fit.follows (client + 1) (record { low = omega (arith, c.low); high = omega (arith, c.high) })) in
-          let held = held_after b.n client capacity notes follows (length notes) in
-          let here : In m.0 (commits_of b.n client capacity (take (length notes) notes)) = subst (λ l. In m.0 (commits_of b.n client capacity l)) (sym (take_all (length notes) notes (omega arith))) c.there in
-          let g = In_get (commits_of b.n client capacity (take (length notes) notes)) m.0 here in
-          let modest = held.modest g.0 m.0 g.1 in
+          let modest = commit_modest b clients limit capacity fit m.0 m.1 in
           omega (arith, ap (λ (t : Node). length t.updates) m.2, modest.few)
-
-  -- the deltas over a set of dots and modest open updates are small together
-  small_deltas : (set : List Dot) (last : Node) (o : ObjectId) → IsModest last.updates → sizes (deltas_in (acts_over nodes set last o)) < 2 ^ 127
-  small_deltas set last o modest =
-      let same = deltas_over nodes set last o ∙ sym (operations_over nodes set o last.rank last.dot last.updates) in
-      subst (λ l. sizes l < 2 ^ 127) (sym same) (small b clients limit capacity fit set o last.rank last.dot last.updates modest)
 
   -- the value by sum and acts is the value over the set
   by_sum : (set : List Dot) (last : Node) (o : ObjectId) (value : Value) → IsValueBy o.sort (sum_of (acts_over nodes set last o)) (acts_over nodes set last o) value → IsValueOver nodes set last o value
@@ -94,20 +76,20 @@ module _ (b : Book) (clients limit capacity : ℕ) (fit : FitsWith b clients lim
   -- so the value over a set is that of its acts
   pub value_of_set : (set : List Dot) (last : Node) (o : ObjectId) (acts : List BareAct) (value : Value) → last.updates ≡ [] → acts ≡ map bare_of (flat_map (acts_of o) (nodes_in nodes set)) → ((whole : List Act) → acts ≡ map bare_of whole → (o.sort ≡ sort.Map → HasUniqueMarks whole) → sizes (deltas_in whole) < 2 ^ 127 → IsValueBy o.sort (sum_of whole) whole value) → IsValueOver nodes set last o value
   value_of_set set last o acts value none are exact =
-      let one = one_act_of_set nodes set last o (apart_of nodes (premises b clients limit capacity fit).made.unique) none in
-      by_sum set last o value (exact (acts_over nodes set last o) (are ∙ ap (map bare_of) (acts_closed set last o none)) (λ map. record { by = one.by }) (small_deltas set last o (subst IsModest (sym none) modest_none)))
+      let unique = unique_marks_in nodes set last (made b clients limit capacity fit) none o in
+      by_sum set last o value (exact (acts_over nodes set last o) (are ∙ ap (map bare_of) (acts_closed set last o none)) (λ map. unique) (sum_fits b clients limit capacity fit set last o (subst IsModest (sym none) modest_none)))
 
   -- the open updates of a client are modest
   pub open_modest : (a m : ℕ) → IsClient clients a → IsModest (draft_updates (client_at b capacity a m))
-  open_modest a m client = (held_after b.n (a - 1) capacity (notes_of b a) (fit.follows a client) m).draft
+  open_modest a m client = (session_held b clients limit capacity fit a m client).draft
 
   -- and the value at a moment is that of the acts in its basis and of the open updates
   pub value_at : (a m : ℕ) (o : ObjectId) (acts : List BareAct) (value : Value) → IsClient clients a → acts ≡ map bare_of (acts_over nodes (basis_at b capacity a m) (open_node b (client_at b capacity a m)) o) → ((whole : List Act) → acts ≡ map bare_of whole → (o.sort ≡ sort.Map → HasUniqueMarks whole) → sizes (deltas_in whole) < 2 ^ 127 → IsValueBy o.sort (sum_of whole) whole value) → IsValueOver nodes (basis_at b capacity a m) (open_node b (client_at b capacity a m)) o value
   value_at a m o acts value client are exact =
       let set = basis_at b capacity a m in
       let last = open_node b (client_at b capacity a m) in
-      let one = one_act nodes set last (part b clients limit capacity fit (premises b clients limit capacity fit) a m client) o in
-      by_sum set last o value (exact (acts_over nodes set last o) are (λ map. record { by = one.by }) (small_deltas set last o (open_modest a m client)))
+      let unique = unique_marks nodes set last (well_issued b clients limit capacity fit) (open_over b clients limit capacity fit a m client) o in
+      by_sum set last o value (exact (acts_over nodes set last o) are (λ map. unique) (sum_fits b clients limit capacity fit set last o (open_modest a m client)))
 
   -- the client at a read, as its replay shows it, has the open node of the moment
   pub last_there : (a m : ℕ) (r : Replay) (last : BareNode) → IsClient clients a → Shows r (client_at b capacity a m) → ((clients limit capacity : ℕ) (s : Client) → FitsWith b clients limit capacity → Shows r s → IsInRange s → length s.vector ≡ b.n → last ≡ bare_node (open_node b s)) → last ≡ bare_node (open_node b (client_at b capacity a m))

@@ -1,42 +1,23 @@
--- Acts and operations of nodes, and where they stand.
-use Rattle.std.proofs.Common.{◌≡◌, ℕ, zero, suc, ◌+◌, ◌<◌, inl, inr, ⊎_elim, Bool, true, false, cond, List, [], ◌∷◌, ◌++◌, map, take, Some, refl, ap, ◌∙◌, subst, arith}
+-- Acts are operations with the dependency set of their transaction, and each is that of an update at a place of a node.
+use Rattle.std.proofs.Common.{◌≡◌, ℕ, zero, suc, ◌+◌, ◌<◌, inl, inr, Bool, true, false, cond, List, [], ◌∷◌, ◌++◌, map, take, Some, refl, sym, ap, ◌∙◌, subst, arith}
 use Rattle.std.specs.Prelude.{flat_map, slice_get}
+use Rattle.std.proofs.lemmas.List.{map-append}
+use Rattle.std.proofs.lemmas.Option.{none-some, same_Some, slice_get_within}
 use Rattle.list_core.specs.Members.{In}
-use Rattle.list_core.proofs.Members.{In_left, In_right, In_either, In_filter, In_from_filter}
+use Rattle.list_core.proofs.Members.{In_map, In_from_map}
+use Rattle.list_core.proofs.Gets.{get_in_take}
 use Rattle.ids_core.specs.declared.ids.Dot.{Dot}
 use Rattle.ids_core.specs.declared.ids.Mark.{Mark}
 use Rattle.ids_core.specs.declared.object.ObjectId.{ObjectId}
 use Rattle.ids_core.specs.Ids.{same_object}
-use Rattle.ids_core.specs.Same.{same_object-true}
+use Rattle.ids_core.specs.Same.{same_object-true, same_object-same}
 use Rattle.tx_core.specs.declared.op.Op.{Op}
 use Rattle.tx_core.specs.declared.tx.Update.{Update}
-use Rattle.dc_talk.specs.Records.{has}
 use Rattle.dc_talk.specs.Objects.{mark, ops_from}
 use Rattle.run_book.specs.Nodes.{Node}
 use Rattle.run_book.specs.Values.{Act, acts_from, acts_of, acts_over, nodes_in}
-use Rattle.run_book.proofs.Dots.{has_In, In_has}
-use Rattle.run_book.proofs.Causal.InView.{node_ops, ops_in}
-
--- ---- joined lists
-
--- a member of joined lists is one of one of them
-pub record InPart {X Y : Type 0} (f : X → List Y) (xs : List X) (y : Y) : Type 0 where
-  pub of : X
-  pub there : In of xs
-  pub is : In y (f of)
-
-pub In_flat : {X Y : Type 0} (f : X → List Y) (xs : List X) (x : X) (y : Y) → In x xs → In y (f x) → In y (flat_map f xs)
-In_flat f [] x y i j = absurd i
-In_flat f (z ∷ xs) x y (inl same) j = In_left (f z) (flat_map f xs) y (subst (λ x. In y (f x)) same j)
-In_flat f (z ∷ xs) x y (inr i) j = In_right (f z) (flat_map f xs) y (In_flat f xs x y i j)
-
-pub In_from_flat : {X Y : Type 0} (f : X → List Y) (xs : List X) (y : Y) → In y (flat_map f xs) → InPart f xs y
-In_from_flat f [] y i = absurd i
-In_from_flat f (x ∷ xs) y i =
-    ⊎_elim
-    (λ here. record { of = x; there = inl refl; is = here })
-    (λ later. let r = In_from_flat f xs y later in record { of = r.of; there = inr r.there; is = r.is })
-    (In_either (f x) (flat_map f xs) y i)
+use Rattle.run_book.proofs.Causal.InView.{node_ops, ops_in, ops_over, with_first}
+use Rattle.run_book.proofs.Causal.SetNodes.{StandsIn, over_from}
 
 -- ---- acts as operations
 
@@ -44,104 +25,165 @@ In_from_flat f (x ∷ xs) y i =
 abbrev pub op_of_act : Act → Mark × Op
 op_of_act act = (act.mark, act.op)
 
--- the acts of updates are their operations
-pub acts_are : (o : ObjectId) (t : Node) (place : ℕ) (us : List Update) → map op_of_act (acts_from o t place us) ≡ ops_from o t.rank t.dot place us
+-- the acts among updates are their operations
+acts_are : (o : ObjectId) (t : Node) (place : ℕ) (us : List Update) → map op_of_act (acts_from o t place us) ≡ ops_from o t.rank t.dot place us
 acts_are o t place [] = refl
 acts_are o t place (u ∷ us) = go (same_object u.object o) (acts_are o t (place + 1) us)
   where
-    go : (b : Bool) → map op_of_act (acts_from o t (place + 1) us) ≡ ops_from o t.rank t.dot (place + 1) us → map op_of_act (cond b (record { mark = mark t.rank t.dot place; deps = t.deps; op = u.op } ∷ acts_from o t (place + 1) us) (acts_from o t (place + 1) us)) ≡ cond b ((mark t.rank t.dot place, u.op) ∷ ops_from o t.rank t.dot (place + 1) us) (ops_from o t.rank t.dot (place + 1) us)
-    go true rest = ap (λ l. (mark t.rank t.dot place, u.op) ∷ l) rest
+    op : Mark × Op
+    op = (mark t.rank t.dot place, u.op)
+
+    go : (b : Bool) → map op_of_act (acts_from o t (place + 1) us) ≡ ops_from o t.rank t.dot (place + 1) us → map op_of_act (cond b (record { mark = mark t.rank t.dot place; deps = t.deps; op = u.op } ∷ acts_from o t (place + 1) us) (acts_from o t (place + 1) us)) ≡ cond b (op ∷ ops_from o t.rank t.dot (place + 1) us) (ops_from o t.rank t.dot (place + 1) us)
+    go true rest = ap (λ l. op ∷ l) rest
     go false rest = rest
 
--- the images of joined lists
-map-append : {X Y : Type 0} (f : X → Y) (xs ys : List X) → map f (xs ++ ys) ≡ map f xs ++ map f ys
-map-append f [] ys = refl
-map-append f (x ∷ xs) ys = ap (λ l. f x ∷ l) (map-append f xs ys)
+-- the acts in a node are its operations
+pub node_acts_are : (o : ObjectId) (t : Node) → map op_of_act (acts_of o t) ≡ node_ops o t
+node_acts_are o t = acts_are o t 0 t.updates
 
-map-flat : (o : ObjectId) (ts : List Node) → map op_of_act (flat_map (acts_of o) ts) ≡ flat_map (node_ops o) ts
-map-flat o [] = refl
-map-flat o (t ∷ ts) = map-append op_of_act (acts_of o t) (flat_map (acts_of o) ts) ∙ (ap (λ l. l ++ map op_of_act (flat_map (acts_of o) ts)) (acts_are o t 0 t.updates) ∙ ap (λ l. node_ops o t ++ l) (map-flat o ts))
+-- the acts in nodes are the operations of these
+flat_acts_are : (o : ObjectId) (ts : List Node) → map op_of_act (flat_map (acts_of o) ts) ≡ flat_map (node_ops o) ts
+flat_acts_are o [] = refl
+flat_acts_are o (t ∷ ts) =
+    map-append op_of_act (acts_of o t) (flat_map (acts_of o) ts)
+    ∙ (ap (λ l. l ++ map op_of_act (flat_map (acts_of o) ts)) (node_acts_are o t)
+    ∙ ap (λ l. node_ops o t ++ l) (flat_acts_are o ts))
 
--- the acts over a set are the operations over it
-pub acts_over_are : (nodes : List Node) (set : List Dot) (last : Node) (o : ObjectId) → map op_of_act (acts_over nodes set last o) ≡ ops_in nodes set o ++ node_ops o last
-acts_over_are nodes set last o = map-append op_of_act (flat_map (acts_of o) (nodes_in nodes set)) (acts_of o last) ∙ (ap (λ l. l ++ map op_of_act (acts_of o last)) (map-flat o (nodes_in nodes set)) ∙ ap (λ l. ops_in nodes set o ++ l) (acts_are o last 0 last.updates))
+-- the acts over a set and an open node are the operations over them
+pub acts_over_are : (nodes : List Node) (set : List Dot) (last : Node) (o : ObjectId) → map op_of_act (acts_over nodes set last o) ≡ ops_over nodes set last o
+acts_over_are nodes set last o =
+    map-append op_of_act (flat_map (acts_of o) (nodes_in nodes set)) (acts_of o last)
+    ∙ (ap (λ l. l ++ map op_of_act (acts_of o last)) (flat_acts_are o (nodes_in nodes set))
+    ∙ ap (λ l. ops_in nodes set o ++ l) (node_acts_are o last))
+
+-- the operation is that of one of the acts
+pub record HasAct (acts : List Act) (op : Mark × Op) : Type 0 where
+  pub act : Act
+  pub there : In act acts
+  pub is : op ≡ op_of_act act
+
+-- each operation of acts is that of one of them
+pub act_behind : (acts : List Act) (op : Mark × Op) → In op (map op_of_act acts) → HasAct acts op
+act_behind acts op i = let m = In_from_map op_of_act acts op i in record { act = m.0; there = m.1; is = m.2 }
+
+-- each operation of a node is that of one of its acts
+pub node_act : (o : ObjectId) (t : Node) (op : Mark × Op) → In op (node_ops o t) → HasAct (acts_of o t) op
+node_act o t op i = act_behind (acts_of o t) op (subst (λ l. In op l) (sym (node_acts_are o t)) i)
+
+-- the operation of an act of a node is one of its operations
+pub node_op : (o : ObjectId) (t : Node) (act : Act) → In act (acts_of o t) → In (op_of_act act) (node_ops o t)
+node_op o t act i = subst (λ l. In (op_of_act act) l) (node_acts_are o t) (In_map op_of_act (acts_of o t) act i)
 
 -- ---- where an act stands
 
--- an act is the update at a place of a node
-pub record IsActAt (o : ObjectId) (t : Node) (place : ℕ) (us : List Update) (act : Act) : Type 0 where
-  pub k : ℕ
-  pub u : Update
-  pub there : slice_get us k ≡ Some u
-  pub object : u.object ≡ o
-  pub is : act ≡ record { mark = mark t.rank t.dot (place + k); deps = t.deps; op = u.op }
+-- the act of an update at place k of a node
+abbrev pub act_at : Node → ℕ → Update → Act
+act_at t k u = record { mark = mark t.rank t.dot k; deps = t.deps; op = u.op }
 
-pub act_at : (o : ObjectId) (t : Node) (place : ℕ) (us : List Update) (act : Act) → In act (acts_from o t place us) → IsActAt o t place us act
-act_at o t place [] act i = absurd i
-act_at o t place (u ∷ us) act i = go (act_at o t (place + 1) us act) (same_object u.object o) refl i
+-- the act is that of the object's update at a place among these, where the first has a place given
+record StandsAt (o : ObjectId) (t : Node) (place : ℕ) (us : List Update) (act : Act) : Type 0 where
+  k : ℕ
+  u : Update
+  there : slice_get us k ≡ Some u
+  object : u.object ≡ o
+  is : act ≡ act_at t (place + k) u
+
+-- each act among updates stands somewhere there
+stands_at : (o : ObjectId) (t : Node) (place : ℕ) (us : List Update) (act : Act) → In act (acts_from o t place us) → StandsAt o t place us act
+stands_at o t place [] act i = absurd i
+stands_at o t place (u ∷ us) act i = go (stands_at o t (place + 1) us act) (same_object u.object o) refl i
   where
-    made : ℕ → Op → Act
-    made n op = record { mark = mark t.rank t.dot n; deps = t.deps; op = op }
+    later : StandsAt o t (place + 1) us act → StandsAt o t place (u ∷ us) act
+    later r = record { k = suc r.k; u = r.u; there = r.there; object = r.object; is = r.is ∙ ap (λ n. act_at t n r.u) (let e : place + 1 + r.k ≡ place + suc r.k = omega arith in e) }
 
-    later : IsActAt o t (place + 1) us act → IsActAt o t place (u ∷ us) act
-    later r = record { k = suc r.k; u = r.u; there = r.there; object = r.object; is = r.is ∙ ap (λ n. made n r.u.op) (let e : place + 1 + r.k ≡ place + suc r.k = omega arith in e) }
-
-    go : (In act (acts_from o t (place + 1) us) → IsActAt o t (place + 1) us act) → (b : Bool) → same_object u.object o ≡ b → In act (cond b (made place u.op ∷ acts_from o t (place + 1) us) (acts_from o t (place + 1) us)) → IsActAt o t place (u ∷ us) act
-    go rest true same (inl e) = record { k = 0; u = u; there = refl; object = same_object-true u.object o same; is = e ∙ ap (λ n. made n u.op) (let e : place ≡ place + 0 = omega arith in e) }
+    go : (In act (acts_from o t (place + 1) us) → StandsAt o t (place + 1) us act) → (b : Bool) → same_object u.object o ≡ b → In act (cond b (act_at t place u ∷ acts_from o t (place + 1) us) (acts_from o t (place + 1) us)) → StandsAt o t place (u ∷ us) act
+    go rest true same (inl e) = record { k = 0; u = u; there = refl; object = same_object-true u.object o same; is = e ∙ ap (λ n. act_at t n u) (let e : place ≡ place + 0 = omega arith in e) }
     go rest true same (inr j) = later (rest j)
     go rest false same j = later (rest j)
 
--- an operation of updates is that of the act at its place
-pub record IsOpAt (o : ObjectId) (rank : ℕ) (dot : Dot) (place : ℕ) (us : List Update) (op : Mark × Op) : Type 0 where
+-- the act of the object's update at a place is among those of the updates
+act_there : (o : ObjectId) (t : Node) (place : ℕ) (us : List Update) (k : ℕ) (u : Update) → slice_get us k ≡ Some u → u.object ≡ o → In (act_at t (place + k) u) (acts_from o t place us)
+act_there o t place [] k u there object = absurd (none-some u there)
+act_there o t place (v ∷ us) zero u there object = subst (λ b. In (act_at t (place + 0) u) (cond b (act_at t place v ∷ acts_from o t (place + 1) us) (acts_from o t (place + 1) us))) (sym same) (inl (ap (λ n. act_at t n u) first ∙ ap (act_at t place) (sym here)))
+  where
+    here : v ≡ u
+    here = same_Some v u there
+
+    same : same_object v.object o ≡ true
+    same = same_object-same v.object o (ap (λ (u : Update). u.object) here ∙ object)
+
+    first : place + 0 ≡ place
+    first = omega arith
+act_there o t place (v ∷ us) (suc k) u there object = go (same_object v.object o) (subst (λ n. In (act_at t n u) (acts_from o t (place + 1) us)) later (act_there o t (place + 1) us k u there object))
+  where
+    later : place + 1 + k ≡ place + suc k
+    later = omega arith
+
+    go : (b : Bool) → In (act_at t (place + suc k) u) (acts_from o t (place + 1) us) → In (act_at t (place + suc k) u) (cond b (act_at t place v ∷ acts_from o t (place + 1) us) (acts_from o t (place + 1) us))
+    go true i = inr i
+    go false i = i
+
+-- the act is that of an update of the object in the node
+pub record IsActOf (o : ObjectId) (t : Node) (act : Act) : Type 0 where
   pub k : ℕ
   pub u : Update
-  pub there : slice_get us k ≡ Some u
+  pub there : slice_get t.updates k ≡ Some u
   pub object : u.object ≡ o
-  pub is : op ≡ (mark rank dot (place + k), u.op)
+  pub is : act ≡ act_at t k u
 
-pub op_at : (o : ObjectId) (rank : ℕ) (dot : Dot) (place : ℕ) (us : List Update) (op : Mark × Op) → In op (ops_from o rank dot place us) → IsOpAt o rank dot place us op
-op_at o rank dot place [] op i = absurd i
-op_at o rank dot place (u ∷ us) op i = go (op_at o rank dot (place + 1) us op) (same_object u.object o) refl i
+-- a number counted from 0 on
+from_zero : (n : ℕ) → 0 + n ≡ n
+from_zero n = omega arith
+
+-- each act of a node is that of an update of it
+pub is_act_of : (o : ObjectId) (t : Node) (act : Act) → In act (acts_of o t) → IsActOf o t act
+is_act_of o t act i = let r = stands_at o t 0 t.updates act i in record { k = r.k; u = r.u; there = r.there; object = r.object; is = r.is ∙ ap (λ n. act_at t n r.u) (from_zero r.k) }
+
+-- the act of an update of a node is one of its acts
+pub act_of_node : (o : ObjectId) (t : Node) (k : ℕ) (u : Update) → slice_get t.updates k ≡ Some u → u.object ≡ o → In (act_at t k u) (acts_of o t)
+act_of_node o t k u there object = subst (λ n. In (act_at t n u) (acts_of o t)) (from_zero k) (act_there o t 0 t.updates k u there object)
+
+-- the act is that of an update of the object, in a node of the set or in the open node
+pub record IsActIn (nodes : List Node) (set : List Dot) (last : Node) (o : ObjectId) (act : Act) : Type 0 where
+  pub node : Node
+  pub stands : StandsIn nodes set last node
+  pub own : In act (acts_of o node)
+  pub update : IsActOf o node act
+
+-- each act over a set and an open node is one
+pub act_in : (nodes : List Node) (set : List Dot) (last : Node) (o : ObjectId) (act : Act) → In act (acts_over nodes set last o) → IsActIn nodes set last o act
+act_in nodes set last o act i = let r = over_from (acts_of o) nodes set last act i in record { node = r.0; stands = r.1; own = r.2; update = is_act_of o r.0 act r.2 }
+
+-- ---- the first updates of a node
+
+-- the place of an operation among the first updates is below their number
+pub first_below : (o : ObjectId) (n : ℕ) (t : Node) (op : Mark × Op) → In op (node_ops o (with_first n t)) → op.0.id.place < n
+first_below o n t op i =
+    let a = node_act o (with_first n t) op i in
+    let f = is_act_of o (with_first n t) a.act a.there in
+    let place : op.0.id.place ≡ f.k = ap (λ (op : Mark × Op). op.0.id.place) (a.is ∙ ap op_of_act f.is) in
+    omega (arith, place, slice_get_within (take n t.updates) f.k f.u f.there, Rattle.std.proofs.lemmas.List.length-take n t.updates)
+
+-- the operations of the first updates of a node are operations of the node
+pub first_ops : (o : ObjectId) (n : ℕ) (t : Node) (op : Mark × Op) → In op (node_ops o (with_first n t)) → In op (node_ops o t)
+first_ops o n t op i =
+    let a = node_act o (with_first n t) op i in
+    let f = is_act_of o (with_first n t) a.act a.there in
+    let act_in : In a.act (acts_of o t) = subst (λ act. In act (acts_of o t)) (sym f.is) (act_of_node o t f.k f.u (get_in_take t.updates n f.k f.u f.there) f.object) in
+    subst (λ op. In op (node_ops o t)) (sym a.is) (node_op o t a.act act_in)
+
+-- an operation of a node whose place is below n is one of its first n updates
+pub ops_below : (o : ObjectId) (n : ℕ) (t : Node) (op : Mark × Op) → In op (node_ops o t) → op.0.id.place < n → In op (node_ops o (with_first n t))
+ops_below o n t op i below =
+    let a = node_act o t op i in
+    let f = is_act_of o t a.act a.there in
+    let place : op.0.id.place ≡ f.k = ap (λ (op : Mark × Op). op.0.id.place) (a.is ∙ ap op_of_act f.is) in
+    let there : slice_get (take n t.updates) f.k ≡ Some f.u = get_take n t.updates f.k f.u (omega (arith, below, place)) f.there in
+    let act_in : In a.act (acts_of o (with_first n t)) = subst (λ act. In act (acts_of o (with_first n t))) (sym f.is) (act_of_node o (with_first n t) f.k f.u there f.object) in
+    subst (λ op. In op (node_ops o (with_first n t))) (sym a.is) (node_op o (with_first n t) a.act act_in)
   where
-    made : ℕ → Op → Mark × Op
-    made n op = (mark rank dot n, op)
-
-    later : IsOpAt o rank dot (place + 1) us op → IsOpAt o rank dot place (u ∷ us) op
-    later r = record { k = suc r.k; u = r.u; there = r.there; object = r.object; is = r.is ∙ ap (λ n. made n r.u.op) (let e : place + 1 + r.k ≡ place + suc r.k = omega arith in e) }
-
-    go : (In op (ops_from o rank dot (place + 1) us) → IsOpAt o rank dot (place + 1) us op) → (b : Bool) → same_object u.object o ≡ b → In op (cond b (made place u.op ∷ ops_from o rank dot (place + 1) us) (ops_from o rank dot (place + 1) us)) → IsOpAt o rank dot place (u ∷ us) op
-    go rest true same (inl e) = record { k = 0; u = u; there = refl; object = same_object-true u.object o same; is = e ∙ ap (λ n. made n u.op) (let e : place ≡ place + 0 = omega arith in e) }
-    go rest true same (inr j) = later (rest j)
-    go rest false same j = later (rest j)
-
--- the operations of the first updates are among those of all
-pub ops_take : (o : ObjectId) (rank : ℕ) (dot : Dot) (place n : ℕ) (us : List Update) (op : Mark × Op) → In op (ops_from o rank dot place (take n us)) → In op (ops_from o rank dot place us)
-ops_take o rank dot place zero us op i = absurd i
-ops_take o rank dot place (suc n) [] op i = absurd i
-ops_take o rank dot place (suc n) (u ∷ us) op i = go (same_object u.object o) (ops_take o rank dot (place + 1) n us op) i
-  where
-    go : (b : Bool) → (In op (ops_from o rank dot (place + 1) (take n us)) → In op (ops_from o rank dot (place + 1) us)) → In op (cond b ((mark rank dot place, u.op) ∷ ops_from o rank dot (place + 1) (take n us)) (ops_from o rank dot (place + 1) (take n us))) → In op (cond b ((mark rank dot place, u.op) ∷ ops_from o rank dot (place + 1) us) (ops_from o rank dot (place + 1) us))
-    go true rest (inl e) = inl e
-    go true rest (inr j) = inr (rest j)
-    go false rest j = rest j
-
--- an operation below a place is of the first updates
-pub ops_below : (o : ObjectId) (rank : ℕ) (dot : Dot) (place n : ℕ) (us : List Update) (op : Mark × Op) → In op (ops_from o rank dot place us) → op.0.id.place < place + n → In op (ops_from o rank dot place (take n us))
-ops_below o rank dot place n [] op i lt = absurd i
-ops_below o rank dot place zero (u ∷ us) op i lt =
-    let r = op_at o rank dot place (u ∷ us) op i in
-    absurd (omega (arith, lt, ap (λ (op : Mark × Op). op.0.id.place) r.is))
-ops_below o rank dot place (suc n) (u ∷ us) op i lt = go (same_object u.object o) (λ j. ops_below o rank dot (place + 1) n us op j (omega (arith, lt))) i
-  where
-    go : (b : Bool) → (In op (ops_from o rank dot (place + 1) us) → In op (ops_from o rank dot (place + 1) (take n us))) → In op (cond b ((mark rank dot place, u.op) ∷ ops_from o rank dot (place + 1) us) (ops_from o rank dot (place + 1) us)) → In op (cond b ((mark rank dot place, u.op) ∷ ops_from o rank dot (place + 1) (take n us)) (ops_from o rank dot (place + 1) (take n us)))
-    go true rest (inl e) = inl e
-    go true rest (inr j) = inr (rest j)
-    go false rest j = rest j
-
--- ---- the nodes of a set
-
-pub node_in : (nodes : List Node) (set : List Dot) (t : Node) → In t nodes → In t.dot set → In t (nodes_in nodes set)
-node_in nodes set t i j = In_filter (λ t. has t.dot set) nodes t i (In_has t.dot set j)
-
-pub in_node : (nodes : List Node) (set : List Dot) (t : Node) → In t (nodes_in nodes set) → In t nodes × In t.dot set
-in_node nodes set t i = let r = In_from_filter (λ t. has t.dot set) nodes t i in (r.0, has_In t.dot set r.1)
+    get_take : {X : Type 0} (n : ℕ) (xs : List X) (p : ℕ) (x : X) → p < n → slice_get xs p ≡ Some x → slice_get (take n xs) p ≡ Some x
+    get_take zero xs p x below there = absurd (omega (arith, below))
+    get_take (suc n) [] p x below there = absurd (none-some x there)
+    get_take (suc n) (y ∷ xs) zero x below there = there
+    get_take (suc n) (y ∷ xs) (suc p) x below there = get_take n xs p x (omega (arith, below)) there

@@ -31,10 +31,10 @@ use Rattle.run_book.proofs.Causal.Commits.{own_commit, carried, one_tx}
 use Rattle.run_book.proofs.Causal.SessionStates.{standing}
 use Rattle.run_book.proofs.Causal.Closure.{made, closed_basis, basis_grows, session_held}
 use Rattle.run_book.proofs.Causal.InView.{ops_in}
-use Rattle.run_book.proofs.Causal.Premises.{Premises, premises}
-use Rattle.run_book.proofs.Causal.Operations.{apart_of}
-use Rattle.run_book.proofs.Causal.Views.{part, read_over, reads_agree}
-use Rattle.run_book.proofs.Causal.OneValue.{one_act, one_act_of_set, one_value}
+use Rattle.run_book.proofs.Causal.Views.{well_issued, open_over}
+use Rattle.run_book.proofs.Causal.FoldedValues.{folded}
+use Rattle.run_book.proofs.Causal.Reads.{read_over, reads_agree}
+use Rattle.run_book.proofs.Causal.OneValue.{unique_marks, unique_marks_in, one_value}
 use Rattle.run_book.proofs.Causal.ClosedSetValues.{over_set}
 
 module _ (b : Book) (clients limit capacity : ℕ) (fit : FitsWith b clients limit capacity) where
@@ -99,24 +99,21 @@ module _ (b : Book) (clients limit capacity : ℕ) (fit : FitsWith b clients lim
   -- the values of reads and of closed sets
   pub values : HasValues b clients capacity
   values = record {
-    reads = read_over b clients limit capacity fit held;
+    reads = read_over b clients limit capacity fit;
     one = λ a m o value other client first second.
         let set = basis_at b capacity a m in
         let last = open_node b (client_at b capacity a m) in
-        one_value o.sort (counter_over nodes set last.updates o) (acts_over nodes set last o) value other (one_act nodes set last (part b clients limit capacity fit held a m client) o) first second;
-    over_sets = λ set last o closed none. (value_of (fold_of (empty_of o.sort) (ops_in nodes set o)), over_set b clients limit capacity fit set closed o last none);
-    one_over_sets = λ set last o value other none first second. one_value o.sort (counter_over nodes set last.updates o) (acts_over nodes set last o) value other (one_act_of_set nodes set last o (apart_of nodes held.made.unique) none) first second;
+        one_value o.sort (counter_over nodes set last.updates o) (acts_over nodes set last o) value other (unique_marks nodes set last (well_issued b clients limit capacity fit) (open_over b clients limit capacity fit a m client) o) first second;
+    over_sets = λ set last o closed none. (folded o (ops_in nodes set o), over_set b clients limit capacity fit set closed o last none);
+    one_over_sets = λ set last o value other none first second. one_value o.sort (counter_over nodes set last.updates o) (acts_over nodes set last o) value other (unique_marks_in nodes set last (made b clients limit capacity fit) none o) first second;
   }
     where
       nodes : List Node
       nodes = graph b clients capacity
 
-      held : Premises b clients capacity
-      held = premises b clients limit capacity fit
-
   -- reads over equal bases give one value
   pub agrees : Agrees b clients capacity
-  agrees = record { reads = reads_agree b clients limit capacity fit (premises b clients limit capacity fit) }
+  agrees = record { reads = reads_agree b clients limit capacity fit }
 
   -- a book that fits is causal
   pub causal : IsCausal b clients capacity
@@ -127,6 +124,6 @@ module _ (b : Book) (clients limit capacity : ℕ) (fit : FitsWith b clients lim
       own = λ t i. commits_in a m t r.client i;
       earlier = λ before p other le earlier. basis_grows b clients limit capacity fit a before m r.client le;
       known = λ d i other. basis_known b clients limit capacity fit a r.client m d i other;
-      value_is = read_over b clients limit capacity fit (premises b clients limit capacity fit) a m o value r;
+      value_is = read_over b clients limit capacity fit a m o value r;
     };
   }

@@ -1,22 +1,26 @@
--- What the law of values takes from the closed bases: a book that fits meets it.
+-- How the open transaction of a session, its clock and its cache stand to its basis.
 use Rattle.std.proofs.Common.{◌≡◌, ℕ, ◌+◌, ◌-◌, ◌≤◌, ⊎_elim, List, ◌++◌, Some, sym, ap, ◌∙◌, subst, arith}
-use Rattle.std.specs.Prelude.{filter, flat_map, ◌≡◌, ℕ, ◌≤◌, List, ◌++◌, Some}
+use Rattle.std.specs.Prelude.{filter, flat_map}
 use Rattle.std.proofs.lemmas.List.Concat.{flat_map-append}
 use Rattle.std.proofs.lemmas.List.Folds.{flat_map-map}
 use Rattle.list_core.specs.Members.{In}
 use Rattle.list_core.specs.Permutations.{Perm}
 use Rattle.list_core.proofs.Members.{In_either, In_from_map}
+use Rattle.list_core.proofs.Blocks.{turned_order, flat_order}
 use Rattle.ids_core.specs.declared.ids.Dot.{Dot}
+use Rattle.ids_core.specs.declared.ids.Mark.{Mark}
 use Rattle.ids_core.specs.declared.object.ObjectId.{ObjectId}
+use Rattle.tx_core.specs.declared.op.Op.{Op}
 use Rattle.tx_core.specs.declared.tx.Tx.{Tx}
 use Rattle.tx_core.specs.declared.state.State.{State}
+use Rattle.tx_core.specs.States.{empty_of, fold_of}
 use Rattle.dc_talk.specs.Records.{has}
 use Rattle.dc_talk.specs.Objects.{ops_of}
 use Rattle.dc_talk.specs.Clients.{Client, cached, next_dot}
 use Rattle.run_book.specs.declared.book.Book.{Book}
 use Rattle.run_book.specs.Parts.{IsClient}
 use Rattle.run_book.specs.Fit.{FitsWith}
-use Rattle.run_book.specs.Nodes.{Node, Closed, WellMade}
+use Rattle.run_book.specs.Nodes.{Node}
 use Rattle.run_book.specs.Graphs.{cover, own_dots, node_of, committed, graph, basis, basis_at, client_at}
 use Rattle.run_book.proofs.Lists.{filter-map}
 use Rattle.run_book.proofs.Held.{dot_at}
@@ -26,33 +30,20 @@ use Rattle.run_book.proofs.Causal.Cover.{cover_in}
 use Rattle.run_book.proofs.Causal.Commits.{own_commit, carried, one_tx}
 use Rattle.run_book.proofs.Causal.ServedStates.{IsServed}
 use Rattle.run_book.proofs.Causal.SessionStates.{standing}
-use Rattle.run_book.proofs.Causal.Closure.{made, closed_basis, session_held, is_so_far}
+use Rattle.run_book.proofs.Causal.Closure.{session_held, is_so_far}
 use Rattle.run_book.proofs.Causal.BasisOrder.{basis_order}
 use Rattle.run_book.proofs.Causal.InView.{node_ops, ops_in}
-use Rattle.list_core.proofs.Blocks.{turned_order, flat_order}
-use Rattle.ids_core.specs.declared.ids.Mark.{Mark}
-use Rattle.tx_core.specs.States.{empty_of, fold_of}
-use Rattle.tx_core.specs.declared.op.Op.{Op}
 
--- a state of the object, with what is pending, is of the operations of the session's basis, each once
-pub record StandsOn (b : Book) (nodes : List Node) (s : Client) (o : ObjectId) (state : State) : Type 0 where
+-- a state of the object with the pending commits behind it is of the operations of the session's basis, each once
+pub record IsOfBasis (b : Book) (nodes : List Node) (s : Client) (o : ObjectId) (state : State) : Type 0 where
   pub ops : List (Mark × Op)
   pub state_is : state ≡ fold_of (empty_of o.sort) ops
   pub all : Perm (ops_in nodes (basis b s) o) (ops ++ flat_map (ops_of o) s.pending)
 
--- the graph is well made, each basis is closed, the open transaction is not in it and has a greater
--- rank, and what the cache has at the session's snapshot, with what is pending, is of the basis
-pub record Premises (b : Book) (clients capacity : ℕ) : Type 0 where
-  pub made : WellMade (graph b clients capacity)
-  pub closed : (a m : ℕ) → IsClient clients a → Closed (graph b clients capacity) (basis_at b capacity a m)
-  pub fresh : (a m : ℕ) → IsClient clients a → In (next_dot (client_at b capacity a m)) (basis_at b capacity a m) → ⊥
-  pub ranked : (a m : ℕ) (t : Node) → IsClient clients a → In t (graph b clients capacity) → In t.dot (basis_at b capacity a m) → t.rank ≤ (client_at b capacity a m).clock
-  pub stands : (a m : ℕ) (o : ObjectId) (state : State) → IsClient clients a → cached o (client_at b capacity a m).vector (client_at b capacity a m).cache ≡ Some state → StandsOn b (graph b clients capacity) (client_at b capacity a m) o state
-
 module _ (b : Book) (clients limit capacity : ℕ) (fit : FitsWith b clients limit capacity) where
   -- the open transaction is not in the basis
-  fresh : (a m : ℕ) → IsClient clients a → In (next_dot (client_at b capacity a m)) (basis_at b capacity a m) → ⊥
-  fresh a m c i = ⊎_elim covered own (In_either (cover b s.vector) (own_dots s.client s.own) (next_dot s) i)
+  pub open_fresh : (a m : ℕ) → IsClient clients a → In (next_dot (client_at b capacity a m)) (basis_at b capacity a m) → ⊥
+  open_fresh a m c i = ⊎_elim covered own (In_either (cover b s.vector) (own_dots s.client s.own) (next_dot s) i)
     where
       s : Client
       s = client_at b capacity a m
@@ -70,9 +61,9 @@ module _ (b : Book) (clients limit capacity : ℕ) (fit : FitsWith b clients lim
       own : In (next_dot (client_at b capacity a m)) (own_dots (client_at b capacity a m).client (client_at b capacity a m).own) → ⊥
       own j = let o = own_dots_are s.client s.own (next_dot s) j in omega (arith, o.high, ap (λ (d : Dot). d.number) o.is)
 
-  -- the ranks in the basis are at most the clock
-  ranked : (a m : ℕ) (t : Node) → IsClient clients a → In t (graph b clients capacity) → In t.dot (basis_at b capacity a m) → t.rank ≤ (client_at b capacity a m).clock
-  ranked a m t c i j = go (In_from_map (node_of b) (committed b clients capacity) t i)
+  -- no rank in the basis is above the clock
+  pub basis_ranks : (a m : ℕ) (t : Node) → IsClient clients a → In t (graph b clients capacity) → In t.dot (basis_at b capacity a m) → t.rank ≤ (client_at b capacity a m).clock
+  basis_ranks a m t c i j = go (In_from_map (node_of b) (committed b clients capacity) t i)
     where
       s : Client
       s = client_at b capacity a m
@@ -99,9 +90,9 @@ module _ (b : Book) (clients limit capacity : ℕ) (fit : FitsWith b clients lim
               let there = is_so_far b clients limit capacity fit a m tx c k (ap (λ (d : Dot). d.client) o.is ∙ h.who) (omega (arith, o.high, ap (λ (d : Dot). d.number) o.is)) in
               omega (arith, h.ranks (tx.dot.number - 1) tx there, rank)
 
-  -- what the cache has at the session's snapshot, with what is pending, is of the basis
-  stands : (a m : ℕ) (o : ObjectId) (state : State) → IsClient clients a → cached o (client_at b capacity a m).vector (client_at b capacity a m).cache ≡ Some state → StandsOn b (graph b clients capacity) (client_at b capacity a m) o state
-  stands a m o state c found = record {
+  -- a state that the cache has at the session's snapshot, with the pending commits behind it, is of the basis
+  pub cached_of_basis : (a m : ℕ) (o : ObjectId) (state : State) → IsClient clients a → cached o (client_at b capacity a m).vector (client_at b capacity a m).cache ≡ Some state → IsOfBasis b (graph b clients capacity) (client_at b capacity a m) o state
+  cached_of_basis a m o state c found = record {
     ops = flat_map (ops_of o) served.txs;
     state_is = served.is;
     all = subst (λ l. Perm l (flat_map (ops_of o) served.txs ++ flat_map (ops_of o) s.pending)) (sym in_basis) (turned_order (flat_map (ops_of o) served.txs ++ flat_map (ops_of o) s.pending) (flat_map (ops_of o) based) (subst (λ l. Perm l (flat_map (ops_of o) based)) (flat_map-append (ops_of o) served.txs s.pending) (flat_order (ops_of o) (served.txs ++ s.pending) based (basis_order b clients limit capacity fit a m o state c served))));
@@ -126,12 +117,3 @@ module _ (b : Book) (clients limit capacity : ℕ) (fit : FitsWith b clients lim
       in_basis =
           ap (flat_map (node_ops o)) (filter-map (λ (t : Node). has t.dot set) (node_of b) (committed b clients capacity))
           ∙ flat_map-map (node_ops o) (node_of b) based
-
-  pub premises : Premises b clients capacity
-  premises = record {
-    made = made b clients limit capacity fit;
-    closed = closed_basis b clients limit capacity fit;
-    fresh = fresh;
-    ranked = ranked;
-    stands = stands;
-  }
