@@ -1,20 +1,20 @@
 #!/bin/sh
-# Times the program of crates/session_bench: reads of an object that no pending commit changed, and
+# Times `benchmarks session`: reads of an object that no pending commit changed, and
 # updates of one, beside 1, 100 and 1,000 pending commits. Prints the rows of the tables in
 # docs/benchmarks.md. Each time is the least of nine runs, less the least of nine without a round. The
 # status is 1 where a call beside 100 or 1,000 pending commits takes more than twice as long as beside
 # one, or the program gives a wrong end.
-#   bench/session.sh             times crates/session_bench/out/session_bench
-#   SESSION_BENCH=FILE bench/session.sh     times another program
+#   bench/session.sh             times crates/benchmarks/out/benchmarks
+#   BENCHMARKS=FILE bench/session.sh     times another program
 set -u
 root=$(cd "$(dirname "$0")/.." && pwd) || exit 1
-program=${SESSION_BENCH:-$root/crates/session_bench/out/session_bench}
+program=${BENCHMARKS:-$root/crates/benchmarks/out/benchmarks}
 . "$root/bench/timing.sh"
 rounds=200000
 
 # run FORM PENDING ROUNDS LAST: the program has to print LAST.
 run() {
-    timed "$1" "$2" "$3" && [ "$(cat "$room/out")" = "$4" ]
+    timed session "$1" "$2" "$3" && [ "$(cat "$room/out")" = "$4" ]
 }
 
 # table FORM LAST: a row for each number of pending commits; LAST is read after all rounds.

@@ -1,18 +1,18 @@
 #!/bin/sh
-# Times the program of crates/set_bench: so many distinct words added and all but the first removed
+# Times `benchmarks sets`: so many distinct words added and all but the first removed
 # again, and one word added so many times, all of its adds live. Prints the rows of the tables in
 # docs/benchmarks.md. Each time is the least of nine runs. The status is 1 where a doubling takes
 # more than 2.4 times as long, or the program gives a wrong end.
-#   bench/sets.sh             times crates/set_bench/out/set_bench
-#   SET_BENCH=FILE bench/sets.sh     times another program
+#   bench/sets.sh             times crates/benchmarks/out/benchmarks
+#   BENCHMARKS=FILE bench/sets.sh     times another program
 set -u
 root=$(cd "$(dirname "$0")/.." && pwd) || exit 1
-program=${SET_BENCH:-$root/crates/set_bench/out/set_bench}
+program=${BENCHMARKS:-$root/crates/benchmarks/out/benchmarks}
 . "$root/bench/timing.sh"
 
 # run FORM COUNT LEFT: the program has to print LEFT.
 run() {
-    timed "$1" "$2" && [ "$(cat "$room/out")" = "$3" ]
+    timed sets "$1" "$2" && [ "$(cat "$room/out")" = "$3" ]
 }
 
 # left_of FORM COUNT: of words one is left, of tags all.

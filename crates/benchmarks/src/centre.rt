@@ -1,13 +1,14 @@
-// A centre that is asked very often.
+// A centre that is asked very often. `commits COUNT` has it stamp so many transactions, `deliveries COUNT`
+// has it apply as many records of another centre; the number is what one fetch then sees.
 ghost use Rattle.std.specs.Prelude.{◌≡◌, IfOk, [], ◌∷◌, pos};
-ghost use Rattle.ids_core.specs.declared.object.Sort.TheVariants as sort;
 ghost use Rattle.vv_core.specs.Vectors.{zeros};
 ghost use Rattle.tx_core.specs.declared.op.Op.TheVariants.{Inc};
-ghost use Rattle.centre_bench.specs.declared.centres.Fault.TheVariants.{NoMemory as no_memory, BadName as bad_name};
 
+use crate::counter::counter;
+use crate::fault::Fault;
 use dc_centre::Centre;
 use dc_talk::{Ask, Say};
-use ids_core::{BadName, Dot, Name, NoMemory, ObjectId, Sort};
+use ids_core::{Dot, NoMemory, ObjectId};
 use std::alloc::Global;
 use tx_core::{Op, Record, Tx, Update, Updates, Value};
 use vv_core::{Stamp, Vector};
@@ -15,35 +16,22 @@ use vv_core::{Stamp, Vector};
 // The most transactions that a centre stamps.
 const LIMIT: u64 = 1_000_000;
 
-/// Why there is no value.
-#[derive(Debug, Drop)]
-pub enum Fault {
-    /// Memory was refused.
-    NoMemory,
-    /// The name is none, which the one here is not.
-    BadName,
-}
-
-impl From<NoMemory> for Fault {
-    ghost from_gives = { λ _ e. e ≡ no_memory };
-
-    fn from(_: NoMemory) -> Self {
-        Fault::NoMemory
+/// What is fetched, for the form and the count; nothing where they are of no form.
+pub fn worked(alloc: Global, form: &str, count: &str) -> Option<Result<i128, Fault>> {
+    let Ok(count) = count.parse::<u32>() else {
+        return None;
+    };
+    match form {
+        "commits" => Some(after_commits(alloc, count)),
+        "deliveries" => Some(after_deliveries(alloc, count)),
+        _ => None,
     }
 }
 
-impl From<BadName> for Fault {
-    ghost from_gives = { λ _ e. e ≡ bad_name };
-
-    fn from(_: BadName) -> Self {
-        Fault::BadName
-    }
-}
-
-/// The value of the counter at a centre that stamped so many transactions of one client, each of which
-/// added 1 to it.
-pub fn after_commits(alloc: Global, count: u32) -> Result<i128, Fault> {
-    let object = counter()?;
+// The value of the counter at a centre that stamped so many transactions of one client, each of which
+// added 1 to it.
+fn after_commits(alloc: Global, count: u32) -> Result<i128, Fault> {
+    let object = counter(b"total")?;
     let mut centre = Centre::new(alloc, 1, 2, 1, LIMIT)?;
     for number in 1..u64::from(count) + 1 {
         let tx = add_one(alloc, number, &object)?;
@@ -52,9 +40,9 @@ pub fn after_commits(alloc: Global, count: u32) -> Result<i128, Fault> {
     Ok(fetched(alloc, &mut centre, &object, u64::from(count))?)
 }
 
-/// The same at a centre that applied so many records of another one.
-pub fn after_deliveries(alloc: Global, count: u32) -> Result<i128, Fault> {
-    let object = counter()?;
+// The same at a centre that applied so many records of another one.
+fn after_deliveries(alloc: Global, count: u32) -> Result<i128, Fault> {
+    let object = counter(b"total")?;
     let deps = Vector::zero(2);
     let mut centre = Centre::new(alloc, 2, 2, 1, LIMIT)?;
     for seq in 1..u64::from(count) + 1 {
@@ -64,16 +52,6 @@ pub fn after_deliveries(alloc: Global, count: u32) -> Result<i128, Fault> {
         centre.step(alloc, &Ask::Deliver { item })?;
     }
     Ok(fetched(alloc, &mut centre, &object, u64::from(count))?)
-}
-
-// The counter that all transactions add to.
-fn counter() -> Result<ObjectId, BadName>
-    ensures { IfOk result (λ object. object.sort ≡ sort.Counter) }
-{
-    Ok(ObjectId {
-        sort: Sort::Counter,
-        name: Name::read(b"total")?,
-    })
 }
 
 // The transaction of client 1, of this number and rank, that adds 1 to a counter.

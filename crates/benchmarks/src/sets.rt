@@ -1,9 +1,10 @@
-// Many operations on one set.
+// Many operations on one set. `words COUNT` adds so many words and removes all but the first again,
+// `tags COUNT` adds one word so many times; the number is what is left.
 ghost use Rattle.std.specs.Prelude.{◌≡◌, true, false, [], ◌∷◌, OnOk};
 ghost use Rattle.obj_set.specs.Sets.{step};
-ghost use Rattle.set_bench.specs.Marks.{mark_of};
-ghost use Rattle.set_bench.specs.declared.sets.Fault.TheVariants.{NoMemory as no_memory, BadName as bad_name};
+ghost use Rattle.benchmarks.specs.Marks.{mark_of};
 
+use crate::fault::Fault;
 use ids_core::{BadName, Dot, Kind, Mark, Name, NoMemory, OpId, Tags};
 use obj_set::SetState;
 use std::alloc::Global;
@@ -11,33 +12,8 @@ use std::alloc::Global;
 // How many words of four letters there are.
 const WORDS: u32 = 456_976;
 
-/// Why there is no count.
-#[derive(Clone, Copy, Debug)]
-pub enum Fault {
-    /// A word is no name, which no word of four letters is.
-    BadName,
-    /// Memory was refused.
-    NoMemory,
-}
-
-impl From<NoMemory> for Fault {
-    ghost from_gives = { λ _ e. e ≡ no_memory };
-
-    fn from(_: NoMemory) -> Self {
-        Fault::NoMemory
-    }
-}
-
-impl From<BadName> for Fault {
-    ghost from_gives = { λ _ e. e ≡ bad_name };
-
-    fn from(_: BadName) -> Self {
-        Fault::BadName
-    }
-}
-
-/// The mark of an operation: that of the transaction with this number of client 1.
-pub fn mark_of(number: u64) -> Mark
+// The mark of an operation: that of the transaction with this number of client 1.
+fn mark_of(number: u64) -> Mark
     ensures { result ≡ mark_of number }
 {
     let dot = Dot { client: 1, number };
@@ -47,13 +23,8 @@ pub fn mark_of(number: u64) -> Mark
     }
 }
 
-/// Adds a word under its number, over nothing.
-pub fn add_word(
-    alloc: Global,
-    state: &mut SetState,
-    number: u64,
-    word: &Name,
-) -> Result<(), NoMemory>
+// Adds a word under its number, over nothing.
+fn add_word(alloc: Global, state: &mut SetState, number: u64, word: &Name) -> Result<(), NoMemory>
     ensures { OnOk result (state.new ≡ step state.old (mark_of number, record { adds = true; word = word.now; over = [] })) }
 {
     match Tags::of(Vec::new(alloc)) {
@@ -62,8 +33,8 @@ pub fn add_word(
     }
 }
 
-/// Removes a word under its number, over the add of another number.
-pub fn remove_word(
+// Removes a word under its number, over the add of another number.
+fn remove_word(
     alloc: Global,
     state: &mut SetState,
     number: u64,
@@ -96,8 +67,20 @@ fn word_of(number: u32) -> Result<Name, BadName> {
     ])
 }
 
-/// Adds so many words, and removes them all but the first: how many words are left.
-pub fn words_left(alloc: Global, count: u32) -> Result<usize, Fault> {
+/// What is left, for the form and the count; nothing where they are of no form.
+pub fn worked(alloc: Global, form: &str, count: &str) -> Option<Result<i128, Fault>> {
+    let Ok(count) = count.parse::<u32>() else {
+        return None;
+    };
+    match form {
+        "words" => Some(words_left(alloc, count)),
+        "tags" => Some(tags_left(alloc, count)),
+        _ => None,
+    }
+}
+
+// Adds so many words, and removes them all but the first: how many words are left.
+fn words_left(alloc: Global, count: u32) -> Result<i128, Fault> {
     let mut state = SetState::empty(alloc)?;
     for number in 0..count {
         add_word(alloc, &mut state, u64::from(number), &word_of(number)?)?;
@@ -107,15 +90,15 @@ pub fn words_left(alloc: Global, count: u32) -> Result<usize, Fault> {
         let own = u64::from(count) + seen;
         remove_word(alloc, &mut state, own, &word_of(number)?, seen)?;
     }
-    Ok(state.value(alloc)?.len())
+    Ok(state.value(alloc)?.len() as i128)
 }
 
-/// Adds one word so many times: how many of its adds are live.
-pub fn tags_left(alloc: Global, count: u32) -> Result<usize, Fault> {
+// Adds one word so many times: how many of its adds are live.
+fn tags_left(alloc: Global, count: u32) -> Result<i128, Fault> {
     let mut state = SetState::empty(alloc)?;
     let word = word_of(0)?;
     for number in 0..count {
         add_word(alloc, &mut state, u64::from(number), &word)?;
     }
-    Ok(state.tags_of(alloc, &word)?.as_slice().len())
+    Ok(state.tags_of(alloc, &word)?.as_slice().len() as i128)
 }

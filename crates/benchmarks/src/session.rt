@@ -1,62 +1,17 @@
-// Many reads and updates beside pending commits.
+// Many calls of a session beside pending commits. `reads PENDING ROUNDS` makes so many commits that stay
+// pending and then reads another object so many times, `updates PENDING ROUNDS` changes it so many times
+// in transactions that are ended again; the number is what is read at last.
 ghost use Rattle.std.specs.Prelude.{◌≡◌, IfOk, IfSome};
-ghost use Rattle.ids_core.specs.declared.object.Sort.TheVariants as sort;
 ghost use Rattle.dc_talk.specs.Calls.{Ends};
-ghost use Rattle.session_bench.specs.declared.rounds.Fault.TheVariants.{NoMemory as no_memory, BadName as bad_name, Refused as refused};
 
+use crate::counter::counter;
+use crate::fault::Fault;
 use client_session::Session;
 use dc_talk::{Ask, Call, Change, Outcome, Refusal, Say};
-use ids_core::{BadName, Name, NoMemory, ObjectId, Sort};
+use ids_core::{NoMemory, ObjectId};
 use std::alloc::Global;
 use tx_core::{State, Value};
 use vv_core::Vector;
-
-/// Why there is no value.
-#[derive(Clone, Copy, Debug)]
-pub enum Fault {
-    /// A name is none, which those here are not.
-    BadName,
-    /// The session refused a call, as more than 1,024 commits are pending.
-    Refused,
-    /// What was read is no sum.
-    NoSum,
-    /// Memory was refused.
-    NoMemory,
-}
-
-impl From<NoMemory> for Fault {
-    ghost from_gives = { λ _ e. e ≡ no_memory };
-
-    fn from(_: NoMemory) -> Self {
-        Fault::NoMemory
-    }
-}
-
-impl From<BadName> for Fault {
-    ghost from_gives = { λ _ e. e ≡ bad_name };
-
-    fn from(_: BadName) -> Self {
-        Fault::BadName
-    }
-}
-
-impl From<Refusal> for Fault {
-    ghost from_gives = { λ _ e. e ≡ refused };
-
-    fn from(_: Refusal) -> Self {
-        Fault::Refused
-    }
-}
-
-/// The counter of that name.
-pub fn counter(name: &[u8]) -> Result<ObjectId, BadName>
-    ensures { IfOk result (λ object. object ≡ record { sort = sort.Counter; name = name.now }) }
-{
-    Ok(ObjectId {
-        sort: Sort::Counter,
-        name: Name::read(name)?,
-    })
-}
 
 // The session of client 1, with the empty state of the object in its cache.
 fn session_with(alloc: Global, object: &ObjectId) -> Result<Session, NoMemory> {
@@ -70,8 +25,8 @@ fn session_with(alloc: Global, object: &ObjectId) -> Result<Session, NoMemory> {
     Ok(session)
 }
 
-/// Commits a transaction that adds 1 to a counter: its number.
-pub fn commit_inc(
+// Commits a transaction that adds 1 to a counter: its number.
+fn commit_inc(
     alloc: Global,
     session: &mut Session,
     object: &ObjectId,
@@ -96,8 +51,8 @@ fn commit_all(
     Ok(())
 }
 
-/// What is read of a counter.
-pub fn sum_of(alloc: Global, session: &mut Session, object: &ObjectId) -> Result<i128, Fault>
+// What is read of a counter.
+fn sum_of(alloc: Global, session: &mut Session, object: &ObjectId) -> Result<i128, Fault>
     ensures { IfOk result (λ sum. Ends session.old session.new (Call.Read object.now) (Outcome.Got (Value.Number sum))) }
 {
     match session.read(alloc, object)? {
@@ -106,8 +61,29 @@ pub fn sum_of(alloc: Global, session: &mut Session, object: &ObjectId) -> Result
     }
 }
 
-/// Reads a counter so many times beside so many commits on another one: what is read at last.
-pub fn reads(alloc: Global, pending: u32, rounds: u32) -> Result<i128, Fault> {
+/// What is read at last, for the form, the pending commits and the rounds; nothing where they are of no
+/// form.
+pub fn worked(
+    alloc: Global,
+    form: &str,
+    pending: &str,
+    rounds: &str,
+) -> Option<Result<i128, Fault>> {
+    let Ok(pending) = pending.parse::<u32>() else {
+        return None;
+    };
+    let Ok(rounds) = rounds.parse::<u32>() else {
+        return None;
+    };
+    match form {
+        "reads" => Some(reads(alloc, pending, rounds)),
+        "updates" => Some(updates(alloc, pending, rounds)),
+        _ => None,
+    }
+}
+
+// Reads a counter so many times beside so many commits on another one: what is read at last.
+fn reads(alloc: Global, pending: u32, rounds: u32) -> Result<i128, Fault> {
     let object = counter(b"read")?;
     let mut session = session_with(alloc, &object)?;
     commit_all(alloc, &mut session, &counter(b"pending")?, pending)?;
@@ -117,9 +93,9 @@ pub fn reads(alloc: Global, pending: u32, rounds: u32) -> Result<i128, Fault> {
     sum_of(alloc, &mut session, &object)
 }
 
-/// Changes a counter so many times beside so many commits on another one, 200 times in each
-/// transaction: what is read at last.
-pub fn updates(alloc: Global, pending: u32, rounds: u32) -> Result<i128, Fault> {
+// Changes a counter so many times beside so many commits on another one, 200 times in each
+// transaction: what is read at last.
+fn updates(alloc: Global, pending: u32, rounds: u32) -> Result<i128, Fault> {
     let object = counter(b"changed")?;
     let mut session = session_with(alloc, &object)?;
     commit_all(alloc, &mut session, &counter(b"pending")?, pending)?;
