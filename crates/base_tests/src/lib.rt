@@ -1,28 +1,28 @@
-//! Tests of the public calls of the crates below transactions, at concrete types, and the marks and the
-//! machine that they use. A crate that has tests of its own is proved twice, alone and with them: so
-//! the tests of the lower crates stand here.
+//! Tests of the crates up to `tx_core`, at concrete types: one file a crate, named after it. They stand
+//! apart from what they test, since a crate with tests of its own is proved twice, alone and with them.
 #![tactic(auto)]
 
-mod gate;
 #[cfg(test)]
-mod kinds;
+mod dup_guard_tests;
 #[cfg(test)]
-mod known;
+mod ids_core_tests;
 #[cfg(test)]
-mod lists;
+mod io_edge_tests;
 #[cfg(test)]
-mod machines;
+mod k_stable_tests;
 #[cfg(test)]
-mod maps;
+mod list_core_tests;
 #[cfg(test)]
-mod names;
+mod obj_counter_tests;
 #[cfg(test)]
-mod outside;
-mod samples;
+mod obj_map_tests;
 #[cfg(test)]
-mod sets;
+mod obj_register_tests;
 #[cfg(test)]
-mod vectors;
-
-pub use gate::Gate;
-pub use samples::{id, mark};
+mod obj_set_tests;
+#[cfg(test)]
+mod tally_core_tests;
+#[cfg(test)]
+mod tx_core_tests;
+#[cfg(test)]
+mod vv_core_tests;

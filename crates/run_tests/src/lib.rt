@@ -1,7 +1,17 @@
-//! Tests of the top call on small scripts, and of its reader and its writer.
+//! Tests of scripts, texts and books, and of the top call with what plays a script, at concrete types:
+//! one file a crate, named after it. What the program shows by its input and output is tested on the
+//! built program.
 #![tactic(auto)]
 
 #[cfg(test)]
-mod top_call_streams;
+mod client_stub_tests;
+#[cfg(test)]
+mod print_text_tests;
+#[cfg(test)]
+mod run_book_tests;
+#[cfg(test)]
+mod script_text_tests;
 #[cfg(test)]
 mod top_call_tests;
+#[cfg(test)]
+mod world_core_tests;

@@ -24,13 +24,6 @@ fn played(alloc: Global, script: &[u8], sink: &mut MemorySink) -> Result<Ended, 
     Ok(swift_main(alloc, &words, &mut source, sink, &FreeGate))
 }
 
-// Whether the run of a script ends with the status after it wrote this text.
-fn writes(alloc: Global, script: &[u8], status: u8, text: &[u8]) -> Result<bool, AllocError> {
-    let mut sink = MemorySink::new(alloc, 64, Vec::new(alloc));
-    let ended = played(alloc, script, &mut sink)?;
-    Ok(ended.status == status && sink.bytes() == text)
-}
-
 #[test]
 fn a_block_is_played_from_begin_to_refresh(rt: HostRuntime) -> Result<(), Fail> {
     let alloc = rt.alloc();
@@ -44,61 +37,35 @@ fn a_block_is_played_from_begin_to_refresh(rt: HostRuntime) -> Result<(), Fail> 
 }
 
 #[test]
-fn a_script_may_break_off_after_each_line(rt: HostRuntime) -> Result<(), Fail> {
-    let alloc = rt.alloc();
-    // The bytes of the script until there, and of the text.
-    let ends = [
-        (24, 0),
-        (37, 8),
-        (46, 8),
-        (59, 8),
-        (71, 22),
-        (81, 34),
-        (89, 54),
-        (100, 70),
-    ];
-    for (script_len, text_len) in ends {
-        let (script, _) = FIRST_PATH.split_at(script_len);
-        let (text, _) = FIRST_TEXT.split_at(text_len);
-        assert!(rt; writes(alloc, script, 0, text)?);
-    }
+fn an_input_that_is_no_script_is_refused(rt: HostRuntime) -> Result<(), Fail> {
+    let mut sink = MemorySink::new(rt.alloc(), 64, Vec::new(rt.alloc()));
+    let ended = played(rt.alloc(), b"centres 1 k 1\n", &mut sink)?;
+    assert_eq!(rt; ended.status, 3);
+    assert_eq!(rt; sink.bytes(), b"refused input\n".as_slice());
     Ok(())
 }
 
 #[test]
-fn clients_take_their_steps_in_any_order(rt: HostRuntime) -> Result<(), Fail> {
-    let alloc = rt.alloc();
-    for (script, text) in [
-        (
-            b"centres 1 k 1\nclients 2\nc2 connect 1\nc1 connect 1\nc2 begin\nc2 add s.a x\nc2 commit\nc2 flush\nc1 refresh\nc1 read s.a\n".as_slice(),
-            b"c2 at 1\nc1 at 1\nc2 commit 1\nc2 flushed 1\nc1 sees 1 own 0\nc1 read s.a {x}\n".as_slice(),
-        ),
-        (
-            b"centres 1 k 1\nclients 1\nc1 abort\nc1 commit\nc1 flush\nc1 push\nc1 refresh\nc1 read c.a\nc1 inc c.a 1\n",
-            b"c1 abort closed\nc1 commit closed\nc1 push unconnected\nc1 push unconnected\nc1 refresh unconnected\nc1 read c.a unconnected\nc1 inc c.a closed\n",
-        ),
-        (
-            b"centres 1 k 1\nclients 1\nlimit 1\nc1 connect 1\nc1 begin\nc1 begin\nc1 commit\nc1 begin\nc1 set r.a x\nc1 commit\nc1 begin\nc1 set r.a y\nc1 commit\nc1 flush\nc1 begin\nc1 set r.a z\nc1 refresh\nc1 abort\nc1 read r.a\n",
-            b"c1 at 1\nc1 begin open\nc1 commit none\nc1 commit 1\nc1 commit 2\nc1 push 2 full 1\nc1 refresh open\nc1 read r.a y\n",
-        ),
-    ] {
-        assert!(rt; writes(alloc, script, 0, text)?, "{script:?}");
-    }
-    Ok(())
-}
-
-#[test]
-fn other_words_and_other_inputs_are_refused(rt: HostRuntime) -> Result<(), Fail> {
-    let alloc = rt.alloc();
-    assert!(rt; writes(alloc, b"centres 1 k 1\n", 3, b"refused input\n")?);
-    let mut source = SteadySource::new(Vec::from_slice(alloc, FIRST_PATH)?);
-    let mut sink = SteadySink::new(alloc);
-    let ended = swift_main(alloc, &[], &mut source, &mut sink, &FreeGate);
+fn without_words_nothing_is_read(rt: HostRuntime) -> Result<(), Fail> {
+    let mut source = SteadySource::new(Vec::from_slice(rt.alloc(), FIRST_PATH)?);
+    let mut sink = SteadySink::new(rt.alloc());
+    let ended = swift_main(rt.alloc(), &[], &mut source, &mut sink, &FreeGate);
     assert_eq!(rt; ended.status, 2);
     assert_eq!(rt;
         sink.bytes(),
         b"usage: swift_sim run|serial [--trail] or make|load NUM\n".as_slice()
     );
+    Ok(())
+}
+
+#[test]
+fn reading_stops_past_the_limits(rt: HostRuntime) -> Result<(), Fail> {
+    let words = serial(rt.alloc())?;
+    let line = Vec::from_slice(rt.alloc(), &[b'a'; 400])?;
+    let mut source = MemorySource::new(line, 100, Vec::new(rt.alloc()));
+    let mut sink = SteadySink::new(rt.alloc());
+    let ended = swift_main(rt.alloc(), &words, &mut source, &mut sink, &FreeGate);
+    assert_eq!(rt; (ended.status, source.calls()), (3, 3));
     Ok(())
 }
 

@@ -5,5 +5,4 @@ mod engine;
 mod stream;
 mod top;
 
-pub use stream::{ReadFault, read_input, write_all};
 pub use top::{Ended, swift_main};

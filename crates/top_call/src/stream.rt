@@ -13,7 +13,7 @@ use std::alloc::{AllocError, Global};
 pub const PIECE: usize = 4096;
 
 /// Why an input was not read.
-#[derive(Clone, Copy, Debug, PartialEq, Eq)]
+#[derive(Clone, Copy)]
 pub enum ReadFault {
     /// A read failed.
     Failed,

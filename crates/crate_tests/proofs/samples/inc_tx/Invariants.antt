@@ -1,6 +1,0 @@
-use Rattle.std.proofs.Common.{◌≡◌, take}
-use Rattle.crate_tests.specs.Samples.{incs_of}
-use Rattle.crate_tests.proofs.samples.inc_tx.Given as goal
-
-abbrev pub invariant-loop-delta : goal.invariant-loop-delta
-invariant-loop-delta l = l.updates ≡ incs_of l.object (take l.delta-index l.deltas)

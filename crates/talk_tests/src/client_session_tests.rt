@@ -1,0 +1,143 @@
+// A session: which changes it refuses, and how a commit goes out and comes back. What the steps of a
+// script show of a session is among the examples.
+use client_session::{Heard, Session};
+use dc_talk::{Ask, Change, Refusal, Say};
+use ids_core::{Dot, Name, NoMemory, ObjectId, OpId, Sort, Tags};
+use samples::{counter, mark, single};
+use std::alloc::Global;
+use std::process::Abort;
+use std::test::Fail;
+use tx_core::{Op, State, Value};
+use vv_core::{Stamp, Vector};
+
+// Lets a session hear that centre 1 has nothing of it.
+fn connect(session: &mut Session) -> Result<Heard, NoMemory> {
+    let hello = session.ask_hello();
+    session.hear(1, &hello, &Say::Welcome { through: 0 })
+}
+
+// Lets a session have this state of an object; whether it asked centre 1, and took it.
+fn fetch(session: &mut Session, object: &ObjectId, state: State) -> Result<bool, Fail> {
+    let (centre, ask) = session.ask_fetch(object)?;
+    let heard = session.hear(centre, &ask, &Say::Object { state })?;
+    Ok(centre == 1 && matches!(heard, Heard::Took))
+}
+
+// A set in which a word has so many live adds.
+fn crowd(alloc: Global, word: Name, count: u64) -> Result<State, Fail> {
+    let Ok(over) = Tags::of(Vec::new(alloc)) else {
+        return Err(Fail::from("no identifiers ascend"));
+    };
+    let add = Op::Add { word, over };
+    let mut state = State::empty(alloc, Sort::Set)?;
+    for number in 0..count {
+        let dot = Dot { client: 2, number };
+        state.fold(&mark(1, OpId { dot, place: 0 }), &add)?;
+    }
+    Ok(state)
+}
+
+// Why a session does not take a change; none where it does.
+fn why_not(
+    alloc: Global,
+    session: &mut Session,
+    object: &ObjectId,
+    change: &Change,
+) -> Option<Refusal> {
+    session.update(alloc, object, change).err()
+}
+
+// Has a session refuse changes of a set in which a word has one live add more than they may be over.
+fn refuse(
+    rt: &impl Abort,
+    alloc: Global,
+    session: &mut Session,
+    many: &ObjectId,
+    word: Name,
+) -> Result<(), Fail> {
+    connect(session)?;
+    let delta = 1_000_000_000_001;
+    let large = Change::Inc { delta };
+    session.begin(alloc)?;
+    let why = why_not(alloc, session, many, &large);
+    assert!(rt; matches!(why, Some(Refusal::WrongKind)));
+    let why = why_not(alloc, session, &counter("a")?, &large);
+    assert!(rt; matches!(why, Some(Refusal::DeltaTooLarge)));
+    let add = Change::Add { word };
+    let why = why_not(alloc, session, many, &add);
+    assert!(rt; matches!(why, Some(Refusal::NeedsFetch { object }) if object == *many));
+    assert!(rt; fetch(session, many, crowd(alloc, word, 4_097)?)?);
+    for change in [add, Change::Remove { word }] {
+        let why = why_not(alloc, session, many, &change);
+        assert!(rt; matches!(why, Some(Refusal::TooManyTags { count: 4_097 })));
+    }
+    Ok(())
+}
+
+#[test]
+fn each_refusal_of_a_change_has_its_cause(rt: HostRuntime) -> Result<(), Fail> {
+    let word = Name::read(b"w")?;
+    let sort = Sort::Set;
+    let many = ObjectId { sort, name: word };
+    let mut session = Session::new(rt.alloc(), 1, 1, 2)?;
+    refuse(&rt, rt.alloc(), &mut session, &many, word)
+}
+
+// Commits a transaction that adds 5 to a counter: the number of the commit.
+fn commit(alloc: Global, session: &mut Session) -> Result<Option<u64>, Fail> {
+    connect(session)?;
+    session.begin(alloc)?;
+    session.abort()?;
+    session.begin(alloc)?;
+    session.update(alloc, &counter("a")?, &Change::Inc { delta: 5 })?;
+    Ok(session.commit()?)
+}
+
+// Lets a session have the empty counter, and whether it then reads its own commit.
+fn reads_5(alloc: Global, session: &mut Session) -> Result<bool, Fail> {
+    let object = counter("a")?;
+    let took = fetch(session, &object, State::empty(alloc, Sort::Counter)?)?;
+    Ok(took && matches!(session.read(alloc, &object)?, Value::Number(5)))
+}
+
+// Lets a session hear a stamp for the commit that it sends next, if it sends one: whether that is its
+// first commit, under the rank 1, and the stamp was taken.
+fn push(session: &mut Session, stamp: Stamp) -> Result<Option<bool>, Fail> {
+    let Some((centre, ask)) = session.ask_commit()? else {
+        return Ok(None);
+    };
+    let first = matches!(&ask, Ask::Commit { tx } if tx.rank == 1 && tx.dot.number == 1);
+    let heard = session.hear(centre, &ask, &Say::Stamped { stamp })?;
+    Ok(Some(first && matches!(heard, Heard::Took)))
+}
+
+// Lets a session hear a snapshot with its commit, and the greatest rank that there is; whether it took
+// it.
+fn refresh(session: &mut Session, vector: Vector) -> Result<bool, Fail> {
+    let (centre, ask) = session.ask_refresh()?;
+    let (mine, top) = (1, 1 << 62);
+    let heard = session.hear(centre, &ask, &Say::Snap { vector, mine, top })?;
+    Ok(matches!(heard, Heard::Took))
+}
+
+// Has a session commit and push, and see its commit.
+fn send_and_see(rt: &impl Abort, alloc: Global, session: &mut Session) -> Result<(), Fail> {
+    let stamp = Stamp { centre: 1, seq: 1 };
+    assert!(rt; commit(alloc, session)? == Some(1));
+    assert!(rt; reads_5(alloc, session)?);
+    assert!(rt; push(session, stamp)? == Some(true));
+    assert!(rt; push(session, stamp)?.is_none());
+    assert!(rt; session.facts().pending == 1);
+    assert!(rt; refresh(session, single(1))?);
+    let facts = session.facts();
+    assert!(rt; facts.vector == single(1) && facts.mine == 1 && facts.pending == 0);
+    assert!(rt; matches!(session.begin(alloc), Err(Refusal::ClockFull)));
+    Ok(())
+}
+
+#[test]
+fn a_commit_reaches_the_centre_and_comes_back(rt: HostRuntime) -> Result<(), Fail> {
+    let mut session = Session::new(rt.alloc(), 1, 1, 2)?;
+    assert_eq!(rt; session.client(), 1);
+    send_and_see(&rt, rt.alloc(), &mut session)
+}

@@ -1,0 +1,20 @@
+//! Tests of clients and centres, and of what they say to one another, at concrete types: one file a
+//! crate, named after it.
+#![tactic(auto)]
+
+#[cfg(test)]
+mod client_cache_tests;
+#[cfg(test)]
+mod client_pending_tests;
+#[cfg(test)]
+mod client_session_tests;
+#[cfg(test)]
+mod dc_centre_peers;
+#[cfg(test)]
+mod dc_centre_tests;
+#[cfg(test)]
+mod dc_talk_tests;
+#[cfg(test)]
+mod hist_lock_tests;
+#[cfg(test)]
+mod told;

@@ -1,5 +1,0 @@
-//! Tests of the texts of lines, values and notes.
-#![tactic(auto)]
-
-#[cfg(test)]
-mod texts;
