@@ -16,7 +16,7 @@ use vv_core::Vector;
 
 /// The states of objects at vectors, at most one for each object that is kept, seen as the list of
 /// the entries, the most recently used first, with the most that there may be (1 or more).
-#[derive(Debug, Drop)]
+#[derive(Drop)]
 pub struct Cache {
     entries: Vec<Cached>,
     capacity: usize,

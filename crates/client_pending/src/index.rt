@@ -13,7 +13,7 @@ use std::collections::{BTreeMap, VecDeque};
 use tx_core::Op;
 
 /// An object as a key: its kind as a number, and its name.
-#[derive(Clone, Copy, Debug, PartialEq, Eq, PartialOrd, Ord)]
+#[derive(Clone, Copy, PartialEq, Eq, PartialOrd, Ord)]
 pub(crate) struct Key {
     sort: u8,
     name: Name,

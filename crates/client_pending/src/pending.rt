@@ -15,7 +15,7 @@ use tx_core::{State, Tx};
 /// The commits of a client that are not within its snapshot, seen as their list. Beside it stands for
 /// each object the list of the operations on it, so that a read costs what is pending on its object,
 /// and nothing for all else.
-#[derive(Debug, Drop)]
+#[derive(Drop)]
 pub struct Pending {
     txs: Vec<Tx>,
     index: Index,

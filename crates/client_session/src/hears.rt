@@ -13,7 +13,7 @@ use tx_core::{State, Tx};
 use vv_core::Vector;
 
 /// What a session did with an answer.
-#[derive(Clone, Copy, Debug, PartialEq, Eq)]
+#[derive(Clone, Copy)]
 pub enum Heard {
     /// It took the answer.
     Took,

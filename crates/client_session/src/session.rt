@@ -17,7 +17,7 @@ pub(crate) const MOST_RANK: u64 = 1 << 62;
 const MOST_PENDING: u64 = 1_024;
 
 /// What can be read off a session.
-#[derive(Clone, Copy, Debug)]
+#[derive(Clone, Copy)]
 pub struct Facts {
     /// The snapshot that it reads.
     pub vector: Vector,
@@ -38,7 +38,7 @@ pub struct Facts {
 }
 
 /// One client: its snapshot, its commits, and its cache.
-#[derive(Debug, Drop)]
+#[derive(Drop)]
 pub struct Session {
     pub(crate) client: u32,
     pub(crate) vector: Vector,

@@ -6,7 +6,7 @@ use dc_talk::{Line, Say, StepWord};
 use ids_core::ObjectId;
 
 /// Why a client asks a centre: for which step, and about what.
-#[derive(Clone, Copy, Debug)]
+#[derive(Clone, Copy)]
 pub enum Purpose {
     Connect,
     /// For a call on the object, in a step of this word.

@@ -1,6 +1,6 @@
 /// What never changes of a centre: its number, how many centres there are, how many make an update
 /// stable, and how many transactions it may stamp.
-#[derive(Clone, Copy, Debug, PartialEq, Eq)]
+#[derive(Clone, Copy)]
 pub struct Settings {
     pub me: u8,
     pub n: u8,

@@ -11,7 +11,7 @@ use vv_core::Vector;
 const MOST_RECORDS: u64 = 1_000_000;
 
 /// One ask of a centre (Middleware 2015, sections 4 and 5). Clients are numbered from 1 to 1,024.
-#[derive(Debug, Drop)]
+#[derive(Drop)]
 pub enum Ask {
     /// A client comes, for the first time, again, or from another centre. It has seen `need`.
     Hello { client: u32, need: Vector },

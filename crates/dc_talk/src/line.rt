@@ -4,7 +4,7 @@ use tx_core::Value;
 use vv_core::{Lack, Stamp, Vector};
 
 /// Why an ask has no reply that counts.
-#[derive(Clone, Copy, Debug, PartialEq, Eq)]
+#[derive(Clone, Copy)]
 pub enum Miss {
     /// The centre is stopped.
     Unreachable,
@@ -15,7 +15,7 @@ pub enum Miss {
 }
 
 /// The word of a step that reads or changes an object.
-#[derive(Clone, Copy, Debug, PartialEq, Eq)]
+#[derive(Clone, Copy)]
 pub enum StepWord {
     /// Adds to a counter.
     Inc,
@@ -34,7 +34,7 @@ pub enum StepWord {
 }
 
 /// How the push of a commit ended.
-#[derive(Clone, Copy, Debug)]
+#[derive(Clone, Copy)]
 pub enum PushEnd {
     /// The commit has this stamp now.
     Stamped { stamp: Stamp },
@@ -51,7 +51,7 @@ pub enum PushEnd {
 }
 
 /// What a step of a script writes, one variant for each form of line.
-#[derive(Debug, Drop)]
+#[derive(Drop)]
 pub enum Line {
     /// The client is connected to the centre.
     At {

@@ -10,7 +10,7 @@ use std::alloc::Global;
 use std::marker::Model;
 
 /// What became of an ask.
-#[derive(Debug, Drop)]
+#[derive(Drop)]
 pub enum Fate {
     /// It reached no centre.
     AskLost,
@@ -23,7 +23,7 @@ pub enum Fate {
 }
 
 /// One thing that an actor did.
-#[derive(Debug, Drop)]
+#[derive(Drop)]
 pub enum Deed {
     /// A call of the actor's session, with how it ended.
     Did { call: Call, outcome: Outcome },
@@ -34,7 +34,7 @@ pub enum Deed {
 }
 
 /// One deed, with the section of the script and the step in it. Both are counted from 1.
-#[derive(Debug, Drop)]
+#[derive(Drop)]
 pub struct Note {
     pub section: u32,
     pub step: u32,
@@ -43,7 +43,7 @@ pub struct Note {
 
 /// All that one actor did, in order, with the section and the step that it is at (0 at first).
 /// The operator is actor 1, and client X is actor X + 1.
-#[derive(Debug, Drop)]
+#[derive(Drop)]
 pub struct Log {
     actor: u32,
     section: u32,

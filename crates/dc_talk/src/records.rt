@@ -7,7 +7,7 @@ use std::marker::Model;
 use tx_core::Record;
 
 /// Records in their order, seen as their list.
-#[derive(Clone, Debug, Drop)]
+#[derive(Clone, Drop)]
 pub struct Records {
     items: Vec<Record>,
 }

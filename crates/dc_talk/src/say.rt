@@ -8,7 +8,7 @@ use tx_core::State;
 use vv_core::{Stamp, Vector};
 
 /// One answer of a centre. Centres are numbered from 1.
-#[derive(Debug, Drop)]
+#[derive(Drop)]
 pub enum Say {
     /// The ask does not fit a system of this many centres.
     Misfit,

@@ -4,7 +4,7 @@ use tx_core::{State, Value};
 use vv_core::Vector;
 
 /// A change of an object, as a client issues it.
-#[derive(Clone, Copy, Debug)]
+#[derive(Clone, Copy)]
 pub enum Change {
     /// Adds to a counter. Deltas are from -10^12 to 10^12.
     Inc { delta: i64 },
@@ -21,7 +21,7 @@ pub enum Change {
 }
 
 /// One call of a session.
-#[derive(Clone, Copy, Debug)]
+#[derive(Clone, Copy)]
 pub enum Call {
     /// Opens a transaction.
     Begin,
@@ -37,7 +37,7 @@ pub enum Call {
 
 /// Why a session refuses a call. After each of them the session is as it was, but that a call that
 /// looked the object up has made its entry the first of the cache.
-#[derive(Clone, Copy, Debug, PartialEq, Eq)]
+#[derive(Clone, Copy, Debug)]
 pub enum Refusal {
     /// A transaction is open.
     AlreadyOpen,
@@ -64,7 +64,7 @@ pub enum Refusal {
 }
 
 /// How a call of a session ended.
-#[derive(Debug, Drop)]
+#[derive(Drop)]
 pub enum Outcome {
     /// The call was taken.
     Fine,
@@ -80,14 +80,14 @@ pub enum Outcome {
 
 /// The centre that a session is connected to, and the greatest number of the session's own commits
 /// that is known to be there.
-#[derive(Clone, Copy, Debug)]
+#[derive(Clone, Copy)]
 pub struct Link {
     pub centre: u8,
     pub sent: u64,
 }
 
 /// One entry of a client's cache: the state of an object at a vector.
-#[derive(Debug, Drop)]
+#[derive(Drop)]
 pub struct Cached {
     pub object: ObjectId,
     pub vector: Vector,

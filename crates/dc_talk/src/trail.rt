@@ -9,7 +9,7 @@ use std::alloc::Global;
 use std::marker::Model;
 
 /// One ask of a caller, with its answer.
-#[derive(Debug, Drop)]
+#[derive(Drop)]
 pub struct Entry {
     pub caller: u32,
     pub ask: Ask,
@@ -18,7 +18,7 @@ pub struct Entry {
 
 /// The entries of a centre, in order. Contracts see beside them a number, `spare`: for so many more
 /// entries room is taken.
-#[derive(Debug, Drop)]
+#[derive(Drop)]
 pub struct Trail {
     entries: Vec<Entry>,
 }

@@ -8,7 +8,7 @@ use std::cmp::Ordering;
 
 /// The number that a client gives its transaction (Middleware 2015): the client, and which of
 /// that client's commits it is, counted from 1.
-#[derive(Clone, Copy, Debug, PartialEq, Eq, PartialOrd, Ord)]
+#[derive(Clone, Copy, PartialEq, Eq, PartialOrd, Ord)]
 pub struct Dot {
     pub client: u32,
     pub number: u64,
@@ -16,7 +16,7 @@ pub struct Dot {
 
 /// The identifier of an operation: the dot of its transaction, and its place among the updates
 /// there, counted from 0.
-#[derive(Clone, Copy, Debug, PartialEq, Eq, PartialOrd, Ord)]
+#[derive(Clone, Copy, PartialEq, Eq, PartialOrd, Ord)]
 pub struct OpId {
     pub dot: Dot,
     pub place: u16,
@@ -24,7 +24,7 @@ pub struct OpId {
 
 /// The mark of an operation: the rank of its transaction, and its identifier. Marks are ordered
 /// by rank, then client, then number, then place.
-#[derive(Clone, Copy, Debug, PartialEq, Eq, PartialOrd, Ord)]
+#[derive(Clone, Copy, PartialEq, Eq, PartialOrd, Ord)]
 pub struct Mark {
     pub rank: u64,
     pub id: OpId,

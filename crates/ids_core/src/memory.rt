@@ -3,7 +3,7 @@
 use std::alloc::{AllocError, AllocFailed};
 
 /// There was no room: the one error whose cause no contract states.
-#[derive(Clone, Copy, Debug, PartialEq, Eq)]
+#[derive(Clone, Copy, Debug)]
 pub struct NoMemory;
 
 impl From<AllocError> for NoMemory {

@@ -9,7 +9,7 @@ use std::cmp::Ordering;
 use std::marker::Model;
 
 /// The bytes are no name.
-#[derive(Clone, Copy, Debug, PartialEq, Eq)]
+#[derive(Clone, Copy, Debug)]
 pub struct BadName;
 
 /// A name, seen as the list of its bytes: 1 to 32 out of `a` to `z`, `0` to `9` and `_`. Names are

@@ -7,7 +7,7 @@ use crate::memory::NoMemory;
 use std::marker::Model;
 
 /// Identifiers of operations, seen as their strictly ascending list.
-#[derive(Clone, Debug, Drop)]
+#[derive(Clone, Drop)]
 pub struct Tags {
     list: Vec<OpId>,
 }

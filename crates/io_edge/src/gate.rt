@@ -9,7 +9,7 @@ pub trait Gate: Sync {
 }
 
 /// The gate that lets each caller pass at once.
-#[derive(Clone, Copy, Debug)]
+#[derive(Clone, Copy)]
 pub struct FreeGate;
 
 impl Gate for FreeGate {

@@ -2,7 +2,7 @@ ghost use Rattle.std.specs.Prelude.{◌≡◌, ◌<◌, ◌≤◌, [], List, ℕ
 ghost use Rattle.io_edge.specs.Streams.{HasRisen, puts_back};
 
 /// The one way in which a read fails. No byte was taken.
-#[derive(Clone, Copy, Debug, PartialEq, Eq)]
+#[derive(Clone, Copy, Debug)]
 pub struct Failed;
 
 /// Where bytes are read from. A source may tell which bytes it has left, and counts its faults.

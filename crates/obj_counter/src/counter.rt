@@ -10,7 +10,7 @@ use std::alloc::Global;
 use std::marker::Model;
 
 /// An operation on a counter: it adds a delta.
-#[derive(Clone, Copy, Debug, PartialEq, Eq)]
+#[derive(Clone, Copy)]
 pub struct CounterOp {
     pub delta: i64,
 }
@@ -18,7 +18,7 @@ pub struct CounterOp {
 /// The state of a counter, seen as a number (Shapiro and others, INRIA RR-7506: the op-based
 /// counter). It is the sum of the deltas, and wraps at the ends of an `i128`. No call on it takes
 /// memory.
-#[derive(Clone, Copy, Debug)]
+#[derive(Clone, Copy)]
 pub struct CounterState {
     sum: i128,
 }

@@ -17,7 +17,7 @@ use tally_core::Tallies;
 /// A put of a word at a key, or an erase of the key where there is no word, and the identifiers of the
 /// key's puts that were live where it was issued. A put carries them too, so that a key that is written
 /// often keeps few live identifiers.
-#[derive(Debug, Drop)]
+#[derive(Drop)]
 pub struct MapOp {
     pub key: Name,
     pub word: Option<Name>,
@@ -29,7 +29,7 @@ pub struct MapOp {
 /// Types", INRIA RR-7506, 2011). It is seen as its tallies: for each key and identifier, plus one for
 /// the put and minus one for each operation that is over it, with the rank and word of the put exactly
 /// where the tally is 1 or more.
-#[derive(Debug, Drop)]
+#[derive(Drop)]
 pub struct MapState {
     tallies: Tallies<Put>,
 }

@@ -5,7 +5,7 @@ ghost use Rattle.obj_map.specs.Puts.{later, greatest};
 use ids_core::{Mark, Name, OpId};
 
 /// What a live put keeps: the rank of its transaction and its word.
-#[derive(Clone, Copy, Debug)]
+#[derive(Clone, Copy)]
 pub struct Put {
     pub rank: u64,
     pub word: Name,

@@ -10,14 +10,14 @@ use std::alloc::Global;
 use std::marker::Model;
 
 /// An operation on a register: it writes a word.
-#[derive(Clone, Copy, Debug)]
+#[derive(Clone, Copy)]
 pub struct RegisterOp {
     pub word: Name,
 }
 
 /// The state of a register, seen as the write with the greatest mark, or none (Shapiro and others,
 /// INRIA RR-7506: the last-writer-wins register). No call on it takes memory.
-#[derive(Clone, Copy, Debug)]
+#[derive(Clone, Copy)]
 pub struct RegisterState {
     last: Option<(Mark, RegisterOp)>,
 }

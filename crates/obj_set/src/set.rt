@@ -16,7 +16,7 @@ use tally_core::Tallies;
 
 /// An add or a remove of a word, and the identifiers of its adds that were live where it was issued.
 /// An add carries them too, so that a word that is added often keeps few live identifiers.
-#[derive(Debug, Drop)]
+#[derive(Drop)]
 pub struct SetOp {
     pub adds: bool,
     pub word: Name,
@@ -27,7 +27,7 @@ pub struct SetOp {
 /// Commutative Replicated Data Types", INRIA RR-7506, 2011), in which an add wins over a remove that has
 /// not seen it. It is seen as its tallies: for each word and identifier, plus one for the add and minus
 /// one for each operation that is over it, so that a remove may be taken in before the add that it saw.
-#[derive(Debug, Drop)]
+#[derive(Drop)]
 pub struct SetState {
     tallies: Tallies<()>,
 }

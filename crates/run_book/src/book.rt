@@ -9,7 +9,7 @@ use std::marker::Model;
 
 /// The trails of the centres, the one of centre 1 first. They are seen as the lists of their
 /// entries.
-#[derive(Debug, Drop)]
+#[derive(Drop)]
 pub struct Trails {
     items: Vec<Trail>,
 }
@@ -30,7 +30,7 @@ impl Model for Trails {
 }
 
 /// The logs of the actors, the one of actor 1 first, seen as their list.
-#[derive(Debug, Drop)]
+#[derive(Drop)]
 pub struct Logs {
     items: Vec<Log>,
 }
@@ -52,7 +52,7 @@ impl Model for Logs {
 /// What a run leaves: trail I is the one of centre I, and the J-th log is the one of actor J. Actor
 /// 1 is the operator, the clients are the actors behind it, and the workers those behind the
 /// clients.
-#[derive(Debug, Drop)]
+#[derive(Drop)]
 pub struct Book {
     /// How many centres there are, from 1 to 8.
     pub n: u8,

@@ -5,7 +5,7 @@ ghost use Rattle.script_text.specs.Limits.{PassesLimits};
 use crate::limits::LineCount;
 
 /// The bytes that were read of an input.
-#[derive(Debug, Drop)]
+#[derive(Drop)]
 pub struct Input {
     pub bytes: Vec<u8>,
     /// Whether the bytes pass the limits of a script. Then more may be left of the input.

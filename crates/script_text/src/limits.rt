@@ -11,7 +11,7 @@ pub const MAX_LINES: u32 = 200_000;
 
 /// How far a text came: the line feeds and the bytes of the line that stands open, or past the
 /// limits, where it stays.
-#[derive(Clone, Copy, Debug)]
+#[derive(Clone, Copy)]
 pub enum LineCount {
     Within { feeds: u32, column: u32 },
     Past,

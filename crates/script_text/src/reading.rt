@@ -11,7 +11,7 @@ use crate::steps::{Step, Steps};
 use std::alloc::Global;
 
 /// The settings that lines set, and their steps.
-#[derive(Debug, Drop)]
+#[derive(Drop)]
 pub struct Reading {
     pub cache: Option<u32>,
     pub limit: Option<u32>,

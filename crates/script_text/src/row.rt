@@ -18,7 +18,7 @@ const MAX_CACHE: u32 = 100_000;
 const MAX_LIMIT: u32 = 1_000_000;
 
 /// A line of a script behind its first two.
-#[derive(Clone, Copy, Debug)]
+#[derive(Clone, Copy)]
 pub enum Row {
     /// How many objects a client's cache holds.
     Cache(u32),

@@ -29,7 +29,7 @@ const CACHE: u32 = 1_024;
 const LIMIT: u32 = 1_000_000;
 
 /// A script: its settings and its steps.
-#[derive(Debug, Drop)]
+#[derive(Drop)]
 pub struct Script {
     /// How many centres there are.
     pub n: u8,
@@ -45,7 +45,7 @@ pub struct Script {
 }
 
 /// Why an input was not taken.
-#[derive(Clone, Copy, Debug, PartialEq, Eq)]
+#[derive(Clone, Copy, Debug)]
 pub enum ScriptFault {
     /// It is no script.
     Refused,

@@ -7,7 +7,7 @@ use std::alloc::Global;
 use std::marker::Model;
 
 /// What a client does in one step.
-#[derive(Clone, Copy, Debug)]
+#[derive(Clone, Copy)]
 pub enum ClientStep {
     /// Hello to this centre, counted from 1.
     Connect { centre: u8 },
@@ -30,14 +30,14 @@ pub enum ClientStep {
 }
 
 /// A step of a script: a client, counted from 1, and what it does.
-#[derive(Clone, Copy, Debug)]
+#[derive(Clone, Copy)]
 pub struct Step {
     pub client: u32,
     pub does: ClientStep,
 }
 
 /// The steps of a script, seen as their list. Each is a section of its own.
-#[derive(Debug, Drop)]
+#[derive(Drop)]
 pub struct Steps {
     items: Vec<Step>,
 }

@@ -6,14 +6,14 @@ use std::alloc::AllocError;
 
 /// The place of a tally: a name, and the identifier of an add under it. Places are ordered by name,
 /// then identifier.
-#[derive(Clone, Copy, Debug, PartialEq, Eq, PartialOrd, Ord)]
+#[derive(Clone, Copy, PartialEq, Eq, PartialOrd, Ord)]
 pub struct Place {
     pub name: Name,
     pub id: OpId,
 }
 
 /// A tally, and what its add keeps, which is there where the tally is 1 or more.
-#[derive(Copy, Debug)]
+#[derive(Copy)]
 pub struct Cell<P: Copy> {
     pub count: i64,
     pub kept: Option<P>,

@@ -20,7 +20,7 @@ use std::marker::Model;
 /// list of seen identifiers that holds it (the observed-remove set of Shapiro and others, INRIA
 /// RR-7506, 2011, with tallies, so that a remove may come before the add that it saw). A tally of 0
 /// is not there. Where a tally is 1 or more, the identifier is live, and what its add keeps is there.
-#[derive(Debug, Drop)]
+#[derive(Drop)]
 pub struct Tallies<P: Copy> {
     cells: BTreeMap<Place, Cell<P>>,
 }

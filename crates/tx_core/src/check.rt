@@ -8,7 +8,7 @@ use ids_core::Dot;
 use vv_core::Vector;
 
 /// What is wrong with a transaction.
-#[derive(Clone, Copy, Debug, PartialEq, Eq)]
+#[derive(Clone, Copy, Debug)]
 pub enum TxFault {
     /// There is no update.
     NoUpdates,

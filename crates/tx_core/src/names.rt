@@ -5,13 +5,13 @@ use ids_core::{Name, NoMemory};
 use std::marker::Model;
 
 /// Names, seen as their list.
-#[derive(Clone, Debug, Drop)]
+#[derive(Clone, Drop)]
 pub struct Names {
     items: Vec<Name>,
 }
 
 /// Pairs of a key and a word, seen as their list.
-#[derive(Clone, Debug, Drop)]
+#[derive(Clone, Drop)]
 pub struct NamePairs {
     items: Vec<(Name, Name)>,
 }
@@ -76,46 +76,4 @@ impl NamePairs {
     {
         Ok(self.clone()?)
     }
-}
-
-impl PartialEq for Names {
-    ghost use Rattle.std.proofs.Common.{rules};
-    ghost use Rattle.std.specs.Cmp.Rules.{comparing};
-    ghost use Rattle.tx_core.specs.Same.{same_names};
-
-    ghost eq = { same_names };
-
-    ghost laws = { Prim.search (comparing, rules) };
-
-    fn eq(&self, other: &Names) -> bool {
-        self.as_slice() == other.as_slice()
-    }
-}
-
-impl Eq for Names {
-    ghost use Rattle.std.proofs.Common.{rules};
-    ghost use Rattle.std.specs.Cmp.Rules.{comparing};
-
-    ghost laws = { Prim.search (comparing, rules) };
-}
-
-impl PartialEq for NamePairs {
-    ghost use Rattle.std.proofs.Common.{rules};
-    ghost use Rattle.std.specs.Cmp.Rules.{comparing};
-    ghost use Rattle.tx_core.specs.Same.{same_pairs};
-
-    ghost eq = { same_pairs };
-
-    ghost laws = { Prim.search (comparing, rules) };
-
-    fn eq(&self, other: &NamePairs) -> bool {
-        self.as_slice() == other.as_slice()
-    }
-}
-
-impl Eq for NamePairs {
-    ghost use Rattle.std.proofs.Common.{rules};
-    ghost use Rattle.std.specs.Cmp.Rules.{comparing};
-
-    ghost laws = { Prim.search (comparing, rules) };
 }

@@ -7,7 +7,7 @@ use std::alloc::AllocError;
 
 /// An operation on an object. `over` has the identifiers of the adds of the word, or of the puts of
 /// the key, that were live where the operation was issued.
-#[derive(Debug, Drop)]
+#[derive(Drop)]
 pub enum Op {
     /// Adds a delta to a counter.
     Inc { delta: i64 },

@@ -12,7 +12,7 @@ use obj_set::SetState;
 use std::alloc::{AllocError, Global};
 
 /// The state of an object.
-#[derive(Debug, Drop)]
+#[derive(Drop)]
 pub enum State {
     /// The state of a counter.
     Counter(CounterState),
@@ -25,7 +25,7 @@ pub enum State {
 }
 
 /// What a read of an object gives.
-#[derive(Debug, Drop, PartialEq, Eq)]
+#[derive(Drop)]
 pub enum Value {
     /// The sum of a counter.
     Number(i128),

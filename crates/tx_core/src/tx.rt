@@ -8,20 +8,20 @@ use std::marker::Model;
 use vv_core::{Stamp, Vector};
 
 /// An operation on one object.
-#[derive(Clone, Debug, Drop)]
+#[derive(Clone, Drop)]
 pub struct Update {
     pub object: ObjectId,
     pub op: Op,
 }
 
 /// The updates of a transaction in their order, seen as their list.
-#[derive(Clone, Debug, Drop)]
+#[derive(Clone, Drop)]
 pub struct Updates {
     items: Vec<Update>,
 }
 
 /// A transaction as its client commits it (Zawirski and others, Middleware 2015).
-#[derive(Clone, Debug, Drop)]
+#[derive(Clone, Drop)]
 pub struct Tx {
     /// The client's own number for it.
     pub dot: Dot,
@@ -33,7 +33,7 @@ pub struct Tx {
 }
 
 /// A transaction as a centre took it.
-#[derive(Clone, Debug, Drop)]
+#[derive(Clone, Drop)]
 pub struct Record {
     /// The centre's number for it.
     pub stamp: Stamp,

@@ -1,5 +1,5 @@
 /// The name of a transaction at the centre that took it (Zawirski and others, Middleware 2015).
-#[derive(Clone, Copy, Debug, PartialEq, Eq)]
+#[derive(Clone, Copy, PartialEq, Eq)]
 pub struct Stamp {
     /// The centre, counted from 1.
     pub centre: u8,
@@ -8,7 +8,7 @@ pub struct Stamp {
 }
 
 /// An entry by which one vector falls short of another.
-#[derive(Clone, Copy, Debug, PartialEq, Eq)]
+#[derive(Clone, Copy)]
 pub struct Lack {
     /// The centre, counted from 1.
     pub centre: u8,

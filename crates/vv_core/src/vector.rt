@@ -8,7 +8,7 @@ use std::marker::Model;
 
 /// One number for each centre, seen as the list of the numbers. It has 1 to 8 entries, for the centres 1, 2 and
 /// so on. What lies behind them is 0. (Zawirski and others, Middleware 2015: version vectors.)
-#[derive(Clone, Copy, Debug)]
+#[derive(Clone, Copy)]
 pub struct Vector {
     entries: [u64; 8],
     width: u8,
