@@ -1,9 +1,29 @@
-// Books.
+// Books, and what they can be asked for.
+use crate::world_core_tests::played;
 use dc_talk::{Log, Trail};
-use ids_core::NoMemory;
-use run_book::{Book, Logs, Trails, law_one_client, law_session};
+use ids_core::{Dot, NoMemory};
+use run_book::{
+    Book, Logs, Trails, law_agree, law_causal, law_closed, law_known, law_numbers, law_one_list,
+    law_session, law_sound, law_value,
+};
+use samples::counter;
 use std::alloc::Global;
+use std::process::Abort;
 use std::test::Fail;
+use tx_core::Value;
+
+// The laws, of a book.
+fn take_laws(book: &Book) {
+    law_numbers();
+    law_sound(book);
+    law_one_list(book);
+    law_closed(book);
+    law_session(book);
+    law_known(book);
+    law_value(book);
+    law_agree(book);
+    law_causal(book);
+}
 
 // Puts a trail and two logs into a book.
 fn fill(alloc: Global, book: &mut Book) -> Result<(), NoMemory> {
@@ -19,20 +39,67 @@ fn counts(book: &Book) -> (usize, usize) {
 
 #[test]
 fn a_book_has_its_trails_and_logs(rt: HostRuntime) -> Result<(), Fail> {
-    law_one_client();
-    law_session();
     let mut book = Book::new(rt.alloc(), 2, 1);
     fill(rt.alloc(), &mut book)?;
-    assert_eq!(rt; (book.n, book.k), (2, 1));
-    assert_eq!(rt; counts(&book), (1, 2));
+    take_laws(&book);
+    assert!(rt; book.n == 2 && book.k == 1 && counts(&book) == (1, 2));
     Ok(())
 }
 
 #[test]
 fn lists_of_a_book_are_made_of_vectors(rt: HostRuntime) -> Result<(), Fail> {
     let trails = Trails::from_vec(vec![in rt.alloc(); Trail::new(rt.alloc())]?);
-    assert_eq!(rt; trails.as_slice().len(), 1);
+    assert!(rt; trails.as_slice().len() == 1);
     let logs = Logs::from_vec(vec![in rt.alloc(); Log::new(rt.alloc(), 1)]?);
-    assert_eq!(rt; logs.as_slice().len(), 1);
+    assert!(rt; logs.as_slice().len() == 1);
     Ok(())
+}
+
+// The number that a read of client 1 has to give by the book, if the note is such a read.
+fn number_read(alloc: Global, book: &Book, note: usize) -> Result<Option<i128>, NoMemory> {
+    match &book.value_read(alloc, 1, note)? {
+        Some(Value::Number(number)) => Ok(Some(*number)),
+        _ => Ok(None),
+    }
+}
+
+// The number that the counter has over these transactions, if it is one.
+fn number_over(alloc: Global, book: &Book, dots: &[Dot]) -> Result<Option<i128>, Fail> {
+    match &book.value_over(alloc, &counter("a")?, dots)? {
+        Value::Number(number) => Ok(Some(*number)),
+        _ => Ok(None),
+    }
+}
+
+// Whether client 1 stands on its first transaction alone at a note.
+fn stands_on_the_first(alloc: Global, book: &Book, note: usize) -> Result<bool, NoMemory> {
+    let first = Dot {
+        client: 1,
+        number: 1,
+    };
+    Ok(book.basis(alloc, 1, note)?.as_slice() == [first].as_slice())
+}
+
+// The book of two transactions that add 5 and 2, with a read in the second one: the deeds of the client
+// are the hello, its line, the begin, the change, the commit, its line, the begin, the change, the read
+// that has to fetch, the fetch, the read, and its line.
+fn ask(rt: &impl Abort, alloc: Global, book: &Book) -> Result<(), Fail> {
+    assert!(rt; number_read(alloc, book, 10)? == Some(7));
+    assert!(rt; number_read(alloc, book, 9)?.is_none());
+    assert!(rt; stands_on_the_first(alloc, book, 10)?);
+    assert!(rt; !stands_on_the_first(alloc, book, 4)?);
+    let dots = book.basis(alloc, 1, 10)?;
+    assert!(rt; number_over(alloc, book, dots.as_slice())? == Some(5));
+    assert!(rt; number_over(alloc, book, &[])? == Some(0));
+    Ok(())
+}
+
+#[test]
+fn a_book_tells_what_a_read_stands_on(rt: HostRuntime) -> Result<(), Fail> {
+    let run = played(
+        rt.alloc(),
+        b"centres 1 k 1\nclients 1\nc1 connect 1\nc1 begin\nc1 inc c.a 5\nc1 commit\nc1 begin\nc1 inc c.a 2\nc1 read c.a\n",
+    )?;
+    assert!(rt; run.text.as_slice() == b"c1 at 1\nc1 commit 1\nc1 read c.a 7\n".as_slice());
+    ask(&rt, rt.alloc(), &run.book)
 }

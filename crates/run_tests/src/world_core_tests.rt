@@ -4,8 +4,8 @@ use std::alloc::Global;
 use std::test::Fail;
 use world_core::{Run, play_steps};
 
-// The run of a script.
-fn played(alloc: Global, text: &[u8]) -> Result<Run, Fail> {
+/// The run of a script.
+pub fn played(alloc: Global, text: &[u8]) -> Result<Run, Fail> {
     let script = parse(alloc, &Input::of(text.to_vec(alloc)?))?;
     let cache = script.cache as usize;
     let steps = script.steps.as_slice();
