@@ -21,7 +21,7 @@ use Rattle.dc_talk.specs.Rule.{after, takes, taken, heard, is_linked, sent_throu
 use Rattle.client_session.specs.SessionAnswers.{commit_ask}
 use Rattle.script_text.specs.declared.steps.ClientStep.TheVariants.{Flush as FlushStep}
 use Rattle.script_text.specs.Deeds.{goes_on, push_end, PushesOn, FlushStops, FlushEnds, FlushDeeds}
-use Rattle.dc_talk.proofs.Inversions.{known_by}
+use Rattle.dc_talk.proofs.ClientAnswers.{known_by}
 use Rattle.client_stub.specs.declared.purpose.Purpose.TheVariants as purpose
 use Rattle.client_stub.specs.Playing.{Playing, Grows, Takes, Exchanges, noted_all, after_all, told_of, number_in}
 use Rattle.client_stub.specs.Flushing.{IsInTurn, unsent, unsent_over, PushedOn, EndsFlush, FlushesOn}

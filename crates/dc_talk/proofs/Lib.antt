@@ -1,3 +1,8 @@
-pub mod Inversions
+pub mod Answers
+pub mod ClientAnswers
+pub mod PeerAnswers
+pub mod Counts
+pub mod Firsts
 pub mod Applied
-pub mod Growing
+pub mod Places
+pub mod Growth

@@ -6,3 +6,4 @@ pub mod Logs
 pub mod Clients
 pub mod Calls
 pub mod Rule
+pub mod Laws

@@ -4,6 +4,7 @@
 
 mod ask;
 mod fold;
+mod laws;
 mod line;
 mod log;
 mod records;
@@ -13,6 +14,7 @@ mod trail;
 
 pub use ask::Ask;
 pub use fold::fold_updates;
+pub use laws::law_history;
 pub use line::{Line, Miss, PushEnd, StepWord};
 pub use log::{Deed, Fate, Log, Note};
 pub use records::Records;

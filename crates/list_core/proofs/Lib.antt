@@ -4,3 +4,8 @@ pub mod Members
 pub mod Permutations
 pub mod Places
 pub mod Blocks
+pub mod Ranges
+pub mod Apart
+pub mod Passing
+pub mod Choices
+pub mod Firsts

@@ -1,8 +1,8 @@
 -- The members of lists, and what holds of them.
 use Rattle.std.proofs.Common.{◌≡◌, ℕ, zero, suc, ◌⊎◌, inl, inr, ⊎_elim, Bool, true, false, cond, List, [], ◌∷◌, ◌++◌, take, drop, map, refl, sym, ap, ◌∙◌, subst}
-use Rattle.std.specs.Prelude.{filter, All}
+use Rattle.std.specs.Prelude.{filter, flat_map, All}
 use Rattle.std.proofs.lemmas.Bool.{false≢true}
-use Rattle.std.proofs.lemmas.List.Elements.{All-head, All-tail}
+use Rattle.std.proofs.lemmas.List.Elements.{All-nil, All-cons, All-head, All-tail}
 use Rattle.list_core.specs.Members.{In}
 
 -- what holds of each element holds of a member
@@ -10,6 +10,11 @@ pub All-In : {X : Type 0} (P : X → Type 0) (xs : List X) (x : X) → All P xs 
 All-In P [] x all i = absurd i
 All-In P (y ∷ ys) x all (inl same) = subst P (sym same) (All-head P y ys all)
 All-In P (y ∷ ys) x all (inr i) = All-In P ys x (All-tail P y ys all) i
+
+-- what holds of each member holds of each element
+pub In-All : {X : Type 0} (P : X → Type 0) (xs : List X) → ((x : X) → In x xs → P x) → All P xs
+In-All P [] each = All-nil P
+In-All P (x ∷ xs) each = All-cons P x xs (each x (inl refl)) (In-All P xs (λ y i. each y (inr i)))
 
 -- two tests that agree at each member keep the same elements
 pub filter-agree : {X : Type 0} (p q : X → Bool) (xs : List X) → ((x : X) → In x xs → p x ≡ q x) → filter p xs ≡ filter q xs
@@ -35,6 +40,10 @@ In_either [] ys x i = inr i
 In_either (y ∷ xs) ys x (inl same) = inl (inl same)
 In_either (y ∷ xs) ys x (inr i) = ⊎_elim (λ l. inl (inr l)) (λ r. inr r) (In_either xs ys x i)
 
+-- a member of a list with one element more is one of the list, or that element
+pub In_more : {X : Type 0} (xs : List X) (y x : X) → In x (xs ++ y ∷ []) → In x xs ⊎ (x ≡ y)
+In_more xs y x i = ⊎_elim (λ j. inl j) (λ j. ⊎_elim (λ same. inr same) (λ none. absurd none) j) (In_either xs (y ∷ []) x i)
+
 -- a member of a prefix is one of the list
 pub In_take : {X : Type 0} (n : ℕ) (xs : List X) (x : X) → In x (take n xs) → In x xs
 In_take zero xs x i = absurd i
@@ -59,6 +68,17 @@ pub In_from_map : {X Y : Type 0} (f : X → Y) (xs : List X) (y : Y) → In y (m
 In_from_map f [] y i = absurd i
 In_from_map f (x ∷ xs) y (inl same) = (x, inl refl, same)
 In_from_map f (x ∷ xs) y (inr i) = let r = In_from_map f xs y i in (r.0, inr r.1, r.2)
+
+-- what a member gives is a member of what all give together
+pub In_flat_map : {X Y : Type 0} (f : X → List Y) (xs : List X) (x : X) (y : Y) → In x xs → In y (f x) → In y (flat_map f xs)
+In_flat_map f [] x y i j = absurd i
+In_flat_map f (z ∷ xs) x y (inl same) j = In_left (f z) (flat_map f xs) y (subst (λ x. In y (f x)) same j)
+In_flat_map f (z ∷ xs) x y (inr i) j = In_right (f z) (flat_map f xs) y (In_flat_map f xs x y i j)
+
+-- a member of what all give together is given by a member
+pub In_from_flat_map : {X Y : Type 0} (f : X → List Y) (xs : List X) (y : Y) → In y (flat_map f xs) → (x : X) × In x xs × In y (f x)
+In_from_flat_map f [] y i = absurd i
+In_from_flat_map f (x ∷ xs) y i = ⊎_elim (λ h. (x, inl refl, h)) (λ t. let r = In_from_flat_map f xs y t in (r.0, inr r.1, r.2)) (In_either (f x) (flat_map f xs) y i)
 
 -- a member that passes a test is one of those that pass
 pub In_filter : {X : Type 0} (p : X → Bool) (xs : List X) (x : X) → In x xs → p x ≡ true → In x (filter p xs)

@@ -1,5 +1,5 @@
 -- What another order of a list keeps.
-use Rattle.std.proofs.Common.{◌⊎◌, inl, inr, ⊎_elim, List}
+use Rattle.std.proofs.Common.{inl, inr, ⊎_elim, List}
 use Rattle.list_core.specs.Members.{In}
 use Rattle.list_core.specs.Permutations.{Perm, Done, Skip, Swap, Then}
 

@@ -1,5 +1,5 @@
 -- Dots in order, each once: after a sort, and with equal neighbours left out.
-use Rattle.std.proofs.Common.{◌≡◌, true, List, [], length, refl, sym, subst, IsPermutation}
+use Rattle.std.proofs.Common.{◌≡◌, true, List, [], refl, sym, subst, IsPermutation}
 use Rattle.std.specs.Ordering.{is_eq, eq_by_cmp}
 use Rattle.std.specs.declared.cmp.Ordering.{Ordering}
 use Rattle.std.specs.declared.cmp.Ordering.TheVariants.{Less, Equal, Greater}
@@ -9,24 +9,15 @@ use Rattle.std.specs.List.Sorted.{IsSorted, IsStrictlySortedBy}
 use Rattle.std.specs.List.Retain.{IsFiltered, DiffersFromLast}
 use Rattle.std.proofs.lemmas.Cmp.{eq_by_cmp_equiv}
 use Rattle.std.proofs.lemmas.Bool.{false≢true}
-use Rattle.std.proofs.lemmas.Option.{slice_get_within, get_or_from_slice_get, slice_get_read}
 use Rattle.std.proofs.lemmas.List.Filters.{dedup_is}
 use Rattle.std.proofs.lemmas.List.Kept.{Contains-dedup, Contains-from_dedup, IsStrictlySortedBy-dedup}
 use Rattle.std.proofs.lemmas.List.Sorted.{Contains-permutation, IsPermutation-sym}
 use Rattle.list_core.specs.Members.{In}
-use Rattle.list_core.proofs.Gets.{get_In, In_get}
+use Rattle.list_core.proofs.Gets.{In_contains, contains_In}
 use Rattle.ids_core.specs.declared.ids.Dot.{Dot}
 use Rattle.ids_core.specs.Ids.{same_dot}
 use Rattle.ids_core.specs.Orders.{dot_cmp, dot_cmp_total, dot_cmp_same}
 use Rattle.ids_core.specs.Same.{same_dot-true, same_dot-same, equivalence_of}
-
--- a member, by its place
-In_contains : {X : Type 0} (xs : List X) (x : X) → In x xs → Contains xs x
-In_contains xs x i = let g = In_get xs x i in (g.0, slice_get_within xs g.0 x g.1, get_or_from_slice_get xs g.0 x x g.1)
-
--- an element at a place is a member
-contains_In : {X : Type 0} (xs : List X) (x : X) → Contains xs x → In x xs
-contains_In xs x c = get_In xs c.0 x (slice_get_read xs (length xs) c.0 x refl c.1 (sym c.2))
 
 -- what says that it is equal is so
 is_eq-true : (o : Ordering) → is_eq o ≡ true → o ≡ Equal

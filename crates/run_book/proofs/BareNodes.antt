@@ -27,9 +27,10 @@ use Rattle.run_book.specs.Replay.{Shows, IsInRange}
 use Rattle.run_book.specs.Basis.{basis_of}
 use Rattle.run_book.specs.BareNodes.{bare_node, is_commit}
 use Rattle.run_book.proofs.Sessions.{commits_of_more}
-use Rattle.run_book.proofs.Ranges.{joined_more}
+use Rattle.list_core.proofs.Ranges.{joined_more}
 use Rattle.run_book.proofs.Replays.{in_range_at, shows_more}
-use Rattle.run_book.proofs.Bases.{wide_after, shows_basis}
+use Rattle.run_book.proofs.Growth.{wide_after}
+use Rattle.run_book.proofs.Bases.{shows_basis}
 
 -- the node of a client's open transaction, by its replay
 pub next_is : (b : Book) (clients limit capacity : ℕ) (r : Replay) (s : Client) (number rank : ℕ) (deps : List Dot) (edits : List Edit) → FitsWith b clients limit capacity → Shows r s → length s.vector ≡ b.n → number ≡ s.own + 1 → rank ≡ s.clock + 1 → deps ≡ basis_of b r → edits ≡ edits_of (draft_updates s) → record { dot = record { client = r.client; number = number }; deps = deps; rank = rank; edits = edits } ≡ bare_node (open_node b s)

@@ -1,39 +1,30 @@
 -- What the centres stamped is what a vector covers, so a replay stands on what its client stands on.
-use Rattle.std.proofs.Common.{◌≡◌, ℕ, zero, suc, ◌+◌, ◌-◌, ◌≤◌, ◌<◌, Bool, true, false, cond, List, [], ◌∷◌, ◌++◌, length, take, map, fold, Some, refl, sym, ap, ◌∙◌, subst, arith, get_or, add-one}
-use Rattle.std.specs.Prelude.{slice_get, flat_map, ◌==◌, ◌&&◌}
+use Rattle.std.proofs.Common.{◌≡◌, ℕ, zero, suc, ◌+◌, ◌-◌, ◌≤◌, ◌<◌, cond, List, [], ◌∷◌, ◌++◌, length, take, map, Some, refl, sym, ap, ◌∙◌, subst, arith, get_or, add-one}
+use Rattle.std.specs.Prelude.{slice_get, flat_map, ◌==◌}
 use Rattle.std.specs.List.{cons_option}
-use Rattle.std.proofs.lemmas.Bool.{and_parts, eq-eqb, false_from_ne_true, eqb-true}
+use Rattle.std.proofs.lemmas.Bool.{eq-eqb, false_from_ne_true, eqb-true}
 use Rattle.std.proofs.lemmas.List.FromFn.{map-range_with_len_more}
 use Rattle.std.proofs.lemmas.List.{append-nil, append_assoc, map-append, take-map, take_all, length-replicate, get_or-map}
 use Rattle.std.proofs.lemmas.List.Elements.{filter_map-append}
 use Rattle.std.proofs.lemmas.List.Sums.{fold_push}
 use Rattle.list_core.proofs.Moments.{by_moments}
+use Rattle.list_core.proofs.Ranges.{In_from_range}
 use Rattle.ids_core.specs.declared.ids.Dot.{Dot}
 use Rattle.vv_core.specs.declared.stamp.Stamp.{Stamp}
 use Rattle.vv_core.specs.Vectors.{at, centres}
 use Rattle.tx_core.specs.declared.tx.Record.{Record}
 use Rattle.dc_talk.specs.declared.ask.Ask.{Ask}
-use Rattle.dc_talk.specs.declared.ask.Ask.TheVariants.{Hello, Refresh, Fetch, Commit, Deliver}
+use Rattle.dc_talk.specs.declared.ask.Ask.TheVariants.{Commit, Deliver}
 use Rattle.dc_talk.specs.declared.say.Say.{Say}
-use Rattle.dc_talk.specs.declared.say.Say.TheVariants.{Welcome, Snap, Object, Known, Stamped, Applied}
-use Rattle.dc_talk.specs.declared.session.Call.{Call}
-use Rattle.dc_talk.specs.declared.session.Call.TheVariants.{Begin, Change as ChangeCall, Read, Commit as CommitCall, Abort}
-use Rattle.dc_talk.specs.declared.session.Outcome.{Outcome}
-use Rattle.dc_talk.specs.declared.session.Outcome.TheVariants.{Fine, Got, Number, Nothing, Refused}
-use Rattle.dc_talk.specs.declared.session.Refusal.TheVariants.{TooManyTags}
-use Rattle.dc_talk.specs.declared.log.Fate.TheVariants.{Heard}
-use Rattle.dc_talk.specs.declared.log.Deed.{Deed}
-use Rattle.dc_talk.specs.declared.log.Deed.TheVariants.{Did, Asked, Told}
-use Rattle.dc_talk.specs.declared.log.Note.{Note}
+use Rattle.dc_talk.specs.declared.say.Say.TheVariants.{Stamped, Applied}
 use Rattle.dc_talk.specs.declared.trail.Entry.{Entry}
 use Rattle.dc_talk.specs.Logs.{Logged, Kept}
 use Rattle.dc_talk.specs.Records.{own, deps_of}
 use Rattle.dc_talk.specs.Trails.{committed_in, stamp_in, delivered_in, is_applied, stamped, received, grown, applied}
 use Rattle.dc_talk.specs.Answers.{answer, History}
-use Rattle.dc_talk.specs.Clients.{Client, new_client}
-use Rattle.dc_talk.specs.Calls.{did}
-use Rattle.dc_talk.specs.Rule.{after, takes, taken, is_linked, can_follow, client_after}
-use Rattle.dc_talk.proofs.Inversions.{stamped_by, applied_by}
+use Rattle.dc_talk.specs.Clients.{Client}
+use Rattle.dc_talk.proofs.ClientAnswers.{stamped_by}
+use Rattle.dc_talk.proofs.PeerAnswers.{applied_by}
 use Rattle.run_book.specs.declared.book.Book.{Book}
 use Rattle.run_book.specs.declared.replay.Replay.{Replay}
 use Rattle.run_book.specs.Books.{entries_of}
@@ -43,9 +34,8 @@ use Rattle.run_book.specs.Graphs.{own_list, cover, own_dots, basis, client_at, b
 use Rattle.run_book.specs.Replay.{Shows}
 use Rattle.run_book.specs.Basis.{dot_stamped, stamped_dots, stamped_cover, basis_of}
 use Rattle.run_book.proofs.Lists.{flat_map-agree}
-use Rattle.run_book.proofs.Sessions.{can_follow-true}
 use Rattle.run_book.proofs.Held.{dot_at}
-use Rattle.run_book.proofs.Dots.{range_in}
+use Rattle.run_book.proofs.Growth.{wide_after}
 
 -- ---- the trail of a centre
 
@@ -106,50 +96,6 @@ own_stamped_at me n k limit trail history = by_moments (λ X. map (λ r. r.tx.do
 own_stamped : (me n k limit : ℕ) (trail : List Entry) → History me n k limit trail → map (λ r. r.tx.dot) (own me (applied n trail)) ≡ stamped_dots trail
 own_stamped me n k limit trail history = subst (λ X. map (λ r. r.tx.dot) (own me (applied n X)) ≡ stamped_dots X) (take_all (length trail) trail (omega arith)) (own_stamped_at me n k limit trail history (length trail))
 
--- ---- the width of a snapshot
-
--- a call leaves it
-wide_did : (s : Client) (call : Call) (outcome : Outcome) → length (did s call outcome).vector ≡ length s.vector
-wide_did s Begin Fine = refl
-wide_did s (ChangeCall o change) Fine = refl
-wide_did s (ChangeCall o change) (Refused (TooManyTags count)) = refl
-wide_did s (Read o) (Got value) = refl
-wide_did s CommitCall (Number number) = refl
-wide_did s CommitCall Nothing = refl
-wide_did s Abort Fine = refl
-wide_did s _ _ = refl
-
--- so does an answer that is taken
-wide_taken : (s : Client) (i : ℕ) (ask : Ask) (say : Say) → takes s i ask say ≡ true → length (taken s i ask say).vector ≡ length s.vector
-wide_taken s i (Hello c need) (Welcome through) is = refl
-wide_taken s i (Refresh c here) (Snap vector mine top) is =
-    let parts = and_parts ((c == s.client) && is_linked i s.link) (can_follow s vector mine top) is in
-    (can_follow-true s vector mine top parts.1).width
-wide_taken s i (Fetch o here) (Object state) is = refl
-wide_taken s i (Commit tx) (Stamped stamp) is = refl
-wide_taken s i (Commit tx) (Known through) is = refl
-wide_taken s i _ _ is = refl
-
--- and a deed
-wide_deed : (s : Client) (deed : Deed) → length (after s deed).vector ≡ length s.vector
-wide_deed s (Did call outcome) = wide_did s call outcome
-wide_deed s (Asked i ask (Heard say)) = go (takes s i ask say) refl
-  where
-    go : (b : Bool) → takes s i ask say ≡ b → length (cond b (taken s i ask say) s).vector ≡ length s.vector
-    go true is = wide_taken s i ask say is
-    go false is = refl
-wide_deed s (Asked i ask _) = refl
-wide_deed s (Told line) = refl
-
--- and notes
-wide_on : (s : Client) (notes : List Note) → length (fold (λ s note. after s note.deed) s notes).vector ≡ length s.vector
-wide_on s [] = refl
-wide_on s (note ∷ notes) = wide_on (after s note.deed) notes ∙ wide_deed s note.deed
-
--- a snapshot has an entry for each centre
-pub wide_after : (n client capacity : ℕ) (notes : List Note) → length (client_after n client capacity notes).vector ≡ n
-wide_after n client capacity notes = wide_on (new_client n client capacity) notes ∙ length-replicate n 0
-
 -- ---- what a vector covers
 
 -- the dots of a client's first transactions, with one more
@@ -163,7 +109,7 @@ module _ (b : Book) (clients limit capacity : ℕ) (fit : FitsWith b clients lim
   pub stamped_covers : (vector : List ℕ) → length vector ≡ b.n → stamped_cover b vector ≡ cover b vector
   stamped_covers vector wide =
       ap (λ n. flat_map (λ e. take (at vector e) (stamped_dots (trail_of b e))) (centres n)) wide
-      ∙ flat_map-agree _ _ (centres b.n) (λ e i. same e (range_in 1 b.n e i))
+      ∙ flat_map-agree _ _ (centres b.n) (λ e i. same e (In_from_range 1 b.n e i))
     where
       same : (e : ℕ) → (1 ≤ e) × (e < 1 + b.n) → take (at vector e) (stamped_dots (trail_of b e)) ≡ map (λ r. r.tx.dot) (take (at vector e) (own_list b e))
       same e range =

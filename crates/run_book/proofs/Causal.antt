@@ -1,12 +1,10 @@
 -- The causal theorem over every book that fits, each file one part of it.
-pub mod Apart
-pub mod Cover
-pub mod Answers
 pub mod Origins
-pub mod Soundness
-pub mod KnownToK
+pub mod Cover
 pub mod OneList
-pub mod Exchanges
+pub mod CentreVectors
+pub mod SessionVectors
+pub mod KnownToK
 pub mod Moments
 pub mod Commits
 pub mod ServedStates

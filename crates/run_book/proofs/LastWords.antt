@@ -15,7 +15,7 @@ use Rattle.tx_core.specs.declared.op.Op.{Op}
 use Rattle.tx_core.specs.declared.op.Op.TheVariants.{Inc, Write, Add, Remove, Put, Erase}
 use Rattle.run_book.specs.Values.{Act, Writes, IsLastWord}
 use Rattle.run_book.specs.Unseen.{written, marked_write, IsLast, IsLastOf, is_later}
-use Rattle.run_book.proofs.FilterMaps.{In_filter_map, In_from_filter_map}
+use Rattle.list_core.proofs.Passing.{In_filter_map, In_from_filter_map}
 
 -- a mark is at most itself
 upto_itself : (x : Mark) → is_le (mark_cmp x x) ≡ true

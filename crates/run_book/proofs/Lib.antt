@@ -5,6 +5,7 @@ pub mod Sessions
 pub mod Held
 pub mod Growth
 pub mod Pairing
+pub mod Snapshots
 pub mod Dots
 pub mod Served
 pub mod Causal
@@ -13,7 +14,6 @@ pub mod Reached
 pub mod TogetherFits
 pub mod TogetherSteps
 pub mod BareActs
-pub mod FilterMaps
 pub mod LastWords
 pub mod AscendingNames
 pub mod UnseenActs
@@ -21,7 +21,6 @@ pub mod PairsOfPuts
 pub mod SameValues
 pub mod Replays
 pub mod Ascending
-pub mod Ranges
 pub mod Bases
 pub mod BareNodes
 pub mod ObjectActs

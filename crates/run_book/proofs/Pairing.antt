@@ -1,17 +1,17 @@
 -- The entries of the trails and the notes of the logs, paired in a book that fits.
-use Rattle.std.proofs.Common.{◌≡◌, ℕ, zero, suc, ◌+◌, ◌≤◌, Bool, true, false, cond, List, [], ◌∷◌, length, take, Option, Some, None, refl, sym, ap, ◌∙◌, subst, arith}
+use Rattle.std.proofs.Common.{◌≡◌, ℕ, ◌+◌, ◌≤◌, Bool, true, false, cond, List, [], ◌∷◌, ◌++◌, length, take, Option, Some, None, refl, sym, ap, ◌∙◌, subst}
 use Rattle.std.specs.Prelude.{slice_get, ◌==◌}
-use Rattle.std.specs.List.{filter_map, cons_option}
+use Rattle.std.specs.List.{cons_option}
 use Rattle.std.proofs.lemmas.Bool.{eqb-true, eq-eqb}
-use Rattle.std.proofs.lemmas.Option.{none-some, same_Some, cond_some, some_pair_parts}
+use Rattle.std.proofs.lemmas.Option.{none-some, cond_some, some_pair_parts}
 use Rattle.list_core.specs.Members.{In}
 use Rattle.list_core.proofs.Members.{In_left}
+use Rattle.list_core.proofs.Passing.{kept_more, paired}
 use Rattle.tx_core.specs.declared.tx.Tx.{Tx}
 use Rattle.dc_talk.specs.declared.ask.Ask.{Ask}
 use Rattle.dc_talk.specs.declared.ask.Ask.TheVariants.{Commit}
 use Rattle.dc_talk.specs.declared.say.Say.{Say}
 use Rattle.dc_talk.specs.declared.log.Fate.{Fate}
-use Rattle.dc_talk.specs.declared.log.Fate.TheVariants.{Heard}
 use Rattle.dc_talk.specs.declared.log.Deed.{Deed}
 use Rattle.dc_talk.specs.declared.log.Deed.TheVariants.{Did, Asked, Told}
 use Rattle.dc_talk.specs.declared.log.Note.{Note}
@@ -19,50 +19,9 @@ use Rattle.dc_talk.specs.declared.trail.Entry.{Entry}
 use Rattle.dc_talk.specs.Answers.{answer}
 use Rattle.dc_talk.specs.Rule.{commits_of}
 use Rattle.run_book.specs.declared.book.Book.{Book}
-use Rattle.run_book.specs.Parts.{trail_of, notes_of, answered, exchange, exchanged_in, entry_by, IsClient}
+use Rattle.run_book.specs.Parts.{trail_of, notes_of, answered, exchange, exchanged_in, exchanged, entry_by, entries_by, IsClient}
 use Rattle.run_book.specs.Fit.{FitsWith}
 use Rattle.run_book.proofs.Sessions.{commits_of_prefix}
-
--- ---- two filters that give one list
-
--- an element that passes stands in the filtered list, behind as many as pass before it
-placed : {X C : Type 0} (f : X → Option C) (xs : List X) (m : ℕ) (x : X) (c : C) → slice_get xs m ≡ Some x → f x ≡ Some c → slice_get (filter_map f xs) (length (filter_map f (take m xs))) ≡ Some c
-placed f [] m x c there passes = absurd (none-some x there)
-placed f (y ∷ xs) zero x c there passes = ap (λ o. slice_get (cons_option o (filter_map f xs)) 0) (ap f (same_Some y x there) ∙ passes)
-placed {X} {C} f (y ∷ xs) (suc m) x c there passes = go (placed f xs m x c there passes) (f y)
-  where
-    go : slice_get (filter_map f xs) (length (filter_map f (take m xs))) ≡ Some c → (o : Option C) → slice_get (cons_option o (filter_map f xs)) (length (cons_option o (filter_map f (take m xs)))) ≡ Some c
-    go rest None = rest
-    go rest (Some d) = rest
-
--- an element that passes as c, with so many that pass before it
-pub record Found {Y C : Type 0} (g : Y → Option C) (ys : List Y) (c : C) (k : ℕ) : Type 0 where
-  pub place : ℕ
-  pub item : Y
-  pub there : slice_get ys place ≡ Some item
-  pub gives : g item ≡ Some c
-  pub before : length (filter_map g (take place ys)) ≡ k
-
--- an element of the filtered list stands in the list
-found : {Y C : Type 0} (g : Y → Option C) (ys : List Y) (k : ℕ) (c : C) → slice_get (filter_map g ys) k ≡ Some c → Found g ys c k
-found g [] k c there = absurd (none-some c there)
-found {Y} {C} g (y ∷ ys) k c there = go (λ j r. found g ys j c r) (g y) refl k there
-  where
-    later : (o : Option C) → g y ≡ o → (k j : ℕ) → length (cons_option o []) + j ≡ k → Found g ys c j → Found g (y ∷ ys) c k
-    later o is k j sum r = record { place = suc r.place; item = r.item; there = r.there; gives = r.gives; before = counted o is sum }
-      where
-        counted : (o : Option C) → g y ≡ o → length (cons_option o []) + j ≡ k → length (cons_option (g y) (filter_map g (take r.place ys))) ≡ k
-        counted None is sum = ap (λ o. length (cons_option o (filter_map g (take r.place ys)))) is ∙ (r.before ∙ omega (arith, sum))
-        counted (Some d) is sum = ap (λ o. length (cons_option o (filter_map g (take r.place ys)))) is ∙ omega (arith, r.before, sum)
-
-    go : ((j : ℕ) → slice_get (filter_map g ys) j ≡ Some c → Found g ys c j) → (o : Option C) → g y ≡ o → (k : ℕ) → slice_get (cons_option o (filter_map g ys)) k ≡ Some c → Found g (y ∷ ys) c k
-    go rest None is k there = later None is k k (omega arith) (rest k there)
-    go rest (Some d) is zero there = record { place = 0; item = y; there = refl; gives = is ∙ there; before = refl }
-    go rest (Some d) is (suc k) there = later (Some d) is (suc k) k (omega arith) (rest k there)
-
--- where two filters give one list, an element of one has its partner in the other, with as many before it
-pub paired : {X Y C : Type 0} (f : X → Option C) (g : Y → Option C) (xs : List X) (ys : List Y) (m : ℕ) (x : X) (c : C) → filter_map f xs ≡ filter_map g ys → slice_get xs m ≡ Some x → f x ≡ Some c → Found g ys c (length (filter_map f (take m xs)))
-paired f g xs ys m x c same there passes = found g ys _ c (ap (λ l. slice_get l (length (filter_map f (take m xs)))) (sym same) ∙ placed f xs m x c there passes)
 
 -- ---- what an exchange is
 
@@ -85,20 +44,39 @@ exchanged_is i (Asked j ask' fate) ask say gives = go (j == i) refl (answered fa
 exchanged_is i (Did call outcome) ask say gives = absurd (none-some (ask, say) gives)
 exchanged_is i (Told line) ask say gives = absurd (none-some (ask, say) gives)
 
--- a heard answer is an exchange
-heard_exchanged : (i : ℕ) (ask : Ask) (say : Say) → exchanged_in i (Asked i ask (Heard say)) ≡ Some (ask, say)
-heard_exchanged i ask say = ap (λ b. exchange b ask (Some say)) (eq-eqb i i refl)
+-- an ask that the centre answered is an exchange
+exchanges : (i : ℕ) (ask : Ask) (say : Say) (fate : Fate) → answered fate ≡ Some say → exchanged_in i (Asked i ask fate) ≡ Some (ask, say)
+exchanges i ask say fate told = ap (λ t. exchange t ask (answered fate)) (eq-eqb i i refl) ∙ ap (exchange true ask) told
+
+-- with one more note that exchanged something there is one more exchange
+pub one_exchange : (i : ℕ) (X : List Note) (note : Note) (ask : Ask) (say : Say) (fate : Fate) → note.deed ≡ Asked i ask fate → answered fate ≡ Some say → length (exchanged i (X ++ note ∷ [])) ≡ length (exchanged i X) + 1
+one_exchange i X note ask say fate is told = kept_more (λ (note : Note). exchanged_in i note.deed) X note ∙ ap (λ o. length (exchanged i X) + length (cons_option o [])) (ap (exchanged_in i) is ∙ exchanges i ask say fate told)
+
+-- the entry of what actor a exchanged with centre i after the notes X: as many entries of the actor stand
+-- before it as there are exchanges in X, and it is the centre's answer
+pub record HasEntry (b : Book) (limit a i : ℕ) (ask : Ask) (say : Say) (X : List Note) : Type 0 where
+  pub low : 1 ≤ i
+  pub high : i ≤ b.n
+  pub place : ℕ
+  pub entry : Entry
+  pub there : slice_get (trail_of b i) place ≡ Some entry
+  pub caller : entry.caller ≡ a
+  pub ask_is : entry.ask ≡ ask
+  pub say_is : entry.say ≡ say
+  pub own : entry_by a entry ≡ Some (ask, say)
+  pub before : length (entries_by a (take place (trail_of b i))) ≡ length (exchanged i X)
+  pub is : say ≡ answer i b.n b.k limit (take place (trail_of b i)) ask
 
 module _ (b : Book) (clients limit capacity : ℕ) (fit : FitsWith b clients limit capacity) where
   -- the note of an entry
-  pub record Noted (i : ℕ) (entry : Entry) : Type 0 where
+  pub record HasNote (i : ℕ) (entry : Entry) : Type 0 where
     pub place : ℕ
     pub note : Note
     pub there : slice_get (notes_of b entry.caller) place ≡ Some note
     pub exchanged : IsExchange i note.deed entry.ask entry.say
 
   -- each entry of a trail has its note, in its caller's log
-  pub entry_noted : (i p : ℕ) (entry : Entry) → 1 ≤ i → i ≤ b.n → slice_get (trail_of b i) p ≡ Some entry → Noted i entry
+  pub entry_noted : (i p : ℕ) (entry : Entry) → 1 ≤ i → i ≤ b.n → slice_get (trail_of b i) p ≡ Some entry → HasNote i entry
   entry_noted i p entry low high there =
       let caller = fit.form.callers i p entry there in
       let same = fit.paired i entry.caller low high caller.0 caller.1 in
@@ -124,18 +102,24 @@ module _ (b : Book) (clients limit capacity : ℕ) (fit : FitsWith b clients lim
         there = subst (λ C. In tx C) (sym prefix.1) (In_left _ prefix.0 tx (subst (λ a. In tx (commits_of b.n tx.dot.client capacity (take m (notes_of b a)))) (sym same) home.committed));
       }
 
-  -- the answer that a log heard is the centre's, after some entries
-  pub record Answered (i : ℕ) (ask : Ask) (say : Say) : Type 0 where
-    pub place : ℕ
-    pub is : say ≡ answer i b.n b.k limit (take place (trail_of b i)) ask
-
-  -- each answer that was heard is the centre's
-  pub heard_answered : (a m : ℕ) (note : Note) (i : ℕ) (ask : Ask) (say : Say) → 1 ≤ a → a ≤ length b.logs → slice_get (notes_of b a) m ≡ Some note → note.deed ≡ Asked i ask (Heard say) → Answered i ask say
-  heard_answered a m note i ask say low high there is =
-      let range = fit.form.centres a m note i ask (Heard say) there is in
-      let same = fit.paired i a range.0 range.1 low high in
-      let gives : exchanged_in i note.deed ≡ Some (ask, say) = ap (exchanged_in i) is ∙ heard_exchanged i ask say in
-      let f = paired (λ (note : Note). exchanged_in i note.deed) (entry_by a) (notes_of b a) (trail_of b i) m note (ask, say) (sym same) there gives in
+  -- each ask that a log tells of, and that was answered, has its entry
+  pub has_entry : (a m : ℕ) (note : Note) (i : ℕ) (ask : Ask) (fate : Fate) (say : Say) → 1 ≤ a → a ≤ length b.logs → slice_get (notes_of b a) m ≡ Some note → note.deed ≡ Asked i ask fate → answered fate ≡ Some say → HasEntry b limit a i ask say (take m (notes_of b a))
+  has_entry a m note i ask fate say low high there is told =
+      let range = fit.form.centres a m note i ask fate there is in
+      let gives : exchanged_in i note.deed ≡ Some (ask, say) = ap (exchanged_in i) is ∙ exchanges i ask say fate told in
+      let f = paired (λ (note : Note). exchanged_in i note.deed) (entry_by a) (notes_of b a) (trail_of b i) m note (ask, say) (sym (fit.paired i a range.0 range.1 low high)) there gives in
       let parts = cond_some (f.item.caller == a) (f.item.ask, f.item.say) (ask, say) f.gives in
-      let history = (fit.histories i range.0 range.1).by f.place f.item f.there in
-      record { place = f.place; is = sym (ap (λ (e : Ask × Say). e.1) parts.1) ∙ (history ∙ ap (λ (e : Ask × Say). answer i b.n b.k limit (take f.place (trail_of b i)) e.0) parts.1) }
+      let same = some_pair_parts f.item.ask ask f.item.say say (ap Some parts.1) in
+      record {
+        low = range.0;
+        high = range.1;
+        place = f.place;
+        entry = f.item;
+        there = f.there;
+        caller = eqb-true f.item.caller a parts.0;
+        ask_is = same.0;
+        say_is = same.1;
+        own = f.gives;
+        before = f.before;
+        is = sym same.1 ∙ ((fit.histories i range.0 range.1).by f.place f.item f.there ∙ ap (answer i b.n b.k limit (take f.place (trail_of b i))) same.0);
+      }

@@ -17,7 +17,7 @@ use Rattle.run_book.specs.declared.unseen.UnseenPut.{UnseenPut}
 use Rattle.run_book.specs.Values.{Act, put, IsUnseenPut, IsWordAt, IsMapOver}
 use Rattle.run_book.specs.Acts.{HasUniqueMarks}
 use Rattle.run_book.specs.Unseen.{unseen_put, word_under, IsLast, ArePairsOf}
-use Rattle.run_book.proofs.FilterMaps.{In_filter_map, In_from_filter_map}
+use Rattle.list_core.proofs.Passing.{In_filter_map, In_from_filter_map}
 use Rattle.run_book.proofs.UnseenActs.{put_of, of_put, kept_of}
 use Rattle.ids_core.proofs.Orders.{one_mark}
 

@@ -1,11 +1,10 @@
 -- The acts in a book that fits are few and apart, so the value that is computed is the one that is defined.
 use Rattle.std.proofs.Common.{◌≡◌, ℕ, ◌-◌, ◌≤◌, ◌<◌, ◌^◌, List, [], ◌++◌, length, take, map, Some, Ok, Err, Result, refl, sym, ap, ◌∙◌, subst, arith}
 use Rattle.std.specs.Prelude.{slice_get, flat_map, All, IfOk}
-use Rattle.std.proofs.lemmas.Option.{same_Some, get_or_from_slice_get}
+use Rattle.std.proofs.lemmas.Option.{same_Some}
 use Rattle.std.proofs.lemmas.List.{append-nil}
 use Rattle.list_core.specs.Members.{In}
-use Rattle.list_core.proofs.Members.{In_from_map}
-use Rattle.list_core.proofs.Gets.{get_within, get_In}
+use Rattle.list_core.proofs.Members.{In-All, In_from_map}
 use Rattle.ids_core.specs.declared.ids.Dot.{Dot}
 use Rattle.ids_core.specs.declared.object.ObjectId.{ObjectId}
 use Rattle.ids_core.specs.declared.object.Sort.TheVariants as sort
@@ -29,7 +28,7 @@ use Rattle.run_book.specs.BareNodes.{bare_node}
 use Rattle.run_book.specs.ReadValues.{read_in, read_of}
 use Rattle.run_book.proofs.Sessions.{IsModest, modest_none}
 use Rattle.run_book.proofs.Replays.{in_range_at}
-use Rattle.run_book.proofs.Bases.{wide_after}
+use Rattle.run_book.proofs.Growth.{wide_after}
 use Rattle.run_book.proofs.BareActs.{sum_over}
 use Rattle.run_book.proofs.Causal.Closure.{made, session_held}
 use Rattle.run_book.proofs.Causal.CommitMoments.{commit_modest}
@@ -37,12 +36,6 @@ use Rattle.run_book.proofs.Causal.Sums.{sum_fits}
 use Rattle.run_book.proofs.Causal.Views.{well_issued, open_over}
 use Rattle.run_book.proofs.Causal.OneValue.{unique_marks, unique_marks_in}
 use Rattle.run_book.proofs.Causal.Theorem.{values}
-
--- what holds of each member of a list, holds of each element
-all_members : {X : Type 0} (P : X → Type 0) (xs : List X) → ((x : X) → In x xs → P x) → All P xs
-all_members P xs each = λ p d lt.
-    let g = get_within xs p lt in
-    subst P (sym (get_or_from_slice_get xs p g.0 d g.1)) (each g.0 (get_In xs p g.0 g.1))
 
 -- what holds of the value of a result, where there is one
 pub ok_from : {T E : Type 0} (r : Result T E) (P : T → Type 0) → ((value : T) → r ≡ Ok value → P value) → IfOk r P
@@ -55,7 +48,7 @@ module _ (b : Book) (clients limit capacity : ℕ) (fit : FitsWith b clients lim
 
   -- each transaction has few updates
   pub few_updates : All (λ t. length t.updates ≤ 256) (graph b clients capacity)
-  few_updates = all_members (λ (t : Node). length t.updates ≤ 256) nodes few
+  few_updates = In-All (λ (t : Node). length t.updates ≤ 256) nodes few
     where
       few : (t : Node) → In t nodes → length t.updates ≤ 256
       few t i =

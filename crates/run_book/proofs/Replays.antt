@@ -2,8 +2,7 @@
 use Rattle.std.proofs.Common.{◌≡◌, ℕ, ◌+◌, ◌-◌, min, max, Bool, true, false, cond, List, take, Option, Some, None, refl, sym, ap, ◌∙◌, subst, arith, add-one}
 use Rattle.std.specs.Prelude.{slice_get}
 use Rattle.std.specs.Option.{option_map}
-use Rattle.std.proofs.lemmas.List.Sums.{fold_push}
-use Rattle.list_core.proofs.Moments.{take_one_more}
+use Rattle.list_core.proofs.Moments.{each_take}
 use Rattle.dc_talk.specs.declared.ask.Ask.{Ask}
 use Rattle.dc_talk.specs.declared.ask.Ask.TheVariants.{Hello, Refresh, Fetch, Commit}
 use Rattle.dc_talk.specs.declared.say.Say.{Say}
@@ -13,12 +12,12 @@ use Rattle.dc_talk.specs.declared.log.Note.{Note}
 use Rattle.dc_talk.specs.Clients.{Client, new_client}
 use Rattle.dc_talk.specs.Logs.{Logged}
 use Rattle.dc_talk.specs.Rule.{heard, takes, taken, sent_through, after, client_after, Allows, Follows}
-use Rattle.dc_talk.proofs.Growing.{each_take}
 use Rattle.run_book.specs.declared.book.Book.{Book}
 use Rattle.run_book.specs.declared.replay.Replay.{Replay}
 use Rattle.run_book.specs.Parts.{log_of, notes_of, IsClient}
 use Rattle.run_book.specs.Fit.{FitsWith}
 use Rattle.run_book.specs.Replay.{Shows, IsInRange}
+use Rattle.run_book.proofs.Sessions.{after_more}
 use Rattle.run_book.proofs.Growth.{numbers}
 
 -- what is sent changes no centre
@@ -57,15 +56,10 @@ in_range_at n client capacity m notes follows =
     let h = numbers n client capacity notes follows m in
     record { own = omega (arith, h.clock.0, h.clock.1); clock = h.clock.1 }
 
--- the client after one more note
-after_more : (n client capacity m : ℕ) (notes : List Note) (note : Note) → slice_get notes m ≡ Some note → client_after n client capacity (take (m + 1) notes) ≡ after (client_after n client capacity (take m notes)) note.deed
-after_more n client capacity m notes note there =
-    rw add-one (ap (client_after n client capacity) (take_one_more notes m note there) ∙ fold_push (λ s note. after s note.deed) (new_client n client capacity) (take m notes) note)
-
 -- a replay that goes on by the next note shows the client after it
 pub shows_more : (n client capacity m : ℕ) (notes : List Note) (note : Note) (old new : Replay) → Follows n client capacity notes → slice_get notes m ≡ Some note → ((s : Client) → Shows old s → IsInRange s → Shows new (after s note.deed)) → Shows old (client_after n client capacity (take m notes)) → Shows new (client_after n client capacity (take (m + 1) notes))
 shows_more n client capacity m notes note old new follows there goes_on shows =
-    subst (λ s. Shows new s) (sym (after_more n client capacity m notes note there))
+    subst (λ s. Shows new s) (sym (rw add-one (after_more n client capacity m notes note there)))
     (goes_on (client_after n client capacity (take m notes)) shows (in_range_at n client capacity m notes follows))
 
 -- the replay of a client's log before its first note

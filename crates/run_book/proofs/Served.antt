@@ -1,5 +1,5 @@
 -- What a centre serves lies within what it has applied, and what a cache has was kept.
-use Rattle.std.proofs.Common.{◌≡◌, ℕ, zero, suc, ◌+◌, ◌≤◌, Bool, true, false, cond, ◌&&◌, ◌⊎◌, inl, inr, List, [], ◌∷◌, length, take, Option, Some, None, refl, sym, ap, ◌∙◌, arith}
+use Rattle.std.proofs.Common.{◌≡◌, ℕ, Bool, true, false, cond, ◌⊎◌, inl, inr, List, ◌∷◌, Option, Some, None, refl, ap, arith}
 use Rattle.std.specs.Prelude.{is_some}
 use Rattle.std.specs.Option.{option_map}
 use Rattle.std.proofs.lemmas.Bool.{and_parts}
@@ -7,13 +7,14 @@ use Rattle.std.proofs.lemmas.Bool.Decides.{Decides-eqb}
 use Rattle.std.proofs.lemmas.Option.{none-some, same_Some}
 use Rattle.std.specs.Cmp.Lexicographic.{pointwise_decides}
 use Rattle.list_core.specs.Members.{In}
-use Rattle.list_core.specs.Firsts.{first_that, without_first, in_front, brought_forward}
+use Rattle.list_core.specs.Firsts.{first_that, without_first}
 use Rattle.list_core.proofs.Members.{In_take}
+use Rattle.list_core.proofs.Firsts.{first_that_some, In_without_first, In_brought_forward}
 use Rattle.ids_core.specs.declared.object.ObjectId.{ObjectId}
 use Rattle.ids_core.specs.Ids.{same_object}
 use Rattle.ids_core.specs.Same.{same_object-true}
 use Rattle.vv_core.specs.Vectors.{at, Covers, kth_largest}
-use Rattle.vv_core.proofs.Covering.{covers-true, Covers_join, Covers-meet_right}
+use Rattle.vv_core.proofs.Covering.{Covers_join, Covers-meet_right}
 use Rattle.tx_core.specs.declared.state.State.{State}
 use Rattle.tx_core.specs.declared.state.Value.{Value}
 use Rattle.tx_core.specs.States.{value_of}
@@ -26,7 +27,7 @@ use Rattle.dc_talk.specs.Records.{vector}
 use Rattle.dc_talk.specs.Trails.{applied, rows, stable}
 use Rattle.dc_talk.specs.Clients.{Client, same_vector, is_entry, cached, kept, promoted, view}
 use Rattle.dc_talk.specs.Calls.{named, looked_up}
-use Rattle.dc_talk.proofs.Inversions.{SnapBy}
+use Rattle.dc_talk.proofs.ClientAnswers.{SnapBy}
 
 -- ---- a snapshot
 
@@ -37,38 +38,8 @@ stable_within me n k trail = Covers-meet_right (kth_largest k (rows me n trail))
 -- and so does the vector of a snapshot
 pub snap_within : (me n k : ℕ) (trail : List Entry) (client : ℕ) (here w : List ℕ) (own_number top_rank : ℕ) → SnapBy me n k trail client here w own_number top_rank → Covers (vector n (applied n trail)) w
 snap_within me n k trail client here w own_number top_rank snap =
-    let joined = Covers_join (vector n (applied n trail)) here (stable me n k trail) (covers-true (vector n (applied n trail)) here snap.covered) (stable_within me n k trail) in
+    let joined = Covers_join (vector n (applied n trail)) here (stable me n k trail) snap.covered (stable_within me n k trail) in
     record { by = λ e. omega (arith, joined.by e, ap (λ v. at v e) snap.vector_is) }
-
--- ---- the first that passes, and the others
-
--- the first that passes is a member, and passes
-first_that_some : {X : Type 0} (p : X → Bool) (xs : List X) (x : X) → first_that p xs ≡ Some x → In x xs × (p x ≡ true)
-first_that_some p [] x is = absurd (none-some x is)
-first_that_some {X} p (y ∷ xs) x is = go (λ rest. first_that_some p xs x rest) (p y) refl is
-  where
-    go : (first_that p xs ≡ Some x → In x xs × (p x ≡ true)) → (b : Bool) → p y ≡ b → cond b (Some y) (first_that p xs) ≡ Some x → In x (y ∷ xs) × (p x ≡ true)
-    go rest true passes is = (inl (sym (same_Some y x is)), ap p (sym (same_Some y x is)) ∙ passes)
-    go rest false passes is = let r = rest is in (inr r.0, r.1)
-
--- what is left was there
-In_without_first : {X : Type 0} (p : X → Bool) (xs : List X) (x : X) → In x (without_first p xs) → In x xs
-In_without_first p [] x i = i
-In_without_first {X} p (y ∷ xs) x i = go (λ j. In_without_first p xs x j) (p y) i
-  where
-    go : (In x (without_first p xs) → In x xs) → (b : Bool) → In x (cond b xs (y ∷ without_first p xs)) → In x (y ∷ xs)
-    go rest true i = inr i
-    go rest false (inl same) = inl same
-    go rest false (inr i) = inr (rest i)
-
--- what is brought forward was there
-In_brought_forward : {X : Type 0} (p : X → Bool) (xs : List X) (x : X) → In x (brought_forward p xs) → In x xs
-In_brought_forward {X} p xs x i = go (first_that p xs) refl i
-  where
-    go : (o : Option X) → first_that p xs ≡ o → In x (in_front o (without_first p xs)) → In x xs
-    go None is i = In_without_first p xs x i
-    go (Some y) is (inl same) = Rattle.std.proofs.Common.subst (λ x. In x xs) (sym same) (first_that_some p xs y is).0
-    go (Some y) is (inr i) = In_without_first p xs x i
 
 -- ---- the cache
 

@@ -1,12 +1,13 @@
 -- What the log of one client tells by itself: its commits, its numbers and its open transaction.
-use Rattle.std.proofs.Common.{◌≡◌, ℕ, ◌+◌, ◌*◌, ◌≤◌, ◌<◌, Bool, true, false, cond, List, [], ◌∷◌, ◌++◌, length, take, drop, fold, unsigned_abs, Option, Some, None, refl, sym, ap, ◌∙◌, subst, arith}
+use Rattle.std.proofs.Common.{◌≡◌, ℕ, suc, ◌+◌, ◌*◌, ◌≤◌, ◌<◌, Bool, true, false, cond, List, [], ◌∷◌, ◌++◌, length, take, drop, fold, unsigned_abs, Option, Some, None, refl, sym, ap, ◌∙◌, subst, arith}
 use Rattle.std.specs.Prelude.{◌==◌, nat_le, not, is_none, is_some, slice_get}
 use Rattle.std.specs.List.{cons_option}
 use Rattle.std.proofs.lemmas.Bool.{and_parts, leb-true, leb-false, eqb-true, not-false}
 use Rattle.std.proofs.lemmas.List.Sums.{fold_push}
 use Rattle.std.proofs.lemmas.List.{append-nil, append_assoc, drop-drop, drop-append-le, length-append}
 use Rattle.list_core.specs.Choices.{when}
-use Rattle.list_core.proofs.Moments.{by_moments}
+use Rattle.list_core.proofs.Choices.{is_none_true, when_some, when_none, last_of}
+use Rattle.list_core.proofs.Moments.{take_one_more, by_moments}
 use Rattle.ids_core.specs.declared.ids.OpId.{OpId}
 use Rattle.ids_core.specs.declared.object.ObjectId.{ObjectId}
 use Rattle.ids_core.specs.Ids.{same_sort, same_object}
@@ -28,7 +29,6 @@ use Rattle.dc_talk.specs.Clients.{Client, new_client, draft_updates}
 use Rattle.dc_talk.specs.Calls.{most_rank, most_updates, kind_of, named, op_of, is_modest, viewed, look_up_outcome, begin_outcome, change_outcome, commit_outcome}
 use Rattle.dc_talk.specs.Rule.{after, can_follow, client_after, commit_in, commits_from, commits_of}
 use Rattle.run_book.specs.Values.{delta_of, deltas_of}
-use Rattle.dc_talk.proofs.Inversions.{last_of, when_some, when_none, is_none_true}
 use Rattle.run_book.proofs.Sizes.{sizes-append, deltas_of-append}
 
 -- ---- the commits of a log
@@ -56,6 +56,10 @@ commits_of_prefix n client capacity m notes = (
   commits_from (client_after n client capacity (take m notes)) (drop m notes),
   ap (commits_of n client capacity) (sym (Rattle.std.proofs.lemmas.List.take-append-drop m notes)) ∙ commits_from-append (new_client n client capacity) (take m notes) (drop m notes),
 )
+
+-- the client with one note more
+pub after_more : (n client capacity m : ℕ) (notes : List Note) (note : Note) → slice_get notes m ≡ Some note → client_after n client capacity (take (suc m) notes) ≡ after (client_after n client capacity (take m notes)) note.deed
+after_more n client capacity m notes note there = ap (client_after n client capacity) (take_one_more notes m note there) ∙ fold_push (λ s note. after s note.deed) (new_client n client capacity) (take m notes) note
 
 -- what holds of a client at first, and goes on from each note to the next, holds at each moment of its log
 pub by_notes : (n client capacity : ℕ) (notes : List Note) (P : Client → List Tx → Type 0) → P (new_client n client capacity) [] → ((p : ℕ) (note : Note) → slice_get notes p ≡ Some note → P (client_after n client capacity (take p notes)) (commits_of n client capacity (take p notes)) → P (after (client_after n client capacity (take p notes)) note.deed) (commits_of n client capacity (take p notes) ++ commit_in (client_after n client capacity (take p notes)) note.deed)) → (m : ℕ) → P (client_after n client capacity (take m notes)) (commits_of n client capacity (take m notes))

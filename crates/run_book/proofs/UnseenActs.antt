@@ -14,7 +14,7 @@ use Rattle.tx_core.specs.declared.op.Op.{Op}
 use Rattle.run_book.specs.declared.unseen.UnseenPut.{UnseenPut}
 use Rattle.run_book.specs.Values.{Act, sees, added, removed, put, erased, IsUnseenAdd, IsSetOver, IsUnseenPut}
 use Rattle.run_book.specs.Unseen.{is_name, is_taken, unseen, unseen_add, unseen_put}
-use Rattle.run_book.proofs.FilterMaps.{In_filter_map, In_from_filter_map}
+use Rattle.list_core.proofs.Passing.{In_filter_map, In_from_filter_map}
 
 -- ---- names
 

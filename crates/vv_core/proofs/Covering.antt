@@ -1,11 +1,11 @@
 -- The order of vectors, its test, and the first lack.
 use Rattle.std.proofs.Common.{◌≡◌, ◌≤◌, ◌<◌, ◌↔◌, ℕ, zero, suc, ◌+◌, ◌-◌, Bool, true, false, cond, leb, ltb, List, [], ◌∷◌, length, get_or, drop, Option, Some, None, IsTrue, refl, sym, ap, ◌∙◌, arith, ⊎_elim, inl, inr, ◌⊎◌}
 use Rattle.std.specs.Prelude.{slice_index}
-use Rattle.std.proofs.lemmas.Bool.{cases_Bool, and_parts, and_from, leb-true, le-leb, ltb-true, ltb-false, lt-ltb, le-ltb, cond-true, cond-false, false≢true}
+use Rattle.std.proofs.lemmas.Bool.{cases_Bool, cases_lt, and_parts, and_from, leb-true, le-leb, ltb-true, ltb-false, lt-ltb, le-ltb, cond-true, cond-false, false≢true}
 use Rattle.std.proofs.lemmas.Option.{none-some, same_Some}
 use Rattle.vv_core.specs.declared.stamp.Lack.{Lack}
-use Rattle.vv_core.specs.Vectors.{at, Covers, covers, join_of, meet_of, lack_or, lack_from, lack_of, IsFirstLack}
-use Rattle.vv_core.proofs.Entrywise.{at-join_of, at-meet_of, same_vectors}
+use Rattle.vv_core.specs.Vectors.{at, Covers, covers, tabulate, join_of, meet_of, lack_or, lack_from, lack_of, IsFirstLack}
+use Rattle.vv_core.proofs.Entrywise.{at-join_of, at-meet_of, at_past, at-tabulate, same_vectors}
 
 -- ---- the order
 
@@ -35,6 +35,18 @@ Covers-meet_right v w = record { by = λ e. omega (arith, at-meet_of v w e) }
 
 pub Covers_meet : (u v w : List ℕ) → Covers u w → Covers v w → Covers (meet_of u v) w
 Covers_meet u v w left right = record { by = λ e. omega (arith, at-meet_of u v e, left.by e, right.by e) }
+
+-- a vector of what stands at each centre covers one of n entries that are no greater
+pub Covers-tabulate : (n : ℕ) (f : ℕ → ℕ) (v : List ℕ) → length v ≡ n → ((e : ℕ) → at v e ≤ f e) → Covers (tabulate n f) v
+Covers-tabulate n f v wide le = record { by = each }
+  where
+    each : (e : ℕ) → at v e ≤ at (tabulate n f) e
+    each zero = omega arith
+    each (suc e) =
+        ⊎_elim
+        (λ past. omega (arith, at_past v (suc e) (omega (arith, wide, past))))
+        (λ few. omega (arith, le (suc e), at-tabulate n (suc e) f (omega arith) few))
+        (cases_lt n (suc e))
 
 -- ---- the test says it
 

@@ -1,5 +1,5 @@
 -- What each definition on vectors is at each centre, and how many entries it has.
-use Rattle.std.proofs.Common.{◌≡◌, ◌≢◌, ◌≤◌, ◌<◌, ℕ, zero, suc, ◌+◌, add-one, set, get_or-set_same, get_or-set_other, max, min, Bool, true, false, cond, List, [], ◌∷◌, length, get_or, refl, sym, ap, ◌∙◌, arith, ⊎_elim}
+use Rattle.std.proofs.Common.{◌≡◌, ◌≢◌, ◌≤◌, ◌<◌, ℕ, zero, suc, ◌+◌, add-one, set, get_or-set_same, get_or-set_other, max, min, Bool, true, false, cond, List, [], ◌∷◌, length, get_or, map, refl, sym, ap, ◌∙◌, arith, ⊎_elim}
 use Rattle.std.proofs.lemmas.List.{length-set}
 use Rattle.std.specs.Prelude.{if◌then◌else◌, ◌==◌}
 use Rattle.std.proofs.Math.ListN.{get_or-eq_default}
@@ -7,7 +7,7 @@ use Rattle.std.proofs.lemmas.Bool.{cases_lt, cases_eq, eq-eqb, ne_eqb}
 use Rattle.std.proofs.lemmas.Grind.{same_number_lists}
 use Rattle.std.proofs.lemmas.List.FromFn.{get_or-map-range_with_len, length-map-range_with_len}
 use Rattle.vv_core.specs.declared.stamp.Stamp.{Stamp}
-use Rattle.vv_core.specs.Vectors.{at, zeros, join_of, meet_of, tabulate, only, raised, width_of, kth_largest}
+use Rattle.vv_core.specs.Vectors.{at, zeros, centres, join_of, meet_of, tabulate, only, raised, width_of, kth_largest}
 
 -- ---- how many entries
 
@@ -36,6 +36,11 @@ length-raised v s = omega (arith, length-join_of v (only (length v) s), length-o
 
 pub length-kth_largest : (k : ℕ) (rows : List (List ℕ)) → length (kth_largest k rows) ≡ width_of rows
 length-kth_largest k rows = length-tabulate (width_of rows) _
+
+-- rows that are all of one width
+pub width_of-rows : (row : ℕ → List ℕ) (n wide : ℕ) → 1 ≤ n → ((j : ℕ) → length (row j) ≡ wide) → width_of (map row (centres n)) ≡ wide
+width_of-rows row zero wide low even = absurd (omega (arith, low))
+width_of-rows row (suc n) wide low even = even 1
 
 -- ---- each entry
 

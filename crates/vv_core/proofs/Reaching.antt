@@ -1,9 +1,8 @@
 -- How many of a list reach a number, and the greatest number that k of them reach.
 use Rattle.std.proofs.Common.{◌≡◌, ◌≤◌, ◌<◌, ℕ, zero, suc, ◌+◌, max, Bool, true, false, cond, leb, List, [], ◌∷◌, length, get_or, drop, map, add-one, refl, sym, ap, ◌∙◌, subst, arith, ⊎_elim, inl, inr, ◌⊎◌}
-use Rattle.std.specs.Prelude.{filter, count_by, All}
+use Rattle.std.specs.Prelude.{filter, count_by}
 use Rattle.std.proofs.lemmas.Bool.{cases_lt, leb-true, le-leb, false≢true}
 use Rattle.std.proofs.lemmas.List.Sums.{sum_by-cons}
-use Rattle.std.proofs.lemmas.List.Elements.{All-head, All-tail}
 use Rattle.list_core.specs.Members.{In}
 use Rattle.list_core.proofs.Members.{In_filter, In_from_filter}
 use Rattle.vv_core.specs.Vectors.{at, most, reach, kth_of, column}

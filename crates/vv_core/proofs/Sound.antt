@@ -40,7 +40,7 @@ kth_largest_reached k e rows few =
     (at-tabulate_le (width_of rows) e (λ e. kth_of k (column e rows)))
 
 -- what is some and within it at a centre, K rows reach there
-reached_by_rows : (k e m : ℕ) (rows : List (List ℕ)) → 1 ≤ m → m ≤ at (kth_largest k rows) e → k ≤ count_by (λ row. leb m (at row e)) rows
+pub reached_by_rows : (k e m : ℕ) (rows : List (List ℕ)) → 1 ≤ m → m ≤ at (kth_largest k rows) e → k ≤ count_by (λ row. leb m (at row e)) rows
 reached_by_rows k e m rows some low =
     let le : m ≤ kth_of k (column e rows) = omega (arith, low, at-tabulate_le (width_of rows) e (λ e. kth_of k (column e rows))) in
     omega (arith, reach-column m e rows, kth_of_reached_some k m (column e rows) some le)

@@ -1,73 +1,33 @@
 -- What a vector covers with what is pending is the basis, each transaction once.
-use Rattle.std.proofs.Common.{◌≡◌, ℕ, zero, suc, ◌+◌, ◌-◌, ◌*◌, ◌≤◌, ◌<◌, ◌^◌, ℤ, ◌+ℤ◌, pos, Bool, true, false, cond, inl, inr, ⊎_elim, List, [], ◌∷◌, ◌++◌, length, take, drop, fold, Option, Some, refl, sym, ap, ◌∙◌, subst, arith}
-use Rattle.std.specs.Prelude.{slice_get, filter, flat_map}
-use Rattle.std.specs.List.{filter_map, range_with_len}
+use Rattle.std.proofs.Common.{◌≡◌, ℕ, ◌+◌, ◌-◌, ◌≤◌, ◌<◌, true, ⊎_elim, List, ◌++◌, drop, sym, ap, ◌∙◌, subst, arith}
+use Rattle.std.specs.Prelude.{filter}
 use Rattle.std.proofs.lemmas.Bool.{cases_lt}
-use Rattle.std.proofs.lemmas.Int.{ints}
-use Rattle.std.proofs.lemmas.Option.{none-some, same_Some}
-use Rattle.std.proofs.lemmas.List.{append_assoc, length-append}
-use Rattle.std.proofs.lemmas.List.Elements.{filter_map-append}
-use Rattle.std.proofs.lemmas.List.Concat.{flat_map-append}
-use Rattle.std.proofs.lemmas.List.Folds.{flat_map-map}
-use Rattle.std.proofs.lemmas.List.Sums.{fold-append}
+use Rattle.std.proofs.lemmas.Option.{slice_get_within}
 use Rattle.list_core.specs.Members.{In}
-use Rattle.list_core.specs.Permutations.{Perm, Done, Skip, Swap, Then}
+use Rattle.list_core.specs.Permutations.{Perm}
 use Rattle.list_core.proofs.Members.{In_left, In_right, In_either, In_filter, In_from_filter}
-use Rattle.list_core.proofs.Gets.{get_in_drop, get_In, In_get}
+use Rattle.list_core.proofs.Gets.{get_in_drop, get_In, get_In_drop, In_get}
+use Rattle.list_core.proofs.Apart.{Apart, apart_append, apart_filter, apart_drop, same_members}
 use Rattle.ids_core.specs.declared.ids.Dot.{Dot}
-use Rattle.ids_core.specs.declared.ids.Mark.{Mark}
 use Rattle.ids_core.specs.declared.object.ObjectId.{ObjectId}
-use Rattle.ids_core.specs.declared.object.Sort.TheVariants as sort
-use Rattle.obj_counter.specs.Counter.{added, total, sizes}
-use Rattle.obj_counter.proofs.Totals.{fold-added_exact}
-use Rattle.tx_core.specs.declared.op.Op.{Op}
-use Rattle.tx_core.specs.declared.op.Op.TheVariants.{Inc, Write, Add, Remove, Put, Erase}
 use Rattle.tx_core.specs.declared.tx.Tx.{Tx}
 use Rattle.tx_core.specs.declared.state.State.{State}
-use Rattle.tx_core.specs.declared.state.State.TheVariants.{Counter}
-use Rattle.tx_core.specs.declared.state.Value.{Value}
-use Rattle.tx_core.specs.declared.state.Value.TheVariants.{Number}
-use Rattle.tx_core.specs.States.{empty_of, step, fold_of, value_of}
-use Rattle.dc_talk.specs.declared.session.Outcome.TheVariants.{Got}
 use Rattle.dc_talk.specs.Records.{has}
-use Rattle.dc_talk.specs.Objects.{ops_from, ops_of}
-use Rattle.dc_talk.specs.Clients.{Client, cached, next_dot, draft_updates, view}
-use Rattle.dc_talk.specs.Calls.{read_outcome}
-use Rattle.dc_talk.specs.Rule.{client_after, commits_of, Allows}
+use Rattle.dc_talk.specs.Clients.{Client}
 use Rattle.run_book.specs.declared.book.Book.{Book}
-use Rattle.run_book.specs.Parts.{notes_of, IsClient}
+use Rattle.run_book.specs.Parts.{IsClient}
 use Rattle.run_book.specs.Fit.{FitsWith}
-use Rattle.run_book.specs.Nodes.{Node}
-use Rattle.run_book.specs.Values.{delta_of, deltas_of, counter_over}
-use Rattle.run_book.specs.Graphs.{cover, own_dots, node_of, committed, graph, client_at, basis_at}
-use Rattle.run_book.proofs.Lists.{filter-map}
+use Rattle.run_book.specs.Graphs.{cover, own_dots, committed, client_at, basis_at}
+use Rattle.run_book.specs.Causal.{commits_at}
 use Rattle.run_book.proofs.Numbered.{numbered_at}
-use Rattle.run_book.proofs.Sessions.{IsModest}
-use Rattle.run_book.proofs.Held.{Held, dot_at, held_after}
-use Rattle.run_book.proofs.Served.{cached_some}
-use Rattle.run_book.proofs.Dots.{has_In, In_has, IsOwn, own_dots_are, are_own_dots}
-use Rattle.run_book.proofs.Served.{read_got}
-use Rattle.run_book.proofs.Causal.Apart.{Apart, apart_append, apart_filter, apart_numbered, same_members}
-use Rattle.run_book.proofs.Causal.Commits.{committed_is, is_committed, apart}
+use Rattle.run_book.proofs.Held.{Held, dot_at}
+use Rattle.run_book.proofs.Dots.{has_In, In_has, IsOwn, own_dots_are, are_own_dots, apart_numbered}
+use Rattle.run_book.proofs.Causal.Commits.{commits, is_committed, apart}
 use Rattle.run_book.proofs.Causal.ServedStates.{IsServed}
 use Rattle.run_book.proofs.Causal.SessionStates.{Standing, standing}
-use Rattle.run_book.proofs.Causal.Closure.{prefix, session_held, is_so_far, made, closed_basis, basis_grows}
+use Rattle.run_book.proofs.Causal.Closure.{prefix, session_held, is_so_far}
 
-in_drop_from : {X : Type 0} (n : ℕ) (xs : List X) (p : ℕ) (x : X) → n ≤ p → slice_get xs p ≡ Some x → In x (drop n xs)
-in_drop_from zero xs p x le there = get_In xs p x there
-in_drop_from (suc n) [] p x le there = absurd (none-some x there)
-in_drop_from (suc n) (y ∷ xs) zero x le there = absurd (omega (arith, le))
-in_drop_from (suc n) (y ∷ xs) (suc p) x le there = in_drop_from n xs p x (omega (arith, le)) there
-
-in_dropped : {X : Type 0} (n : ℕ) (xs : List X) (x : X) → In x (drop n xs) → In x xs
-in_dropped n xs x i = Rattle.list_core.proofs.Members.In_drop n xs x i
-
-apart_drop : {X K : Type 0} (key : X → K) (n : ℕ) (xs : List X) → Apart key xs → Apart key (drop n xs)
-apart_drop key zero xs all = all
-apart_drop key (suc n) [] all = tt
-apart_drop key (suc n) (x ∷ xs) all = apart_drop key n xs all.1
-
--- a pending commit of actor a after m notes
+-- a commit of actor a that is past its snapshot after m notes
 record IsPending (b : Book) (clients capacity a m : ℕ) (t : Tx) : Type 0 where
   number : ℕ
   past : (client_at b capacity a m).mine < number
@@ -76,29 +36,21 @@ record IsPending (b : Book) (clients capacity a m : ℕ) (t : Tx) : Type 0 where
   there : In t (committed b clients capacity)
 
 module _ (b : Book) (clients limit capacity : ℕ) (fit : FitsWith b clients limit capacity) where
-  abbrev all : ℕ → List Tx
-  all client = commits_of b.n client capacity (notes_of b (client + 1))
-
-  abbrev so_far : ℕ → ℕ → List Tx
-  so_far a m = commits_of b.n (a - 1) capacity (take m (notes_of b a))
-
-  -- ---- a session
-
   -- the commits of the basis
   abbrev pub based : ℕ → ℕ → List Tx
   based a m = filter (λ (t : Tx). has t.dot (basis_at b capacity a m)) (committed b clients capacity)
 
-  -- each pending commit
+  -- each commit that the session has pending is one
   pending : (a m : ℕ) → IsClient clients a → (t : Tx) → In t (client_at b capacity a m).pending → IsPending b clients capacity a m t
   pending a m client t i =
       let held = session_held b clients limit capacity fit a m client in
-      let i2 : In t (drop (client_at b capacity a m).mine (so_far a m)) = subst (λ l. In t l) held.waiting i in
-      let g = In_get (drop (client_at b capacity a m).mine (so_far a m)) t i2 in
-      let place = get_in_drop (client_at b capacity a m).mine (so_far a m) g.0 t g.1 in
-      let dot = numbered_at (λ (t : Tx). t.dot) (dot_at (a - 1)) 1 (so_far a m) ((client_at b capacity a m).mine + g.0) t held.dots place in
-      let within = Rattle.std.proofs.lemmas.Option.slice_get_within (so_far a m) ((client_at b capacity a m).mine + g.0) t place in
+      let i2 : In t (drop (client_at b capacity a m).mine (commits_at b capacity a m)) = subst (λ l. In t l) held.waiting i in
+      let g = In_get (drop (client_at b capacity a m).mine (commits_at b capacity a m)) t i2 in
+      let place = get_in_drop (client_at b capacity a m).mine (commits_at b capacity a m) g.0 t g.1 in
+      let dot = numbered_at (λ (t : Tx). t.dot) (dot_at (a - 1)) 1 (commits_at b capacity a m) ((client_at b capacity a m).mine + g.0) t held.dots place in
+      let within = slice_get_within (commits_at b capacity a m) ((client_at b capacity a m).mine + g.0) t place in
       let p = prefix b clients limit capacity fit a m client in
-      let here : In t (all (a - 1)) = subst (λ l. In t l) (sym p.1) (In_left (so_far a m) p.0 t (get_In (so_far a m) ((client_at b capacity a m).mine + g.0) t place)) in
+      let here : In t (commits b clients limit capacity fit (a - 1)) = subst (λ l. In t l) (sym p.1) (In_left (commits_at b capacity a m) p.0 t (get_In (commits_at b capacity a m) ((client_at b capacity a m).mine + g.0) t place)) in
       record {
         number = 1 + ((client_at b capacity a m).mine + g.0);
         past = omega arith;
@@ -107,19 +59,19 @@ module _ (b : Book) (clients limit capacity : ℕ) (fit : FitsWith b clients lim
         there = is_committed b clients limit capacity fit (a - 1) t (omega (arith, client.low)) (omega (arith, client.high)) here;
       }
 
-  -- they have different dots
+  -- what the vector covers, and what is pending, have different dots
   pub apart_front : (a m : ℕ) (o : ObjectId) (state : State) → IsClient clients a → (served : IsServed b clients capacity o (client_at b capacity a m).vector state) → Apart (λ (t : Tx). t.dot) (served.txs ++ (client_at b capacity a m).pending)
   apart_front a m o state client served = apart_append (λ (t : Tx). t.dot) served.txs (client_at b capacity a m).pending served.apart
-      (subst (λ l. Apart (λ (t : Tx). t.dot) l) (sym held.waiting) (apart_drop (λ (t : Tx). t.dot) (client_at b capacity a m).mine (so_far a m) (apart_numbered (λ (t : Tx). t.dot) (a - 1) 1 (so_far a m) held.dots)))
+      (subst (λ l. Apart (λ (t : Tx). t.dot) l) (sym held.waiting) (apart_drop (λ (t : Tx). t.dot) (client_at b capacity a m).mine (commits_at b capacity a m) (apart_numbered (λ (t : Tx). t.dot) (a - 1) 1 (commits_at b capacity a m) held.dots)))
       (λ t u i j same.
       let q = pending a m client u j in
       let covered = subst (λ d. In d (cover b (client_at b capacity a m).vector)) (same ∙ q.dot) (served.are t i).1 in
       omega (arith, (stands.own_in q.number covered).1, q.past))
     where
-      held : Held (a - 1) (client_at b capacity a m) (so_far a m)
+      held : Held (a - 1) (client_at b capacity a m) (commits_at b capacity a m)
       held = session_held b clients limit capacity fit a m client
 
-      stands : Standing b clients capacity (a - 1) (client_at b capacity a m) (so_far a m)
+      stands : Standing b clients capacity (a - 1) (client_at b capacity a m) (commits_at b capacity a m)
       stands = standing b clients limit capacity fit a client m
 
   -- what the vector covers, with what is pending, is the basis
@@ -132,10 +84,10 @@ module _ (b : Book) (clients limit capacity : ℕ) (fit : FitsWith b clients lim
       set : List Dot
       set = basis_at b capacity a m
 
-      held : Held (a - 1) (client_at b capacity a m) (so_far a m)
+      held : Held (a - 1) (client_at b capacity a m) (commits_at b capacity a m)
       held = session_held b clients limit capacity fit a m client
 
-      stands : Standing b clients capacity (a - 1) (client_at b capacity a m) (so_far a m)
+      stands : Standing b clients capacity (a - 1) (client_at b capacity a m) (commits_at b capacity a m)
       stands = standing b clients limit capacity fit a client m
 
       there : (t : Tx) → In t (served.txs ++ (client_at b capacity a m).pending) → In t (based a m)
@@ -164,7 +116,7 @@ module _ (b : Book) (clients limit capacity : ℕ) (fit : FitsWith b clients lim
               ⊎_elim
               (λ past.
               let here = is_so_far b clients limit capacity fit a m t client kept.0 who (omega (arith, which, q.high)) in
-              In_right served.txs (client_at b capacity a m).pending t (subst (λ l. In t l) (sym held.waiting) (in_drop_from (client_at b capacity a m).mine (so_far a m) (t.dot.number - 1) t (omega (arith, past, which)) here)))
+              In_right served.txs (client_at b capacity a m).pending t (subst (λ l. In t l) (sym held.waiting) (get_In_drop (client_at b capacity a m).mine (commits_at b capacity a m) (t.dot.number - 1) t (omega (arith, past, which)) here)))
               (λ le.
               let here = stands.own_all q.number q.low le in
               covered (subst (λ d. In d (cover b (client_at b capacity a m).vector)) (sym (q.is ∙ ap (λ c. dot_at c q.number) held.who)) here))

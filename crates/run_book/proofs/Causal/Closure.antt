@@ -1,12 +1,12 @@
 -- The graph of a book is well made, and bases are closed and grow.
-use Rattle.std.proofs.Common.{◌≡◌, ℕ, suc, ◌+◌, ◌-◌, ◌≤◌, ◌<◌, ◌⊎◌, inl, inr, ⊎_elim, List, ◌++◌, length, take, Some, sym, ap, ◌∙◌, subst, arith}
+use Rattle.std.proofs.Common.{◌≡◌, ℕ, ◌+◌, ◌-◌, ◌≤◌, ◌<◌, ◌⊎◌, inl, inr, ⊎_elim, List, ◌++◌, length, take, Some, sym, ap, ◌∙◌, subst, arith}
 use Rattle.std.specs.Prelude.{slice_get}
-use Rattle.std.specs.Option.{option_map}
 use Rattle.std.proofs.lemmas.Option.{same_Some}
-use Rattle.std.proofs.lemmas.List.{take_all, take-take, length-append}
+use Rattle.std.proofs.lemmas.List.{take-take, length-append}
 use Rattle.list_core.specs.Members.{In}
 use Rattle.list_core.proofs.Members.{In_left, In_right, In_either, In_map, In_from_map}
 use Rattle.list_core.proofs.Gets.{get_within, get_in_front, get_In, In_get}
+use Rattle.list_core.proofs.Apart.{apart_map, apart_place}
 use Rattle.ids_core.specs.declared.ids.Dot.{Dot}
 use Rattle.vv_core.specs.declared.stamp.Stamp.{Stamp}
 use Rattle.vv_core.specs.Vectors.{Covers}
@@ -16,54 +16,42 @@ use Rattle.tx_core.specs.declared.tx.Record.{Record}
 use Rattle.dc_talk.specs.Trails.{applied}
 use Rattle.dc_talk.specs.Clients.{Client}
 use Rattle.dc_talk.specs.Rule.{client_after, commits_of}
-use Rattle.dc_talk.proofs.Growing.{own_at}
+use Rattle.dc_talk.proofs.Places.{own_at}
 use Rattle.run_book.specs.declared.book.Book.{Book}
 use Rattle.run_book.specs.Parts.{trail_of, notes_of, IsClient}
 use Rattle.run_book.specs.Fit.{FitsWith}
 use Rattle.run_book.specs.Nodes.{Node, Within, Closed, WellMade}
 use Rattle.run_book.specs.Graphs.{own_list, cover, own_dots, node_of, committed, graph, client_at, basis_at}
+use Rattle.run_book.specs.Sound.{IsSound}
+use Rattle.run_book.specs.Causal.{commits_at}
 use Rattle.run_book.proofs.Numbered.{numbered_at, numbered_In}
 use Rattle.run_book.proofs.Sessions.{commits_of_prefix}
 use Rattle.run_book.proofs.Held.{Held, dot_at, held_after}
 use Rattle.run_book.proofs.Growth.{grows}
 use Rattle.run_book.proofs.Dots.{IsOwn, own_dots_are, are_own_dots, own_grows}
-use Rattle.run_book.specs.Sound.{deps_in, IsSound}
 use Rattle.run_book.proofs.Causal.Origins.{whole_each}
-use Rattle.run_book.proofs.Causal.Cover.{Covered, cover_in, in_cover, cover_down}
-use Rattle.run_book.proofs.Causal.Soundness.{session_sound}
-use Rattle.run_book.proofs.Causal.Apart.{apart_map, apart_place}
-use Rattle.run_book.proofs.Causal.Commits.{commits, numbered, own_commit, carried, IsOf, committed_is, apart, one_tx}
+use Rattle.run_book.proofs.Causal.Cover.{Covered, cover_in, cover_more, covered_deps, cover_down}
+use Rattle.run_book.proofs.Causal.SessionVectors.{session_sound}
+use Rattle.run_book.proofs.Causal.Commits.{of_whole_log, commits, numbered, own_commit, carried, committed_is, is_committed, apart, one_tx}
 use Rattle.run_book.proofs.Causal.SessionStates.{Standing, standing}
 
--- what a vector covers, a greater one covers
-covered_more : (b : Book) (v w : List ℕ) (d : Dot) → Covers v w → Covered b w d → Covered b v d
-covered_more b v w d more x = record { centre = x.centre; low = x.low; high = x.high; place = x.place; item = x.item; there = x.there; within = omega (arith, x.within, more.by x.centre); dot = x.dot }
-
-pub cover_more : (b : Book) (v w : List ℕ) (d : Dot) → Covers v w → In d (cover b w) → In d (cover b v)
-cover_more b v w d more i = in_cover b v d (covered_more b v w d more (cover_in b w d i))
-
 module _ (b : Book) (clients limit capacity : ℕ) (fit : FitsWith b clients limit capacity) where
+  -- the commits of a client, in its whole log
   abbrev all : ℕ → List Tx
-  all client = commits_of b.n client capacity (notes_of b (client + 1))
+  all client = commits b clients limit capacity fit client
 
   -- ---- a client's whole log
 
-  actor : (client : ℕ) → 1 ≤ client → client ≤ clients → IsClient clients (client + 1)
-  actor client low high = record { low = omega (arith, low); high = omega (arith, high) }
-
+  -- how a session stands at its end
   whole : (client : ℕ) → 1 ≤ client → client ≤ clients → Standing b clients capacity client (client_after b.n client capacity (notes_of b (client + 1))) (all client)
-  whole client low high =
-      let notes = notes_of b (client + 1) in
-      let which : client + 1 - 1 ≡ client = omega arith in
-      subst (λ X. Standing b clients capacity client (client_after b.n client capacity X) (commits_of b.n client capacity X)) (take_all (length notes) notes (omega arith))
-      (subst (λ c. Standing b clients capacity c (client_after b.n c capacity (take (length notes) notes)) (commits_of b.n c capacity (take (length notes) notes))) which (standing b clients limit capacity fit (client + 1) (actor client low high) (length notes)))
+  whole = of_whole_log b clients (λ c X. Standing b clients capacity c (client_after b.n c capacity X) (commits_of b.n c capacity X)) (standing_at)
+    where
+      standing_at : (a m : ℕ) → IsClient clients a → Standing b clients capacity (a - 1) (client_at b capacity a m) (commits_at b capacity a m)
+      standing_at a m client = standing b clients limit capacity fit a client m
 
+  -- and what it has of its numbers
   held : (client : ℕ) → 1 ≤ client → client ≤ clients → Held client (client_after b.n client capacity (notes_of b (client + 1))) (all client)
-  held client low high =
-      let notes = notes_of b (client + 1) in
-      let which : client + 1 - 1 ≡ client = omega arith in
-      subst (λ X. Held client (client_after b.n client capacity X) (commits_of b.n client capacity X)) (take_all (length notes) notes (omega arith))
-      (held_after b.n client capacity notes (subst (λ c. Rattle.dc_talk.specs.Rule.Follows b.n c capacity notes) which (fit.follows (client + 1) (actor client low high))) (length notes))
+  held = of_whole_log b clients (λ c X. Held c (client_after b.n c capacity X) (commits_of b.n c capacity X)) (λ a m client. held_after b.n (a - 1) capacity (notes_of b a) (fit.follows a client) m)
 
   -- a commit stands at its number
   pub at_number : (t : Tx) → In t (committed b clients capacity) → slice_get (all t.dot.client) (t.dot.number - 1) ≡ Some t
@@ -99,11 +87,7 @@ module _ (b : Book) (clients limit capacity : ℕ) (fit : FitsWith b clients lim
 
   -- so a sound vector that covers it covers its snapshot
   snap_covered : (v : List ℕ) (u : Tx) → IsSound b v → In u (committed b clients capacity) → Covered b v u.dot → Covers v u.snap
-  snap_covered v u sound i x =
-      let one_less : suc x.place - 1 ≡ x.place = omega arith in
-      let table : deps_in b x.centre (suc x.place) ≡ Some x.item.deps = ap (option_map (λ (r : Record). r.deps)) (subst (λ n. slice_get (own_list b x.centre) n ≡ Some x.item) (sym one_less) x.there) in
-      let covers = sound.deps.by x.centre (suc x.place) x.item.deps (omega arith) (omega (arith, x.within)) table in
-      subst (λ (t : Tx). Covers v t.snap) (carries v u i x) (Covers_trans v x.item.deps x.item.tx.snap covers (snap_deps x.centre x.place x.item x.low x.high x.there))
+  snap_covered v u sound i x = subst (λ (t : Tx). Covers v t.snap) (carries v u i x) (Covers_trans v x.item.deps x.item.tx.snap (covered_deps b v u.dot sound x) (snap_deps x.centre x.place x.item x.low x.high x.there))
 
   -- ---- closed sets
 
@@ -131,7 +115,7 @@ module _ (b : Book) (clients limit capacity : ℕ) (fit : FitsWith b clients lim
               let g = get_within (all client) (o.number - 1) (omega (arith, o.low, o.high, few)) in
               let dot = numbered_at (λ (t : Tx). t.dot) (dot_at client) 1 (all client) (o.number - 1) g.0 (numbered b clients limit capacity fit client low high) g.1 in
               let number : 1 + (o.number - 1) ≡ o.number = omega (arith, o.low) in
-              (node_of b g.0, In_map (node_of b) (committed b clients capacity) g.0 (Rattle.run_book.proofs.Causal.Commits.is_committed b clients limit capacity fit client g.0 low high (get_In (all client) (o.number - 1) g.0 g.1)), dot ∙ (ap (dot_at client) number ∙ sym o.is))
+              (node_of b g.0, In_map (node_of b) (committed b clients capacity) g.0 (is_committed b clients limit capacity fit client g.0 low high (get_In (all client) (o.number - 1) g.0 g.1)), dot ∙ (ap (dot_at client) number ∙ sym o.is))
 
       below : (u : Tx) → In u (committed b clients capacity) → In u.dot (cover b v ++ own_dots client count) → (y : Dot) → In y (cover b u.snap ++ own_dots u.dot.client (u.dot.number - 1)) → In y (cover b v ++ own_dots client count)
       below u i j y k = ⊎_elim covered own (In_either (cover b v) (own_dots client count) u.dot j)
@@ -169,13 +153,14 @@ module _ (b : Book) (clients limit capacity : ℕ) (fit : FitsWith b clients lim
 
   -- ---- the graph
 
-  -- two commits of one client
-  record Two (u t : Tx) : Type 0 where
+  -- of two commits of one client the later has the greater snapshot and the greater rank
+  record Ascends (u t : Tx) : Type 0 where
     snap : Covers t.snap u.snap
     rank : u.rank < t.rank
 
-  two : (u t : Tx) → In u (committed b clients capacity) → In t (committed b clients capacity) → u.dot.client ≡ t.dot.client → u.dot.number < t.dot.number → Two u t
-  two u t i j same lt =
+  -- so is each with a lower number
+  ascends : (u t : Tx) → In u (committed b clients capacity) → In t (committed b clients capacity) → u.dot.client ≡ t.dot.client → u.dot.number < t.dot.number → Ascends u t
+  ascends u t i j same lt =
       let c = committed_is b clients limit capacity fit t j in
       let w = whole t.dot.client c.low c.high in
       let h = held t.dot.client c.low c.high in
@@ -188,14 +173,16 @@ module _ (b : Book) (clients limit capacity : ℕ) (fit : FitsWith b clients lim
         rank = h.ascend (u.dot.number - 1) (t.dot.number - 1) u t less here there;
       }
 
+  -- the dependencies of a commit are closed
   closed_deps : (t : Tx) → In t (committed b clients capacity) → Closed (graph b clients capacity) (node_of b t).deps
   closed_deps t i =
       let c = committed_is b clients limit capacity fit t i in
       let w = whole t.dot.client c.low c.high in
       let range = number_range t i in
       closed_set t.dot.client (t.dot.number - 1) t.snap c.low c.high (omega (arith, range.1)) (w.sound t c.there)
-      (λ u j who few. (two u t j i who (omega (arith, few, range.0))).snap)
+      (λ u j who few. (ascends u t j i who (omega (arith, few, range.0))).snap)
 
+  -- their ranks are lower
   rank_grows : (t u : Tx) → In t (committed b clients capacity) → In u (committed b clients capacity) → In u.dot (cover b t.snap ++ own_dots t.dot.client (t.dot.number - 1)) → u.rank < t.rank
   rank_grows t u i j k =
       ⊎_elim
@@ -206,7 +193,7 @@ module _ (b : Book) (clients limit capacity : ℕ) (fit : FitsWith b clients lim
       omega (arith, less, ap (λ (t : Tx). t.rank) (carries t.snap u j x)))
       (λ own.
       let o = own_dots_are t.dot.client (t.dot.number - 1) u.dot own in
-      (two u t j i (ap (λ (d : Dot). d.client) o.is) (omega (arith, o.low, o.high, ap (λ (d : Dot). d.number) o.is))).rank)
+      (ascends u t j i (ap (λ (d : Dot). d.client) o.is) (omega (arith, o.low, o.high, ap (λ (d : Dot). d.number) o.is))).rank)
       (In_either (cover b t.snap) (own_dots t.dot.client (t.dot.number - 1)) u.dot k)
 
   -- the graph is well made
@@ -230,28 +217,26 @@ module _ (b : Book) (clients limit capacity : ℕ) (fit : FitsWith b clients lim
 
   -- ---- bases
 
-  abbrev so_far : ℕ → ℕ → List Tx
-  so_far a m = commits_of b.n (a - 1) capacity (take m (notes_of b a))
-
   -- the commits so far are the first of all
-  pub prefix : (a m : ℕ) → IsClient clients a → (later : List Tx) × (all (a - 1) ≡ so_far a m ++ later)
+  pub prefix : (a m : ℕ) → IsClient clients a → (later : List Tx) × (all (a - 1) ≡ commits_at b capacity a m ++ later)
   prefix a m client =
       let same : a - 1 + 1 ≡ a = omega (arith, client.low) in
-      subst (λ x. (later : List Tx) × (commits_of b.n (a - 1) capacity (notes_of b x) ≡ so_far a m ++ later)) (sym same) (commits_of_prefix b.n (a - 1) capacity m (notes_of b a))
+      subst (λ x. (later : List Tx) × (commits_of b.n (a - 1) capacity (notes_of b x) ≡ commits_at b capacity a m ++ later)) (sym same) (commits_of_prefix b.n (a - 1) capacity m (notes_of b a))
 
-  pub session_held : (a m : ℕ) → IsClient clients a → Held (a - 1) (client_at b capacity a m) (so_far a m)
+  -- what a session has of its numbers
+  pub session_held : (a m : ℕ) → IsClient clients a → Held (a - 1) (client_at b capacity a m) (commits_at b capacity a m)
   session_held a m client = held_after b.n (a - 1) capacity (notes_of b a) (fit.follows a client) m
 
   -- a commit with a number so far is one of those so far
-  pub is_so_far : (a m : ℕ) (u : Tx) → IsClient clients a → In u (committed b clients capacity) → u.dot.client ≡ a - 1 → u.dot.number ≤ (client_at b capacity a m).own → slice_get (so_far a m) (u.dot.number - 1) ≡ Some u
+  pub is_so_far : (a m : ℕ) (u : Tx) → IsClient clients a → In u (committed b clients capacity) → u.dot.client ≡ a - 1 → u.dot.number ≤ (client_at b capacity a m).own → slice_get (commits_at b capacity a m) (u.dot.number - 1) ≡ Some u
   is_so_far a m u client i who few =
       let h = session_held a m client in
       let range = number_range u i in
-      let g = get_within (so_far a m) (u.dot.number - 1) (omega (arith, range.0, few, h.number)) in
+      let g = get_within (commits_at b capacity a m) (u.dot.number - 1) (omega (arith, range.0, few, h.number)) in
       let p = prefix a m client in
       let here : slice_get (all (a - 1)) (u.dot.number - 1) ≡ Some u = subst (λ c. slice_get (all c) (u.dot.number - 1) ≡ Some u) who (at_number u i) in
-      let there : slice_get (all (a - 1)) (u.dot.number - 1) ≡ Some g.0 = subst (λ l. slice_get l (u.dot.number - 1) ≡ Some g.0) (sym p.1) (get_in_front (so_far a m) p.0 (u.dot.number - 1) g.0 g.1) in
-      subst (λ t. slice_get (so_far a m) (u.dot.number - 1) ≡ Some t) (same_Some g.0 u (sym there ∙ here)) g.1
+      let there : slice_get (all (a - 1)) (u.dot.number - 1) ≡ Some g.0 = subst (λ l. slice_get l (u.dot.number - 1) ≡ Some g.0) (sym p.1) (get_in_front (commits_at b capacity a m) p.0 (u.dot.number - 1) g.0 g.1) in
+      subst (λ t. slice_get (commits_at b capacity a m) (u.dot.number - 1) ≡ Some t) (same_Some g.0 u (sym there ∙ here)) g.1
 
   -- the basis of a session is closed at each moment
   pub closed_basis : (a m : ℕ) → IsClient clients a → Closed (graph b clients capacity) (basis_at b capacity a m)
@@ -260,10 +245,10 @@ module _ (b : Book) (clients limit capacity : ℕ) (fit : FitsWith b clients lim
       let h = session_held a m client in
       let st = standing b clients limit capacity fit a client m in
       let p = prefix a m client in
-      let few : s.own ≤ length (all (a - 1)) = omega (arith, h.number, ap (λ l. length l) p.1, length-append (so_far a m) p.0) in
+      let few : s.own ≤ length (all (a - 1)) = omega (arith, h.number, ap (λ l. length l) p.1, length-append (commits_at b capacity a m) p.0) in
       subst (λ c. Closed (graph b clients capacity) (cover b s.vector ++ own_dots c s.own)) (sym h.who)
       (closed_set (a - 1) s.own s.vector (omega (arith, client.low)) (omega (arith, client.high)) few (session_sound b clients limit capacity fit a client m)
-      (λ u i who less. st.snaps u (get_In (so_far a m) (u.dot.number - 1) u (is_so_far a m u client i who less))))
+      (λ u i who less. st.snaps u (get_In (commits_at b capacity a m) (u.dot.number - 1) u (is_so_far a m u client i who less))))
 
   -- and grows
   pub basis_grows : (a m later : ℕ) → IsClient clients a → m ≤ later → Within (basis_at b capacity a m) (basis_at b capacity a later)
@@ -281,7 +266,7 @@ module _ (b : Book) (clients limit capacity : ℕ) (fit : FitsWith b clients lim
       more : s.own ≤ t.own
       more =
           let prefix = commits_of_prefix b.n (a - 1) capacity m (take later (notes_of b a)) in
-          let same : commits_of b.n (a - 1) capacity (take m (take later (notes_of b a))) ≡ so_far a m = ap (commits_of b.n (a - 1) capacity) (take-take m later (notes_of b a) le) in
+          let same : commits_of b.n (a - 1) capacity (take m (take later (notes_of b a))) ≡ commits_at b capacity a m = ap (commits_of b.n (a - 1) capacity) (take-take m later (notes_of b a) le) in
           omega (arith, (session_held a m client).number, (session_held a later client).number, ap (λ l. length l) prefix.1, length-append (commits_of b.n (a - 1) capacity (take m (take later (notes_of b a)))) prefix.0, ap (λ l. length l) same)
 
       by : (d : Dot) → In d (cover b s.vector) ⊎ In d (own_dots s.client s.own) → In d (cover b t.vector ++ own_dots t.client t.own)

@@ -20,7 +20,7 @@ use Rattle.dc_talk.specs.Objects.{mark}
 use Rattle.run_book.specs.Nodes.{Node, WellMade}
 use Rattle.run_book.specs.Values.{Act, acts_from, acts_over, IsRegisterOver, IsSetOver, IsMapOver, IsValueBy}
 use Rattle.run_book.specs.Acts.{HasUniqueMarks}
-use Rattle.run_book.proofs.Causal.Apart.{apart_one}
+use Rattle.list_core.proofs.Apart.{apart_one}
 use Rattle.run_book.proofs.Causal.SetNodes.{StandsIn}
 use Rattle.run_book.proofs.Causal.Acts.{act_at, IsActOf, IsActIn, act_in}
 use Rattle.run_book.proofs.Causal.Operations.{nodes_apart}

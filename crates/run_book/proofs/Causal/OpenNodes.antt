@@ -3,7 +3,7 @@ use Rattle.std.proofs.Common.{◌≡◌, ◌<◌, inl, inr, List, sym, ap, ◌�
 use Rattle.list_core.specs.Members.{In}
 use Rattle.ids_core.specs.declared.ids.Dot.{Dot}
 use Rattle.run_book.specs.Nodes.{Node, Closed, WellMade}
-use Rattle.run_book.proofs.Causal.Apart.{apart_one}
+use Rattle.list_core.proofs.Apart.{apart_one}
 use Rattle.run_book.proofs.Causal.InView.{IsIssued}
 use Rattle.run_book.proofs.Causal.SetNodes.{StandsIn}
 use Rattle.run_book.proofs.Causal.Operations.{nodes_apart, HasKinds}

@@ -17,7 +17,8 @@ use Rattle.dc_talk.specs.Records.{has}
 use Rattle.dc_talk.specs.Objects.{mark, ops_from}
 use Rattle.run_book.specs.Nodes.{Node, WellMade}
 use Rattle.run_book.specs.Values.{nodes_in}
-use Rattle.run_book.proofs.Causal.Apart.{Apart, apart_filter, flat_from as In_from_flat_map}
+use Rattle.list_core.proofs.Members.{In_from_flat_map}
+use Rattle.list_core.proofs.Apart.{Apart, apart_filter}
 use Rattle.run_book.proofs.Causal.InView.{node_ops, ops_in, ops_over}
 use Rattle.run_book.proofs.Causal.SetNodes.{StandsIn, in_node, over_from}
 use Rattle.run_book.proofs.Causal.Acts.{op_of_act, node_act, is_act_of}

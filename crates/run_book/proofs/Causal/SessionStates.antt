@@ -1,19 +1,17 @@
--- A session at each moment of its log: its own numbers within its vector, its ranks, its snapshots and its cache.
-use Rattle.std.proofs.Common.{◌≡◌, ℕ, suc, ◌-◌, ◌≤◌, ◌<◌, max, Bool, true, false, cond, ◌&&◌, ◌⊎◌, inl, inr, ⊎_elim, List, [], ◌∷◌, ◌++◌, take, Some, refl, sym, ap, ◌∙◌, subst, arith}
+-- A session at each moment of its log: its own numbers within its vector, its ranks, its snapshots and its
+-- cache.
+use Rattle.std.proofs.Common.{◌≡◌, ℕ, suc, ◌-◌, ◌≤◌, ◌<◌, max, Bool, true, false, cond, ◌&&◌, ⊎_elim, List, [], ◌∷◌, ◌++◌, take, Some, refl, sym, ap, ◌∙◌, subst, arith}
 use Rattle.std.specs.Prelude.{slice_get, ◌==◌}
-use Rattle.std.proofs.lemmas.Bool.{cases_Bool, cases_lt, and_parts, eqb-true, eq-eqb}
-use Rattle.std.proofs.lemmas.Option.{none-some, same_Some, slice_get_within}
+use Rattle.std.proofs.lemmas.Bool.{and_parts, eqb-true}
+use Rattle.std.proofs.lemmas.Option.{none-some, slice_get_within}
 use Rattle.std.proofs.lemmas.List.{append-nil}
-use Rattle.std.proofs.lemmas.List.Sums.{fold_push}
 use Rattle.list_core.specs.Members.{In}
-use Rattle.list_core.proofs.Members.{In_either}
-use Rattle.list_core.proofs.Gets.{get_last}
-use Rattle.list_core.proofs.Moments.{take_one_more, by_moments}
+use Rattle.list_core.proofs.Members.{In_more}
+use Rattle.list_core.proofs.Gets.{get_last, get_In}
 use Rattle.ids_core.specs.declared.ids.Dot.{Dot}
 use Rattle.ids_core.specs.declared.object.ObjectId.{ObjectId}
-use Rattle.vv_core.specs.declared.stamp.Stamp.{Stamp}
-use Rattle.vv_core.specs.Vectors.{zeros, Covers}
-use Rattle.vv_core.proofs.Covering.{covers-true, Covers_refl, Covers_trans}
+use Rattle.vv_core.specs.Vectors.{at, zeros, Covers}
+use Rattle.vv_core.proofs.Covering.{Covers_refl, Covers_trans}
 use Rattle.vv_core.proofs.Entrywise.{at-tabulate_le, at-zeros}
 use Rattle.tx_core.specs.declared.tx.Tx.{Tx}
 use Rattle.tx_core.specs.declared.tx.Record.{Record}
@@ -32,66 +30,36 @@ use Rattle.dc_talk.specs.declared.log.Fate.TheVariants.{Heard}
 use Rattle.dc_talk.specs.declared.log.Deed.{Deed}
 use Rattle.dc_talk.specs.declared.log.Deed.TheVariants.{Did, Asked, Told}
 use Rattle.dc_talk.specs.declared.log.Note.{Note}
-use Rattle.dc_talk.specs.Records.{count, vector, inside, top, mine as mine_of}
-use Rattle.dc_talk.specs.Trails.{applied}
+use Rattle.dc_talk.specs.Records.{count, vector, inside, mine as mine_of}
 use Rattle.dc_talk.specs.Answers.{answer}
 use Rattle.dc_talk.specs.Clients.{Client, new_client, next_tx, draft_updates}
-use Rattle.dc_talk.specs.Calls.{did}
-use Rattle.dc_talk.specs.Rule.{after, heard, takes, taken, is_linked, can_follow, client_after, commit_in, commits_of}
-use Rattle.dc_talk.proofs.Inversions.{snap_by, object_by}
-use Rattle.dc_talk.proofs.Growing.{have_stamp}
+use Rattle.dc_talk.specs.Calls.{did, committed}
+use Rattle.dc_talk.specs.Rule.{after, heard, takes, taken, is_linked, can_follow, commit_in}
+use Rattle.dc_talk.proofs.ClientAnswers.{SnapBy, snap_by, object_by}
+use Rattle.dc_talk.proofs.Counts.{in_top}
 use Rattle.run_book.specs.declared.book.Book.{Book}
 use Rattle.run_book.specs.Parts.{trail_of, notes_of, IsClient}
 use Rattle.run_book.specs.Fit.{FitsWith}
-use Rattle.run_book.specs.Graphs.{own_list, cover}
-use Rattle.run_book.proofs.Sessions.{can_follow-true, commits_of_more}
-use Rattle.run_book.proofs.Held.{Held, dot_at, held_after}
-use Rattle.run_book.proofs.Pairing.{heard_answered}
-use Rattle.run_book.proofs.Served.{snap_within, In_promoted, In_looked_up, In_kept}
+use Rattle.run_book.specs.Graphs.{cover, client_at}
+use Rattle.run_book.specs.Causal.{commits_at}
+use Rattle.run_book.specs.Laws.{applied_at}
 use Rattle.run_book.specs.Sound.{IsSound}
-use Rattle.run_book.proofs.Causal.Origins.{each_at, agreement}
+use Rattle.run_book.proofs.Sessions.{CanFollow, can_follow-true, after_more, by_notes}
+use Rattle.run_book.proofs.Held.{Held, dot_at, held_after}
+use Rattle.run_book.proofs.Dots.{in_mine, mine_in}
+use Rattle.run_book.proofs.Pairing.{has_entry}
+use Rattle.run_book.proofs.Served.{snap_within, In_promoted, In_looked_up, In_kept}
+use Rattle.run_book.proofs.Causal.Origins.{applied_there}
 use Rattle.run_book.proofs.Causal.OneList.{inside_covered, covered_inside}
 use Rattle.run_book.proofs.Causal.Cover.{Covered, cover_in, cover_down}
-use Rattle.run_book.proofs.Causal.Soundness.{session_sound}
+use Rattle.run_book.proofs.Causal.SessionVectors.{session_sound}
 use Rattle.run_book.proofs.Causal.Commits.{own_commit, carried, number_low}
 use Rattle.run_book.proofs.Causal.ServedStates.{IsServed, served_at}
 
--- ---- dots of a list
-
-in_mine : (c : ℕ) (D : List Dot) (d : ℕ) → In (dot_at c d) D → d ≤ mine_of c D
-in_mine c [] d i = absurd i
-in_mine c (x ∷ D) d (inl e) =
-    let b : (x.client == c) ≡ true = eq-eqb x.client c (sym (ap (λ (d : Dot). d.client) e)) in
-    let v : cond (x.client == c) x.number 0 ≡ x.number = ap (λ b. cond b x.number 0) b in
-    let m : d ≡ x.number = ap (λ (d : Dot). d.number) e in
-    omega (arith, v, m)
-in_mine c (x ∷ D) d (inr i) = omega (arith, in_mine c D d i)
-
-mine_in : (c : ℕ) (D : List Dot) → 1 ≤ mine_of c D → In (dot_at c (mine_of c D)) D
-mine_in c [] one = absurd (omega (arith, one))
-mine_in c (x ∷ D) one = go (λ k. mine_in c D k) (cases_Bool (x.client == c))
-  where
-    go : (1 ≤ mine_of c D → In (dot_at c (mine_of c D)) D) → ((x.client == c) ≡ true) ⊎ ((x.client == c) ≡ false) → In (dot_at c (mine_of c (x ∷ D))) (x ∷ D)
-    go rest (inl y) =
-        let v : cond (x.client == c) x.number 0 ≡ x.number = ap (λ b. cond b x.number 0) y in
-        let who : x.client ≡ c = eqb-true x.client c y in
-        ⊎_elim
-        (λ lt. let m : mine_of c (x ∷ D) ≡ mine_of c D = omega (arith, v, lt) in inr (subst (λ n. In (dot_at c n) D) (sym m) (rest (omega (arith, lt)))))
-        (λ le. let m : mine_of c (x ∷ D) ≡ x.number = omega (arith, v, le) in inl (λ i. record { client = sym who i; number = m i }))
-        (cases_lt x.number (mine_of c D))
-    go rest (inr z) =
-        let v : cond (x.client == c) x.number 0 ≡ 0 = ap (λ b. cond b x.number 0) z in
-        let m : mine_of c (x ∷ D) ≡ mine_of c D = omega (arith, v) in
-        inr (subst (λ n. In (dot_at c n) D) (sym m) (rest (omega (arith, v, one))))
-
-in_top : (A : List Record) (r : Record) → In r A → r.tx.rank ≤ top A
-in_top [] r i = absurd i
-in_top (a ∷ A) r (inl e) = omega (arith, ap (λ (r : Record). r.tx.rank) e)
-in_top (a ∷ A) r (inr i) = omega (arith, in_top A r i)
-
--- ---- what holds of a session
-
--- a session of client c, with the commits C so far
+-- what holds of a session s of client c that committed C: of its own numbers its vector covers just those
+-- that the snapshot names, what it covers has a rank at most the clock, its commits have sound snapshots
+-- that ascend and lie within the vector, their ranks are above what they cover, and what the cache has, a
+-- centre serves
 pub record Standing (b : Book) (clients capacity c : ℕ) (s : Client) (C : List Tx) : Type 0 where
   pub own_in : (d : ℕ) → In (dot_at c d) (cover b s.vector) → (1 ≤ d) × (d ≤ s.mine)
   pub own_all : (d : ℕ) → 1 ≤ d → d ≤ s.mine → In (dot_at c d) (cover b s.vector)
@@ -102,12 +70,21 @@ pub record Standing (b : Book) (clients capacity c : ℕ) (s : Client) (C : List
   pub ascend : (p q : ℕ) (t u : Tx) → p < q → slice_get C p ≡ Some t → slice_get C q ≡ Some u → Covers u.snap t.snap
   pub cache : (x : Cached) → In x s.cache → IsServed b clients capacity x.object x.vector x.state
 
--- the last of a list, or one before it
-in_more : (C : List Tx) (x t : Tx) → In t (C ++ x ∷ []) → In t C ⊎ (t ≡ x)
-in_more C x t i = ⊎_elim (λ j. inl j) (λ j. ⊎_elim (λ same. inr same) (λ none. absurd none) j) (In_either C (x ∷ []) t i)
-
-get_in : {X : Type 0} (xs : List X) (p : ℕ) (x : X) → slice_get xs p ≡ Some x → In x xs
-get_in xs p x there = Rattle.list_core.proofs.Gets.get_In xs p x there
+-- so does one that differs from it neither in its snapshot nor in its clock, and has no more in its cache
+same_standing : (b : Book) (clients capacity c : ℕ) (s t : Client) (C : List Tx) → t.vector ≡ s.vector → t.mine ≡ s.mine → t.clock ≡ s.clock → ((x : Cached) → In x t.cache → In x s.cache) → Standing b clients capacity c s C → Standing b clients capacity c t C
+same_standing b clients capacity c s t C vector mine clock cache h = record {
+  own_in = λ d i. let r = h.own_in d (subst (λ v. In (dot_at c d) (cover b v)) vector i) in (r.0, omega (arith, r.1, mine));
+  own_all = λ d low high. subst (λ v. In (dot_at c d) (cover b v)) (sym vector) (h.own_all d low (omega (arith, high, mine)));
+  ranks = λ d x. omega (arith, ranks d x, clock);
+  snaps = λ u i. subst (λ v. Covers v u.snap) (sym vector) (h.snaps u i);
+  sound = h.sound;
+  above = h.above;
+  ascend = h.ascend;
+  cache = λ x i. h.cache x (cache x i);
+}
+  where
+    ranks : (d : Dot) (x : Covered b t.vector d) → x.item.tx.rank ≤ s.clock
+    ranks d x = h.ranks d (record { centre = x.centre; low = x.low; high = x.high; place = x.place; item = x.item; there = x.there; within = omega (arith, x.within, ap (λ v. at v x.centre) vector); dot = x.dot })
 
 module _ (b : Book) (clients limit capacity : ℕ) (fit : FitsWith b clients limit capacity) where
   -- numbers that are covered are at least 1
@@ -116,7 +93,7 @@ module _ (b : Book) (clients limit capacity : ℕ) (fit : FitsWith b clients lim
       let there = carried b clients limit capacity fit x.item.tx (own_commit b clients limit capacity fit x.centre x.place x.item x.low x.high x.there) in
       omega (arith, number_low b clients limit capacity fit x.item.tx there, ap (λ (d : Dot). d.number) x.dot)
 
-  -- an answer of a centre
+  -- centre i gave this answer after some entries of its trail
   record IsAnswer (i : ℕ) (ask : Ask) (say : Say) : Type 0 where
     low : 1 ≤ i
     high : i ≤ b.n
@@ -139,16 +116,16 @@ module _ (b : Book) (clients limit capacity : ℕ) (fit : FitsWith b clients lim
       parts : (((client == s.client) && is_linked i s.link) ≡ true) × (can_follow s w number rank ≡ true)
       parts = and_parts ((client == s.client) && is_linked i s.link) (can_follow s w number rank) takes_it
 
-      can : Rattle.run_book.proofs.Sessions.CanFollow s w number rank
+      can : CanFollow s w number rank
       can = can_follow-true s w number rank parts.1
 
       who : client ≡ c
       who = eqb-true client s.client (and_parts (client == s.client) (is_linked i s.link) parts.0).0 ∙ held.who
 
       A : List Record
-      A = applied b.n (take says.place (trail_of b i))
+      A = applied_at b i says.place
 
-      snap : Rattle.dc_talk.proofs.Inversions.SnapBy i b.n b.k (take says.place (trail_of b i)) client here w number rank
+      snap : SnapBy i b.n b.k (take says.place (trail_of b i)) client here w number rank
       snap = snap_by i b.n b.k limit (take says.place (trail_of b i)) client here w number rank says.is
 
       le : Covers (vector b.n A) w
@@ -171,12 +148,8 @@ module _ (b : Book) (clients limit capacity : ℕ) (fit : FitsWith b clients lim
 
       ranks : (d : Dot) (x : Covered b w d) → x.item.tx.rank ≤ max s.clock rank
       ranks d x =
-          let q = have_stamp i b.n A (each_at b clients limit capacity fit i says.place says.low says.high) x.centre (suc x.place) (omega arith) (omega (arith, x.within, le.by x.centre, at-tabulate_le b.n x.centre (λ e. count e A))) in
-          let one_less : suc x.place - 1 ≡ x.place = omega arith in
-          let own : slice_get (own_list b x.centre) x.place ≡ Some q.item = subst (λ n. slice_get (own_list b x.centre) n ≡ Some q.item) one_less (subst (λ (s : Stamp). slice_get (own_list b s.centre) (s.seq - 1) ≡ Some q.item) q.is (agreement b clients limit capacity fit i says.place says.low says.high q.item q.there)) in
-          let same : q.item ≡ x.item = same_Some q.item x.item (sym own ∙ x.there) in
-          let most = in_top A q.item q.there in
-          omega (arith, most, ap (λ (r : Record). r.tx.rank) same, snap.top_is)
+          let here = applied_there b clients limit capacity fit i says.place x.centre x.place x.item says.low says.high (omega (arith, x.within, le.by x.centre, at-tabulate_le b.n x.centre (λ e. count e A))) x.there in
+          omega (arith, in_top A x.item here.0, snap.top_is)
 
   -- a state that is taken
   standing_object : (c : ℕ) (s : Client) (C : List Tx) (i : ℕ) (o : ObjectId) (here : List ℕ) (state : State) → IsAnswer i (Fetch o here) (Object state) → Standing b clients capacity c s C → Standing b clients capacity c (taken s i (Fetch o here) (Object state)) C
@@ -196,17 +169,16 @@ module _ (b : Book) (clients limit capacity : ℕ) (fit : FitsWith b clients lim
 
       served : IsServed b clients capacity o here state
       served =
-          let A = applied b.n (take says.place (trail_of b i)) in
           let object = object_by i b.n b.k limit (take says.place (trail_of b i)) o here state says.is in
-          subst (λ state. IsServed b clients capacity o here state) (sym object.is) (served_at b clients limit capacity fit i says.place says.low says.high o here (covers-true (vector b.n A) here object.covered))
+          subst (λ state. IsServed b clients capacity o here state) (sym object.is) (served_at b clients limit capacity fit i says.place says.low says.high o here object.covered)
 
   -- an answer that is taken
   standing_taken : (c : ℕ) (s : Client) (C : List Tx) (i : ℕ) (ask : Ask) (say : Say) → IsAnswer i ask say → takes s i ask say ≡ true → IsSound b (taken s i ask say).vector → Held c s C → Standing b clients capacity c s C → Standing b clients capacity c (taken s i ask say) C
-  standing_taken c s C i (Hello client need) (Welcome through) says is sound held h = record { own_in = h.own_in; own_all = h.own_all; ranks = h.ranks; snaps = h.snaps; sound = h.sound; above = h.above; ascend = h.ascend; cache = h.cache }
+  standing_taken c s C i (Hello client need) (Welcome through) says is sound held h = same_standing b clients capacity c s _ C refl refl refl (λ x j. j) h
   standing_taken c s C i (Refresh client here) (Snap w number rank) says is sound held h = standing_snap c s C i client here w number rank says is sound held h
   standing_taken c s C i (Fetch o here) (Object state) says is sound held h = standing_object c s C i o here state says h
-  standing_taken c s C i (CommitAsk tx) (Stamped stamp) says is sound held h = record { own_in = h.own_in; own_all = h.own_all; ranks = h.ranks; snaps = h.snaps; sound = h.sound; above = h.above; ascend = h.ascend; cache = h.cache }
-  standing_taken c s C i (CommitAsk tx) (Known through) says is sound held h = record { own_in = h.own_in; own_all = h.own_all; ranks = h.ranks; snaps = h.snaps; sound = h.sound; above = h.above; ascend = h.ascend; cache = h.cache }
+  standing_taken c s C i (CommitAsk tx) (Stamped stamp) says is sound held h = same_standing b clients capacity c s _ C refl refl refl (λ x j. j) h
+  standing_taken c s C i (CommitAsk tx) (Known through) says is sound held h = same_standing b clients capacity c s _ C refl refl refl (λ x j. j) h
   standing_taken c s C i _ _ says is sound held h = h
 
   -- an answer that is heard, taken or not
@@ -222,14 +194,14 @@ module _ (b : Book) (clients limit capacity : ℕ) (fit : FitsWith b clients lim
   unchanged c s C h = subst (λ C. Standing b clients capacity c s C) (sym (append-nil C)) h
 
   -- a commit that gets its number
-  standing_committed : (c : ℕ) (s : Client) (C : List Tx) → IsSound b s.vector → Standing b clients capacity c s C → Standing b clients capacity c (Rattle.dc_talk.specs.Calls.committed s) (C ++ next_tx s (draft_updates s) ∷ [])
+  standing_committed : (c : ℕ) (s : Client) (C : List Tx) → IsSound b s.vector → Standing b clients capacity c s C → Standing b clients capacity c (committed s) (C ++ next_tx s (draft_updates s) ∷ [])
   standing_committed c s C sound h = record {
     own_in = h.own_in;
     own_all = h.own_all;
     ranks = λ d x. omega (arith, h.ranks d x);
-    snaps = λ t i. ⊎_elim (λ j. h.snaps t j) (λ same. subst (λ (t : Tx). Covers s.vector t.snap) (sym same) (Covers_refl s.vector)) (in_more C tx t i);
-    sound = λ t i. ⊎_elim (λ j. h.sound t j) (λ same. subst (λ (t : Tx). IsSound b t.snap) (sym same) sound) (in_more C tx t i);
-    above = λ t i. ⊎_elim (λ j. h.above t j) (λ same. subst (λ (t : Tx). (d : Dot) (x : Covered b t.snap d) → x.item.tx.rank < t.rank) (sym same) (λ d x. omega (arith, h.ranks d x))) (in_more C tx t i);
+    snaps = λ t i. ⊎_elim (λ j. h.snaps t j) (λ same. subst (λ (t : Tx). Covers s.vector t.snap) (sym same) (Covers_refl s.vector)) (In_more C tx t i);
+    sound = λ t i. ⊎_elim (λ j. h.sound t j) (λ same. subst (λ (t : Tx). IsSound b t.snap) (sym same) sound) (In_more C tx t i);
+    above = λ t i. ⊎_elim (λ j. h.above t j) (λ same. subst (λ (t : Tx). (d : Dot) (x : Covered b t.snap d) → x.item.tx.rank < t.rank) (sym same) (λ d x. omega (arith, h.ranks d x))) (In_more C tx t i);
     ascend = ascend;
     cache = h.cache;
   }
@@ -245,20 +217,20 @@ module _ (b : Book) (clients limit capacity : ℕ) (fit : FitsWith b clients lim
           (λ last. absurd (omega (arith, lt, last.1, slice_get_within C q u before)))
           (get_last C tx t p here))
           (λ last. ⊎_elim
-          (λ first. subst (λ (u : Tx). Covers u.snap t.snap) last.0 (h.snaps t (get_in C p t first)))
+          (λ first. subst (λ (u : Tx). Covers u.snap t.snap) last.0 (h.snaps t (get_In C p t first)))
           (λ both. absurd (omega (arith, lt, last.1, both.1)))
           (get_last C tx t p here))
           (get_last C tx u q there)
 
   -- a call that ends
   standing_did : (c : ℕ) (s : Client) (C : List Tx) (call : Call) (outcome : Outcome) → IsSound b s.vector → Standing b clients capacity c s C → Standing b clients capacity c (did s call outcome) (C ++ commit_in s (Did call outcome))
-  standing_did c s C Begin Fine sound h = unchanged c _ C (record { own_in = h.own_in; own_all = h.own_all; ranks = h.ranks; snaps = h.snaps; sound = h.sound; above = h.above; ascend = h.ascend; cache = h.cache })
-  standing_did c s C (ChangeCall o change) Fine sound h = unchanged c _ C (record { own_in = h.own_in; own_all = h.own_all; ranks = h.ranks; snaps = h.snaps; sound = h.sound; above = h.above; ascend = h.ascend; cache = λ x i. h.cache x (In_looked_up s o change x i) })
-  standing_did c s C (ChangeCall o change) (Refused (TooManyTags tags)) sound h = unchanged c _ C (record { own_in = h.own_in; own_all = h.own_all; ranks = h.ranks; snaps = h.snaps; sound = h.sound; above = h.above; ascend = h.ascend; cache = λ x i. h.cache x (In_looked_up s o change x i) })
-  standing_did c s C (Read o) (Got value) sound h = unchanged c _ C (record { own_in = h.own_in; own_all = h.own_all; ranks = h.ranks; snaps = h.snaps; sound = h.sound; above = h.above; ascend = h.ascend; cache = λ x i. h.cache x (In_promoted o s.vector s.cache x i) })
+  standing_did c s C Begin Fine sound h = unchanged c _ C (same_standing b clients capacity c s _ C refl refl refl (λ x i. i) h)
+  standing_did c s C (ChangeCall o change) Fine sound h = unchanged c _ C (same_standing b clients capacity c s _ C refl refl refl (λ x i. In_looked_up s o change x i) h)
+  standing_did c s C (ChangeCall o change) (Refused (TooManyTags tags)) sound h = unchanged c _ C (same_standing b clients capacity c s _ C refl refl refl (λ x i. In_looked_up s o change x i) h)
+  standing_did c s C (Read o) (Got value) sound h = unchanged c _ C (same_standing b clients capacity c s _ C refl refl refl (λ x i. In_promoted o s.vector s.cache x i) h)
   standing_did c s C Commit (Number number) sound h = standing_committed c s C sound h
-  standing_did c s C Commit Nothing sound h = unchanged c _ C (record { own_in = h.own_in; own_all = h.own_all; ranks = h.ranks; snaps = h.snaps; sound = h.sound; above = h.above; ascend = h.ascend; cache = h.cache })
-  standing_did c s C Abort Fine sound h = unchanged c _ C (record { own_in = h.own_in; own_all = h.own_all; ranks = h.ranks; snaps = h.snaps; sound = h.sound; above = h.above; ascend = h.ascend; cache = h.cache })
+  standing_did c s C Commit Nothing sound h = unchanged c _ C (same_standing b clients capacity c s _ C refl refl refl (λ x i. i) h)
+  standing_did c s C Abort Fine sound h = unchanged c _ C (same_standing b clients capacity c s _ C refl refl refl (λ x i. i) h)
   standing_did c s C _ _ sound h = unchanged c s C h
 
   -- a deed
@@ -287,21 +259,15 @@ module _ (b : Book) (clients limit capacity : ℕ) (fit : FitsWith b clients lim
   -- what a log heard, a centre answered
   says_at : (a : ℕ) → IsClient clients a → (m : ℕ) (note : Note) (i : ℕ) (ask : Ask) (say : Say) → slice_get (notes_of b a) m ≡ Some note → note.deed ≡ Asked i ask (Heard say) → IsAnswer i ask say
   says_at a client m note i ask say there is =
-      let range = fit.form.centres a m note i ask (Heard say) there is in
-      let ans = heard_answered b clients limit capacity fit a m note i ask say (omega (arith, client.low)) (omega (arith, client.high, fit.form.logs)) there is in
-      record { low = range.0; high = range.1; place = ans.place; is = ans.is }
+      let x = has_entry b clients limit capacity fit a m note i ask (Heard say) say (omega (arith, client.low)) (omega (arith, client.high, fit.form.logs)) there is refl in
+      record { low = x.low; high = x.high; place = x.place; is = x.is }
 
-  -- a session at each moment of its log
-  pub standing : (a : ℕ) → IsClient clients a → (m : ℕ) → Standing b clients capacity (a - 1) (client_after b.n (a - 1) capacity (take m (notes_of b a))) (commits_of b.n (a - 1) capacity (take m (notes_of b a)))
-  standing a client = by_moments (λ X. Standing b clients capacity (a - 1) (client_after b.n (a - 1) capacity X) (commits_of b.n (a - 1) capacity X)) (notes_of b a) (standing_new (a - 1)) step
+  -- so stands a session at each moment of its log
+  pub standing : (a : ℕ) → IsClient clients a → (m : ℕ) → Standing b clients capacity (a - 1) (client_at b capacity a m) (commits_at b capacity a m)
+  standing a client = by_notes b.n (a - 1) capacity (notes_of b a) (λ s C. Standing b clients capacity (a - 1) s C) (standing_new (a - 1)) next
     where
-      step : (p : ℕ) (note : Note) → slice_get (notes_of b a) p ≡ Some note → Standing b clients capacity (a - 1) (client_after b.n (a - 1) capacity (take p (notes_of b a))) (commits_of b.n (a - 1) capacity (take p (notes_of b a))) → Standing b clients capacity (a - 1) (client_after b.n (a - 1) capacity (take p (notes_of b a) ++ note ∷ [])) (commits_of b.n (a - 1) capacity (take p (notes_of b a) ++ note ∷ []))
-      step p note there h =
-          let X = take p (notes_of b a) in
-          let s = client_after b.n (a - 1) capacity X in
-          let C = commits_of b.n (a - 1) capacity X in
-          let pushed : client_after b.n (a - 1) capacity (X ++ note ∷ []) ≡ after s note.deed = fold_push (λ s (note : Note). after s note.deed) (new_client b.n (a - 1) capacity) X note in
-          let next : IsSound b (after s note.deed).vector = subst (λ (s : Client). IsSound b s.vector) pushed (subst (λ X. IsSound b (client_after b.n (a - 1) capacity X).vector) (take_one_more (notes_of b a) p note there) (session_sound b clients limit capacity fit a client (suc p))) in
-          subst (λ s. Standing b clients capacity (a - 1) s (commits_of b.n (a - 1) capacity (X ++ note ∷ []))) (sym pushed)
-          (subst (λ C. Standing b clients capacity (a - 1) (after s note.deed) C) (sym (commits_of_more b.n (a - 1) capacity X note))
-          (standing_deed (a - 1) s C note.deed (λ i ask say is. says_at a client p note i ask say there is) (session_sound b clients limit capacity fit a client p) next (held_after b.n (a - 1) capacity (notes_of b a) (fit.follows a client) p) h))
+      next : (m : ℕ) (note : Note) → slice_get (notes_of b a) m ≡ Some note → Standing b clients capacity (a - 1) (client_at b capacity a m) (commits_at b capacity a m) → Standing b clients capacity (a - 1) (after (client_at b capacity a m) note.deed) (commits_at b capacity a m ++ commit_in (client_at b capacity a m) note.deed)
+      next m note there h =
+          let s = client_at b capacity a m in
+          let later : IsSound b (after s note.deed).vector = subst (λ (s : Client). IsSound b s.vector) (after_more b.n (a - 1) capacity m (notes_of b a) note there) (session_sound b clients limit capacity fit a client (suc m)) in
+          standing_deed (a - 1) s (commits_at b capacity a m) note.deed (λ i ask say is. says_at a client m note i ask say there is) (session_sound b clients limit capacity fit a client m) later (held_after b.n (a - 1) capacity (notes_of b a) (fit.follows a client) m) h

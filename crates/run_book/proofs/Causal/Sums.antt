@@ -24,7 +24,7 @@ use Rattle.run_book.specs.Acts.{deltas_in}
 use Rattle.run_book.specs.Graphs.{node_of, committed, graph}
 use Rattle.run_book.proofs.Sizes.{sizes-append, sizes-flat_map, sum_by_most, sum_by_filter}
 use Rattle.run_book.proofs.Sessions.{IsModest}
-use Rattle.run_book.proofs.Causal.Apart.{range_of as In_from_range}
+use Rattle.list_core.proofs.Ranges.{In_from_range}
 use Rattle.run_book.proofs.Causal.Closure.{session_held}
 use Rattle.run_book.proofs.BareActs.{deltas_over}
 use Rattle.run_book.proofs.Causal.InView.{ops_over}

@@ -1,33 +1,27 @@
 -- The laws of a book that fits, and that it is causal.
-use Rattle.std.proofs.Common.{◌≡◌, ℕ, suc, ◌+◌, ◌-◌, ◌≤◌, ◌<◌, List, [], length, take, Some, refl, sym, ap, ◌∙◌, subst, arith}
-use Rattle.std.specs.Prelude.{slice_get}
+use Rattle.std.proofs.Common.{ℕ, ◌+◌, ◌-◌, List, sym, ap, ◌∙◌, arith}
+use Rattle.std.proofs.lemmas.Option.{slice_get_within}
 use Rattle.list_core.specs.Members.{In}
-use Rattle.list_core.proofs.Members.{In_right, In_from_filter}
+use Rattle.list_core.proofs.Members.{In_right}
 use Rattle.list_core.proofs.Gets.{In_get}
-use Rattle.ids_core.specs.declared.ids.Dot.{Dot}
-use Rattle.ids_core.specs.declared.object.ObjectId.{ObjectId}
 use Rattle.tx_core.specs.declared.tx.Tx.{Tx}
-use Rattle.tx_core.specs.declared.tx.Record.{Record}
-use Rattle.tx_core.specs.declared.state.Value.{Value}
-use Rattle.tx_core.specs.States.{empty_of, fold_of, value_of}
-use Rattle.dc_talk.specs.Clients.{Client}
 use Rattle.run_book.specs.declared.book.Book.{Book}
 use Rattle.run_book.specs.Nodes.{Node}
-use Rattle.run_book.specs.Parts.{trail_of, IsClient}
+use Rattle.run_book.specs.Parts.{IsClient}
 use Rattle.run_book.specs.Fit.{FitsWith}
 use Rattle.run_book.specs.Values.{counter_over, acts_over}
 use Rattle.run_book.specs.Graphs.{cover, own_dots, graph, basis_at, client_at, open_node}
-use Rattle.run_book.specs.Causal.{Reads, commits_at, IsCausal}
-use Rattle.run_book.specs.Laws.{applied_at, HasSoundVectors, HasOneList, HasClosedBases, KeepsSessions, HasKnownBases, HasValues, Agrees}
+use Rattle.run_book.specs.Causal.{commits_at, IsCausal}
+use Rattle.run_book.specs.Laws.{HasSoundVectors, HasOneList, HasClosedBases, KeepsSessions, HasKnownBases, HasValues, Agrees}
 use Rattle.run_book.proofs.Numbered.{numbered_at}
-use Rattle.run_book.proofs.Held.{dot_at, held_after}
+use Rattle.run_book.proofs.Held.{dot_at}
 use Rattle.run_book.proofs.Dots.{are_own_dots}
-use Rattle.run_book.proofs.Causal.Origins.{each_at, agreement, vector_sound}
-use Rattle.run_book.proofs.Causal.Soundness.{told_sound, stable_sound, snap_sound, session_sound}
+use Rattle.run_book.proofs.Causal.CentreVectors.{vector_sound, told_sound, stable_sound}
+use Rattle.run_book.proofs.Causal.SessionVectors.{session_sound, snap_sound}
 use Rattle.run_book.proofs.Causal.OneList.{front, inside_covered, covered_inside}
 use Rattle.run_book.proofs.Causal.KnownToK.{basis_known}
 use Rattle.run_book.proofs.Causal.Moments.{moment}
-use Rattle.run_book.proofs.Causal.Commits.{own_commit, carried, one_tx}
+use Rattle.run_book.proofs.Causal.Commits.{one_tx, applied_commit}
 use Rattle.run_book.proofs.Causal.SessionStates.{standing}
 use Rattle.run_book.proofs.Causal.Closure.{made, closed_basis, basis_grows, session_held}
 use Rattle.run_book.proofs.Causal.InView.{ops_in}
@@ -48,20 +42,12 @@ module _ (b : Book) (clients limit capacity : ℕ) (fit : FitsWith b clients lim
     sessions = λ a m client. session_sound b clients limit capacity fit a client m;
   }
 
-  -- the transaction of a record that a centre applied was committed
-  applied_carried : (i p : ℕ) (r : Record) → 1 ≤ i → i ≤ b.n → In r (applied_at b i p) → In r.tx (Rattle.run_book.specs.Graphs.committed b clients capacity)
-  applied_carried i p r low high here =
-      let A = applied_at b i p in
-      let g = In_get A r here in
-      let local = (each_at b clients limit capacity fit i p low high).by g.0 r g.1 in
-      carried b clients limit capacity fit r.tx (own_commit b clients limit capacity fit r.stamp.centre (r.stamp.seq - 1) r local.centre.0 local.centre.1 (agreement b clients limit capacity fit i p low high r here))
-
   -- all centres have one list of each centre's records
   pub one_list : HasOneList b
   one_list = record {
-    fronts = front b clients limit capacity fit;
+    fronts = λ i p e low high. front b clients limit capacity fit i p low high e;
     served = λ i p w d low high le. (inside_covered b clients limit capacity fit i p low high w d, covered_inside b clients limit capacity fit i p low high w d le);
-    carried = λ i p j q r s i_low i_high j_low j_high here there same. one_tx b clients limit capacity fit r.tx s.tx (applied_carried i p r i_low i_high here) (applied_carried j q s j_low j_high there) same;
+    carried = λ i p j q r s i_low i_high j_low j_high here there same. one_tx b clients limit capacity fit r.tx s.tx (applied_commit b clients limit capacity fit i p i_low i_high r here) (applied_commit b clients limit capacity fit j q j_low j_high s there) same;
   }
 
   -- the graph is well made, and bases are closed
@@ -78,7 +64,7 @@ module _ (b : Book) (clients limit capacity : ℕ) (fit : FitsWith b clients lim
       let held = session_held b clients limit capacity fit a m client in
       let g = In_get (commits_at b capacity a m) t i in
       let dot = numbered_at (λ (t : Tx). t.dot) (dot_at (a - 1)) 1 (commits_at b capacity a m) g.0 t held.dots g.1 in
-      let within = Rattle.std.proofs.lemmas.Option.slice_get_within (commits_at b capacity a m) g.0 t g.1 in
+      let within = slice_get_within (commits_at b capacity a m) g.0 t g.1 in
       In_right (cover b s.vector) (own_dots s.client s.own) t.dot (are_own_dots s.client s.own t.dot (record { number = 1 + g.0; low = omega arith; high = omega (arith, within, held.number); is = dot ∙ ap (λ c. dot_at c (1 + g.0)) (sym held.who) }))
 
   -- the basis of a read holds those of earlier reads, and all own commits

@@ -4,7 +4,7 @@ use Rattle.ids_core.specs.declared.ids.Dot.{Dot}
 use Rattle.vv_core.specs.Vectors.{at, centres}
 use Rattle.run_book.specs.Parts.{trail_of}
 use Rattle.run_book.specs.Basis.{stamped_dots}
-use Rattle.run_book.proofs.Ranges.{joined_more}
+use Rattle.list_core.proofs.Ranges.{joined_more}
 use Rattle.run_book.proofs.book.Book.cover.Goals as goal
 
 pub loop-centre-preserved : goal.loop-centre-preserved

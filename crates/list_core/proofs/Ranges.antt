@@ -1,9 +1,22 @@
--- What is joined over the numbers from 1 on.
-use Rattle.std.proofs.Common.{◌≡◌, ℕ, zero, suc, ◌+◌, ◌-◌, ◌≤◌, List, [], ◌∷◌, ◌++◌, sym, ap, ◌∙◌, arith}
+-- The members of a range of numbers, and what is joined over one.
+use Rattle.std.proofs.Common.{◌≡◌, ℕ, zero, suc, ◌+◌, ◌-◌, ◌≤◌, ◌<◌, inl, inr, ⊎_elim, List, [], ◌∷◌, ◌++◌, sym, ap, ◌∙◌, arith}
 use Rattle.std.specs.Prelude.{flat_map}
 use Rattle.std.specs.List.{range_with_len}
+use Rattle.std.proofs.lemmas.Bool.{cases_lt}
 use Rattle.std.proofs.lemmas.List.{append-nil}
 use Rattle.std.proofs.lemmas.Grind.{flat_map-append}
+use Rattle.list_core.specs.Members.{In}
+
+-- a number from the first on, below the end, is one of the range
+pub In_range : (first count k : ℕ) → first ≤ k → k < first + count → In k (range_with_len first count)
+In_range first zero k low high = absurd (omega (arith, low, high))
+In_range first (suc count) k low high = ⊎_elim (λ lt. inr (In_range (first + 1) count k (omega (arith, lt)) (omega (arith, high)))) (λ le. inl (omega (arith, le, low))) (cases_lt first k)
+
+-- a number of the range is from the first on, below the end
+pub In_from_range : (first count k : ℕ) → In k (range_with_len first count) → (first ≤ k) × (k < first + count)
+In_from_range first zero k i = absurd i
+In_from_range first (suc count) k (inl same) = (omega (arith, same), omega (arith, same))
+In_from_range first (suc count) k (inr i) = let r = In_from_range (first + 1) count k i in (omega (arith, r.0), omega (arith, r.1))
 
 -- one number more is the last
 range_more : (first count : ℕ) → range_with_len first (suc count) ≡ range_with_len first count ++ (first + count) ∷ []

@@ -1,0 +1,139 @@
+-- What the answer to an ask of another centre tells of the ask and of what was applied before it.
+use Rattle.std.proofs.Common.{◌≡◌, ℕ, ◌+◌, ◌≤◌, Bool, true, List, length, refl, sym, ◌∙◌, subst, arith}
+use Rattle.std.specs.Prelude.{nat_le, take, drop, is_none, ◌==◌, ◌&&◌}
+use Rattle.std.proofs.lemmas.Bool.{and_parts, or_parts, leb-true, leb-false, eqb-true, eq-eqb, false≢true}
+use Rattle.list_core.specs.Members.{In}
+use Rattle.list_core.proofs.Members.{In_take, In_drop}
+use Rattle.list_core.proofs.Choices.{is_none_true, when_none, when_holds}
+use Rattle.vv_core.specs.Vectors.{Covers}
+use Rattle.tx_core.specs.declared.tx.Record.{Record}
+use Rattle.tx_core.specs.Checks.{is_within, fault_of, IsFit}
+use Rattle.tx_core.proofs.Fits.{fault_of-none}
+use Rattle.dc_talk.specs.declared.ask.Ask.{Ask}
+use Rattle.dc_talk.specs.declared.ask.Ask.TheVariants.{Send, Deliver, Report}
+use Rattle.dc_talk.specs.declared.say.Say.TheVariants.{Records, Waits, Applied, Vector}
+use Rattle.dc_talk.specs.declared.trail.Entry.{Entry}
+use Rattle.dc_talk.specs.Records.{count, vector, guard, own}
+use Rattle.dc_talk.specs.Trails.{applied}
+use Rattle.dc_talk.specs.Answers.{fits, are_modest, is_fit_item, deliver_answer, answer}
+use Rattle.dc_talk.proofs.Answers.{lack_holds, lack_none, deliver_holds, may_answer, fitting, answers_it}
+
+-- ---- a send
+
+-- the ask is a send
+pub record IsSend (ask : Ask) : Type 0 where
+  pub after : ℕ
+  pub most : ℕ
+  pub is : ask ≡ Send after most
+
+-- no other ask can be answered with records
+records_asked : (ask : Ask) (list : List Record) → may_answer ask (Records list) ≡ true → IsSend ask
+records_asked (Send after most) list is = record { after = after; most = most; is = refl }
+records_asked _ list is = absurd (false≢true is)
+
+-- equal answers have equal lists
+same_list : (x y : List Record) → Records x ≡ Records y → x ≡ y
+same_list x y same = cc
+
+-- the records of a send are own records of the centre
+pub records_by : (me n k limit : ℕ) (trail : List Entry) (after most : ℕ) (list : List Record) → Records list ≡ answer me n k limit trail (Send after most) → list ≡ take most (drop after (own me (applied n trail)))
+records_by me n k limit trail after most list is = same_list list (take most (drop after (own me (applied n trail)))) (fitting me n k limit trail (Send after most) (Records list) is (λ e. cc) (λ e. cc)).1
+
+-- so each record that is sent is an own record of the centre
+pub sent_by : (me n k limit : ℕ) (trail : List Entry) (ask : Ask) (list : List Record) (r : Record) → Records list ≡ answer me n k limit trail ask → In r list → In r (own me (applied n trail))
+sent_by me n k limit trail ask list r is i = from_send (records_asked ask list (answers_it me n k limit trail ask (Records list) is (λ e. cc) (λ e. cc)))
+  where
+    from_send : IsSend ask → In r (own me (applied n trail))
+    from_send s =
+        let list_is = records_by me n k limit trail s.after s.most list (subst (λ ask. Records list ≡ answer me n k limit trail ask) s.is is) in
+        In_drop s.after (own me (applied n trail)) r (In_take s.most (drop s.after (own me (applied n trail))) r (subst (λ l. In r l) list_is i))
+
+-- ---- a report
+
+-- no ask but a report can be answered with a vector
+vector_asked : (ask : Ask) (v : List ℕ) → may_answer ask (Vector v) ≡ true → ask ≡ Report
+vector_asked Report v is = refl
+vector_asked _ v is = absurd (false≢true is)
+
+-- equal answers have equal vectors
+same_vector : (v w : List ℕ) → Vector v ≡ Vector w → v ≡ w
+same_vector v w same = cc
+
+-- a vector that is answered is the centre's
+pub vector_by : (me n k limit : ℕ) (trail : List Entry) (ask : Ask) (v : List ℕ) → Vector v ≡ answer me n k limit trail ask → v ≡ vector n (applied n trail)
+vector_by me n k limit trail ask v is = from_report (vector_asked ask v (answers_it me n k limit trail ask (Vector v) is (λ e. cc) (λ e. cc)))
+  where
+    from_report : ask ≡ Report → v ≡ vector n (applied n trail)
+    from_report asks = same_vector v (vector n (applied n trail)) (fitting me n k limit trail Report (Vector v) (subst (λ ask. Vector v ≡ answer me n k limit trail ask) asks is) (λ e. cc) (λ e. cc)).1
+
+-- ---- a delivery
+
+-- a record that can be delivered to a centre among n
+pub record IsFitItem (n : ℕ) (item : Record) : Type 0 where
+  pub centre : (1 ≤ item.stamp.centre) × (item.stamp.centre ≤ n)
+  pub seq : (1 ≤ item.stamp.seq) × (item.stamp.seq ≤ 1000000)
+  pub width : length item.deps ≡ n
+  pub fit : IsFit n item.tx
+
+-- a record that passes the test can
+pub item_fits : (n : ℕ) (item : Record) → is_fit_item n item ≡ true → IsFitItem n item
+item_fits n item is =
+    let tx = and_parts (is_within 1 n item.stamp.centre && is_within 1 1000000 item.stamp.seq && (length item.deps == n) && are_modest item.deps) (is_none (fault_of n item.tx)) is in
+    let modest = and_parts (is_within 1 n item.stamp.centre && is_within 1 1000000 item.stamp.seq && (length item.deps == n)) (are_modest item.deps) tx.0 in
+    let width = and_parts (is_within 1 n item.stamp.centre && is_within 1 1000000 item.stamp.seq) (length item.deps == n) modest.0 in
+    let stamp = and_parts (is_within 1 n item.stamp.centre) (is_within 1 1000000 item.stamp.seq) width.0 in
+    let centre = and_parts (nat_le 1 item.stamp.centre) (nat_le item.stamp.centre n) stamp.0 in
+    let seq = and_parts (nat_le 1 item.stamp.seq) (nat_le item.stamp.seq 1000000) stamp.1 in
+    record {
+      centre = (leb-true 1 item.stamp.centre centre.0, leb-true item.stamp.centre n centre.1);
+      seq = (leb-true 1 item.stamp.seq seq.0, leb-true item.stamp.seq 1000000 seq.1);
+      width = eqb-true (length item.deps) n width.1;
+      fit = fault_of-none n item.tx (is_none_true (fault_of n item.tx) tx.1);
+    }
+
+-- a delivered record that is applied after the records A
+pub record AppliedBy (me n : ℕ) (A : List Record) (item : Record) (fresh : Bool) : Type 0 where
+  pub fit : IsFitItem n item
+  pub number : item.stamp.seq ≡ count item.stamp.centre A + 1
+  pub other : item.stamp.centre ≡ me → ⊥
+  pub covered : Covers (vector n A) item.deps
+  pub next : item.tx.dot.number ≤ guard item.tx.dot.client A + 1
+  pub is : fresh ≡ (item.tx.dot.number == guard item.tx.dot.client A + 1)
+
+-- equal answers are of a new transaction alike
+same_fresh : (a b : Bool) → Applied a ≡ Applied b → a ≡ b
+same_fresh a b same = cc
+
+-- a record is applied where no refusal comes
+applied_row : (me n : ℕ) (A : List Record) (item : Record) (fresh : Bool) → fits n (Deliver item) ≡ true → Applied fresh ≡ deliver_answer me n A item → AppliedBy me n A item fresh
+applied_row me n A item fresh fit = deliver_holds (λ say. Applied fresh ≡ say → AppliedBy me n A item fresh) me n A item (
+  when_holds _ _ _ (λ t e. absurd (cc)),
+  λ old. (
+    when_holds _ _ _ (λ t e. absurd (cc)),
+    λ gap. (
+      lack_holds _ Waits (λ c m h e. absurd (cc)) (vector n A) item.deps,
+      λ waits. (
+        when_holds _ _ _ (λ t e. absurd (cc)),
+        λ orphan e.
+            let low = leb-false item.stamp.seq (count item.stamp.centre A) (when_none _ _ old) in
+            let far = or_parts _ _ (when_none _ _ gap) in
+            let high = leb-false (count item.stamp.centre A + 2) item.stamp.seq far.0 in
+            let next = leb-false (guard item.tx.dot.client A + 2) item.tx.dot.number (when_none _ _ orphan) in
+            record {
+              fit = item_fits n item fit;
+              number = omega (arith, low, high);
+              other = λ same. false≢true (sym far.1 ∙ eq-eqb item.stamp.centre me same);
+              covered = lack_none Waits (vector n A) item.deps waits;
+              next = omega (arith, next);
+              is = same_fresh fresh _ e;
+            },
+      ),
+    ),
+  ),
+)
+
+-- what is applied, by the answer
+pub applied_by : (me n k limit : ℕ) (trail : List Entry) (item : Record) (fresh : Bool) → Applied fresh ≡ answer me n k limit trail (Deliver item) → AppliedBy me n (applied n trail) item fresh
+applied_by me n k limit trail item fresh is =
+    let fit = fitting me n k limit trail (Deliver item) (Applied fresh) is (λ e. cc) (λ e. cc) in
+    applied_row me n (applied n trail) item fresh fit.0 fit.1
