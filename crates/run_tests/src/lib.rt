@@ -8,7 +8,11 @@ mod client_stub_tests;
 #[cfg(test)]
 mod print_text_tests;
 #[cfg(test)]
+mod run_book_stamps;
+#[cfg(test)]
 mod run_book_tests;
+#[cfg(test)]
+mod run_book_values;
 #[cfg(test)]
 mod script_text_tests;
 #[cfg(test)]
