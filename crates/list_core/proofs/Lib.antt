@@ -9,3 +9,4 @@ pub mod Apart
 pub mod Passing
 pub mod Choices
 pub mod Firsts
+pub mod Images

@@ -33,7 +33,7 @@ use Rattle.run_book.specs.Fit.{FitsWith}
 use Rattle.run_book.specs.Graphs.{own_list, cover, own_dots, basis, client_at, basis_at}
 use Rattle.run_book.specs.Replay.{Shows}
 use Rattle.run_book.specs.Basis.{dot_stamped, stamped_dots, stamped_cover, basis_of}
-use Rattle.run_book.proofs.Lists.{flat_map-agree}
+use Rattle.list_core.proofs.Images.{flat_map-agree}
 use Rattle.run_book.proofs.Held.{dot_at}
 use Rattle.run_book.proofs.Growth.{wide_after}
 

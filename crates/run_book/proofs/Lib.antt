@@ -1,4 +1,3 @@
-pub mod Lists
 pub mod Sizes
 pub mod Numbered
 pub mod Sessions
@@ -13,14 +12,7 @@ pub mod Happened
 pub mod Reached
 pub mod TogetherFits
 pub mod TogetherSteps
-pub mod BareActs
-pub mod LastWords
-pub mod AscendingNames
-pub mod UnseenActs
-pub mod PairsOfPuts
-pub mod SameValues
 pub mod Replays
-pub mod Ascending
 pub mod Bases
 pub mod BareNodes
 pub mod ObjectActs

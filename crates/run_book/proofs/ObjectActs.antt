@@ -13,13 +13,13 @@ use Rattle.ids_core.specs.Ids.{same_object}
 use Rattle.tx_core.specs.declared.tx.Update.{Update}
 use Rattle.dc_talk.specs.Records.{has}
 use Rattle.dc_talk.specs.Objects.{mark}
-use Rattle.run_book.specs.declared.acts.BareAct.{BareAct}
+use Rattle.tx_graph.specs.declared.acts.BareAct.{BareAct}
 use Rattle.run_book.specs.declared.edits.Edit.{Edit}
 use Rattle.run_book.specs.declared.bare_nodes.BareNode.{BareNode}
-use Rattle.run_book.specs.Nodes.{Node}
-use Rattle.run_book.specs.Values.{Act, acts_from, acts_of, nodes_in}
+use Rattle.tx_graph.specs.Nodes.{Node}
+use Rattle.tx_graph.specs.Values.{Act, acts_from, acts_of, nodes_in}
 use Rattle.run_book.specs.Edits.{edit_of, edits_of}
-use Rattle.run_book.specs.Acts.{change_of, bare_of}
+use Rattle.tx_graph.specs.Acts.{change_of, bare_of}
 use Rattle.run_book.specs.BareNodes.{bare_node}
 
 -- ---- places of images

@@ -13,23 +13,23 @@ use Rattle.tx_core.specs.declared.state.Value.{Value}
 use Rattle.dc_talk.specs.Logs.{Logged}
 use Rattle.dc_talk.specs.Clients.{Client, draft_updates}
 use Rattle.run_book.specs.declared.book.Book.{Book}
-use Rattle.run_book.specs.declared.acts.BareAct.{BareAct}
+use Rattle.tx_graph.specs.declared.acts.BareAct.{BareAct}
 use Rattle.run_book.specs.declared.replay.Replay.{Replay}
 use Rattle.run_book.specs.declared.bare_nodes.BareNode.{BareNode}
-use Rattle.run_book.specs.Nodes.{Node}
+use Rattle.tx_graph.specs.Nodes.{Node}
 use Rattle.run_book.specs.Parts.{log_of, notes_of, IsClient}
 use Rattle.run_book.specs.Fit.{FitsWith}
-use Rattle.run_book.specs.Values.{Act, acts_of, acts_over, acts_from, nodes_in, IsValueBy, IsValueOver}
+use Rattle.tx_graph.specs.Values.{Act, acts_of, acts_over, acts_from, nodes_in, IsValueBy, IsValueOver}
 use Rattle.run_book.specs.Graphs.{node_of, committed, graph, basis_at, client_at, open_node}
 use Rattle.run_book.specs.Causal.{Reads}
 use Rattle.run_book.specs.Replay.{Shows, IsInRange}
-use Rattle.run_book.specs.Acts.{bare_of, deltas_in, sum_of, HasUniqueMarks}
+use Rattle.tx_graph.specs.Acts.{bare_of, deltas_in, sum_of, HasUniqueMarks}
 use Rattle.run_book.specs.BareNodes.{bare_node}
 use Rattle.run_book.specs.ReadValues.{read_in, read_of}
 use Rattle.run_book.proofs.Sessions.{IsModest, modest_none}
 use Rattle.run_book.proofs.Replays.{in_range_at}
 use Rattle.run_book.proofs.Growth.{wide_after}
-use Rattle.run_book.proofs.BareActs.{sum_over}
+use Rattle.tx_graph.proofs.BareActs.{sum_over}
 use Rattle.run_book.proofs.Causal.Closure.{made, session_held}
 use Rattle.run_book.proofs.Causal.CommitMoments.{commit_modest}
 use Rattle.run_book.proofs.Causal.Sums.{sum_fits}

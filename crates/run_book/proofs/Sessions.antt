@@ -28,7 +28,7 @@ use Rattle.dc_talk.specs.declared.log.Note.{Note}
 use Rattle.dc_talk.specs.Clients.{Client, new_client, draft_updates}
 use Rattle.dc_talk.specs.Calls.{most_rank, most_updates, kind_of, named, op_of, is_modest, viewed, look_up_outcome, begin_outcome, change_outcome, commit_outcome}
 use Rattle.dc_talk.specs.Rule.{after, can_follow, client_after, commit_in, commits_from, commits_of}
-use Rattle.run_book.specs.Values.{delta_of, deltas_of}
+use Rattle.tx_graph.specs.Values.{delta_of, deltas_of}
 use Rattle.run_book.proofs.Sizes.{sizes-append, deltas_of-append}
 
 -- ---- the commits of a log

@@ -11,7 +11,7 @@ use Rattle.ids_core.specs.declared.object.ObjectId.{ObjectId}
 use Rattle.ids_core.specs.Ids.{same_object}
 use Rattle.obj_counter.specs.Counter.{sizes}
 use Rattle.tx_core.specs.declared.tx.Update.{Update}
-use Rattle.run_book.specs.Values.{delta_of, deltas_of}
+use Rattle.tx_graph.specs.Values.{delta_of, deltas_of}
 
 -- the sizes of two lists together
 pub sizes-append : (xs ys : List ℤ) → sizes (xs ++ ys) ≡ sizes xs + sizes ys

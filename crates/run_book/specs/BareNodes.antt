@@ -5,7 +5,7 @@ use Rattle.dc_talk.specs.declared.session.Outcome.TheVariants.{Number}
 use Rattle.dc_talk.specs.declared.log.Deed.{Deed}
 use Rattle.dc_talk.specs.declared.log.Deed.TheVariants.{Did}
 use Rattle.run_book.specs.declared.bare_nodes.BareNode.{BareNode}
-use Rattle.run_book.specs.Nodes.{Node}
+use Rattle.tx_graph.specs.Nodes.{Node}
 use Rattle.run_book.specs.Edits.{edits_of}
 
 -- a node without what its updates are over

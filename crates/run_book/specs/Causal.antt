@@ -11,9 +11,9 @@ use Rattle.dc_talk.specs.declared.log.Deed.TheVariants.{Did}
 use Rattle.dc_talk.specs.declared.log.Note.{Note}
 use Rattle.dc_talk.specs.Rule.{commits_of}
 use Rattle.run_book.specs.declared.book.Book.{Book}
-use Rattle.run_book.specs.Nodes.{Within, Closed, WellMade}
+use Rattle.tx_graph.specs.Nodes.{Within, Closed, WellMade}
 use Rattle.run_book.specs.Parts.{notes_of, IsClient}
-use Rattle.run_book.specs.Values.{IsValueOver}
+use Rattle.tx_graph.specs.Values.{IsValueOver}
 use Rattle.run_book.specs.Graphs.{graph, basis_at, client_at, open_node}
 use Rattle.run_book.specs.Known.{IsKnownDot}
 

@@ -11,7 +11,7 @@ use Rattle.dc_talk.specs.Trails.{applied}
 use Rattle.dc_talk.specs.Clients.{Client, next_dot, draft_updates}
 use Rattle.dc_talk.specs.Rule.{client_after, commits_of}
 use Rattle.run_book.specs.declared.book.Book.{Book}
-use Rattle.run_book.specs.Nodes.{Node}
+use Rattle.tx_graph.specs.Nodes.{Node}
 use Rattle.run_book.specs.Parts.{trail_of, notes_of}
 
 -- the records that centre e stamped in the book, in order

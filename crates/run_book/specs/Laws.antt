@@ -13,9 +13,9 @@ use Rattle.dc_talk.specs.Records.{vector, count, own, inside}
 use Rattle.dc_talk.specs.Trails.{applied, told, stable}
 use Rattle.dc_talk.specs.Clients.{draft_updates}
 use Rattle.run_book.specs.declared.book.Book.{Book}
-use Rattle.run_book.specs.Nodes.{Node, Within, Closed, WellMade}
+use Rattle.tx_graph.specs.Nodes.{Node, Within, Closed, WellMade}
 use Rattle.run_book.specs.Parts.{trail_of, IsClient}
-use Rattle.run_book.specs.Values.{IsValueOver}
+use Rattle.tx_graph.specs.Values.{IsValueOver}
 use Rattle.run_book.specs.Graphs.{own_list, cover, graph, basis_at, client_at, open_node}
 use Rattle.run_book.specs.Sound.{IsSound}
 use Rattle.run_book.specs.Known.{knows, HasMoment, IsKnownDot}

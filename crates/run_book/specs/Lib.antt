@@ -2,8 +2,6 @@ pub mod Books
 pub mod Parts
 pub mod Fit
 pub mod Scripted
-pub mod Nodes
-pub mod Values
 pub mod Graphs
 pub mod Sound
 pub mod Known
@@ -11,8 +9,6 @@ pub mod Causal
 pub mod Laws
 pub mod Numbers
 pub mod Together
-pub mod Acts
-pub mod Unseen
 pub mod Edits
 pub mod Replay
 pub mod Basis

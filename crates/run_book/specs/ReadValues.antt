@@ -9,7 +9,7 @@ use Rattle.dc_talk.specs.declared.log.Deed.TheVariants.{Did}
 use Rattle.dc_talk.specs.declared.log.Note.{Note}
 use Rattle.run_book.specs.declared.book.Book.{Book}
 use Rattle.run_book.specs.Parts.{notes_of}
-use Rattle.run_book.specs.Values.{IsValueOver}
+use Rattle.tx_graph.specs.Values.{IsValueOver}
 use Rattle.run_book.specs.Graphs.{graph, basis_at, client_at, open_node}
 
 -- the object that a deed read, where it got a value

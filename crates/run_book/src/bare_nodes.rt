@@ -9,12 +9,12 @@ ghost use Rattle.run_book.specs.Replay.{Shows, IsInRange};
 ghost use Rattle.run_book.specs.BareNodes.{bare_node, is_commit};
 
 use crate::book::Book;
-use crate::dot_set::DotSet;
 use crate::edits::Edits;
 use crate::replay::Replay;
 use dc_talk::{Call, Deed, Log, Outcome};
 use ids_core::{Dot, NoMemory};
 use std::alloc::Global;
+use tx_graph::DotSet;
 
 /// A committed transaction with the dots of all that it may have seen: its snapshot, and what its client
 /// had committed before. Of its operations it has what the client asked for, and not the identifiers

@@ -3,27 +3,19 @@
 //! asked for the basis of a read, for its graph of transactions, and for values of objects.
 #![tactic(auto)]
 
-mod acts;
 mod bare_nodes;
 mod basis;
 mod book;
-mod dot_set;
 mod edits;
-mod last;
 mod laws;
 mod object_acts;
 mod read_values;
 mod replay;
-mod unseen;
-mod values;
 
-pub use acts::{BareAct, change_of};
 pub use bare_nodes::BareNode;
 pub use book::{Book, Logs, Trails};
-pub use dot_set::{DotSet, is_in};
 pub use edits::{Edit, Edits};
 pub use laws::{
     law_agree, law_causal, law_closed, law_known, law_numbers, law_one_list, law_session,
     law_sound, law_value,
 };
-pub use values::value_by_sees;

@@ -2,17 +2,16 @@
 ghost use Rattle.std.specs.Prelude.{◌≡◌, ◌<◌, ◌≤◌, ◌++◌, ◌∷◌, [], List, All, cond, flat_map, length, map, OnOk, IfOk};
 ghost use Rattle.ids_core.specs.Ids.{same_object};
 ghost use Rattle.dc_talk.specs.Objects.{mark};
-ghost use Rattle.run_book.specs.Nodes.{Node};
-ghost use Rattle.run_book.specs.Values.{acts_of, nodes_in};
-ghost use Rattle.run_book.specs.Acts.{bare_of};
+ghost use Rattle.tx_graph.specs.Nodes.{Node};
+ghost use Rattle.tx_graph.specs.Values.{acts_of, nodes_in};
+ghost use Rattle.tx_graph.specs.Acts.{bare_of};
 ghost use Rattle.run_book.specs.BareNodes.{bare_node};
 
-use crate::acts::BareAct;
 use crate::bare_nodes::BareNode;
-use crate::dot_set::is_in;
 use crate::edits::Edit;
 use ids_core::{Dot, Mark, NoMemory, ObjectId, OpId};
 use std::alloc::Global;
+use tx_graph::{BareAct, is_in};
 
 /// The acts on an object in the nodes of a set of dots.
 pub fn acts_over(

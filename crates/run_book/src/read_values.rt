@@ -2,10 +2,10 @@
 ghost use Rattle.std.specs.Prelude.{◌≡◌, ◌+◌, ◌↔◌, ℕ, [], None, slice_get, IfOk, IfSome, IsNone};
 ghost use Rattle.ids_core.specs.declared.object.ObjectId.{ObjectId};
 ghost use Rattle.tx_core.specs.declared.state.Value.{Value};
-ghost use Rattle.run_book.specs.Nodes.{Node};
+ghost use Rattle.tx_graph.specs.Nodes.{Node};
 ghost use Rattle.run_book.specs.Parts.{IsClient};
 ghost use Rattle.run_book.specs.Fit.{FitsWith};
-ghost use Rattle.run_book.specs.Values.{IsValueOver};
+ghost use Rattle.tx_graph.specs.Values.{IsValueOver};
 ghost use Rattle.run_book.specs.Graphs.{graph, client_at, open_node};
 ghost use Rattle.run_book.specs.Causal.{Reads};
 ghost use Rattle.run_book.specs.BareNodes.{bare_node};
@@ -14,11 +14,11 @@ ghost use Rattle.run_book.specs.ReadValues.{read_in, read_of, object_read, IsVal
 use crate::bare_nodes::BareNode;
 use crate::book::Book;
 use crate::object_acts::{acts_over, push_acts};
-use crate::values::value_by_sees;
 use dc_talk::{Call, Deed, Log, Outcome};
 use ids_core::{Dot, NoMemory, ObjectId};
 use std::alloc::Global;
 use tx_core::Value;
+use tx_graph::value_by_sees;
 
 impl Book {
     /// The value of an object over a set of transactions, each counted once, by which update sees which

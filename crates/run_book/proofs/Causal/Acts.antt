@@ -14,8 +14,8 @@ use Rattle.ids_core.specs.Same.{same_object-true, same_object-same}
 use Rattle.tx_core.specs.declared.op.Op.{Op}
 use Rattle.tx_core.specs.declared.tx.Update.{Update}
 use Rattle.dc_talk.specs.Objects.{mark, ops_from}
-use Rattle.run_book.specs.Nodes.{Node}
-use Rattle.run_book.specs.Values.{Act, acts_from, acts_of, acts_over, nodes_in}
+use Rattle.tx_graph.specs.Nodes.{Node}
+use Rattle.tx_graph.specs.Values.{Act, acts_from, acts_of, acts_over, nodes_in}
 use Rattle.run_book.proofs.Causal.InView.{node_ops, ops_in, ops_over, with_first}
 use Rattle.run_book.proofs.Causal.SetNodes.{StandsIn, over_from}
 

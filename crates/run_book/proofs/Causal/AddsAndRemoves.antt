@@ -6,7 +6,7 @@ use Rattle.ids_core.specs.declared.object.Sort.TheVariants as sort
 use Rattle.tx_core.specs.declared.op.Op.{Op}
 use Rattle.tx_core.specs.declared.op.Op.TheVariants.{Add, Remove, Put, Erase}
 use Rattle.tx_core.specs.Ops.{sort_of_op, name_of, is_add}
-use Rattle.run_book.specs.Values.{added, removed, put, erased}
+use Rattle.tx_graph.specs.Values.{added, removed, put, erased}
 
 -- ---- sets
 

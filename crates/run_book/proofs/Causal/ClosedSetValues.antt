@@ -9,8 +9,8 @@ use Rattle.ids_core.specs.declared.ids.Dot.{Dot}
 use Rattle.ids_core.specs.declared.object.ObjectId.{ObjectId}
 use Rattle.run_book.specs.declared.book.Book.{Book}
 use Rattle.run_book.specs.Fit.{FitsWith}
-use Rattle.run_book.specs.Nodes.{Node, Closed}
-use Rattle.run_book.specs.Values.{acts_from, acts_of, counter_over, nodes_in, IsValueBy, IsValueOver}
+use Rattle.tx_graph.specs.Nodes.{Node, Closed}
+use Rattle.tx_graph.specs.Values.{acts_from, acts_of, counter_over, nodes_in, IsValueBy, IsValueOver}
 use Rattle.run_book.specs.Graphs.{node_of, committed, graph}
 use Rattle.run_book.proofs.Sessions.{modest_none}
 use Rattle.run_book.proofs.Causal.Commits.{committed_is}

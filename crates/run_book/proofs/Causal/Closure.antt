@@ -20,7 +20,7 @@ use Rattle.dc_talk.proofs.Places.{own_at}
 use Rattle.run_book.specs.declared.book.Book.{Book}
 use Rattle.run_book.specs.Parts.{trail_of, notes_of, IsClient}
 use Rattle.run_book.specs.Fit.{FitsWith}
-use Rattle.run_book.specs.Nodes.{Node, Within, Closed, WellMade}
+use Rattle.tx_graph.specs.Nodes.{Node, Within, Closed, WellMade}
 use Rattle.run_book.specs.Graphs.{own_list, cover, own_dots, node_of, committed, graph, client_at, basis_at}
 use Rattle.run_book.specs.Sound.{IsSound}
 use Rattle.run_book.specs.Causal.{commits_at}

@@ -12,10 +12,10 @@ use Rattle.tx_core.specs.declared.state.Value.TheVariants.{Number}
 use Rattle.tx_core.specs.States.{empty_of, fold_of, value_of}
 use Rattle.tx_core.specs.Objects.{AreOf, IsValueOf}
 use Rattle.tx_core.proofs.Values.{value_is, counter_exact}
-use Rattle.run_book.specs.Nodes.{Node}
-use Rattle.run_book.specs.Values.{acts_over, counter_over, IsValueOver}
-use Rattle.run_book.specs.Acts.{deltas_in}
-use Rattle.run_book.proofs.BareActs.{sum_over}
+use Rattle.tx_graph.specs.Nodes.{Node}
+use Rattle.tx_graph.specs.Values.{acts_over, counter_over, IsValueOver}
+use Rattle.tx_graph.specs.Acts.{deltas_in}
+use Rattle.tx_graph.proofs.BareActs.{sum_over}
 use Rattle.run_book.proofs.Causal.InView.{ops_over}
 use Rattle.run_book.proofs.Causal.Acts.{op_of_act, acts_over_are}
 use Rattle.run_book.proofs.Causal.Operations.{distinct_over, kinds_over}

@@ -10,8 +10,8 @@ use Rattle.tx_core.specs.declared.tx.Update.{Update}
 use Rattle.tx_core.specs.Ops.{over_of, name_of}
 use Rattle.tx_core.specs.Objects.{IsLiveId}
 use Rattle.dc_talk.specs.Objects.{ops_from}
-use Rattle.run_book.specs.Nodes.{Node}
-use Rattle.run_book.specs.Values.{nodes_in}
+use Rattle.tx_graph.specs.Nodes.{Node}
+use Rattle.tx_graph.specs.Values.{nodes_in}
 
 -- the marked operations of the object in a node
 abbrev pub node_ops : ObjectId → Node → List (Mark × Op)

@@ -21,7 +21,7 @@ use Rattle.dc_talk.specs.Clients.{Client, next_dot, draft_updates, cached, view}
 use Rattle.dc_talk.specs.Calls.{op_of, over, change_outcome}
 use Rattle.dc_talk.specs.Rule.{client_after, commits_of, Follows}
 use Rattle.run_book.specs.declared.book.Book.{Book}
-use Rattle.run_book.specs.Nodes.{Node}
+use Rattle.tx_graph.specs.Nodes.{Node}
 use Rattle.run_book.specs.Graphs.{node_of, basis, cover, own_dots, open_node}
 use Rattle.run_book.proofs.Sessions.{change_fine}
 use Rattle.run_book.proofs.Causal.InView.{ops_over, IsIssuedAt, IsIssued}

@@ -20,9 +20,9 @@ use Rattle.dc_talk.specs.Clients.{Client, cached, next_dot}
 use Rattle.run_book.specs.declared.book.Book.{Book}
 use Rattle.run_book.specs.Parts.{IsClient}
 use Rattle.run_book.specs.Fit.{FitsWith}
-use Rattle.run_book.specs.Nodes.{Node}
+use Rattle.tx_graph.specs.Nodes.{Node}
 use Rattle.run_book.specs.Graphs.{cover, own_dots, node_of, committed, graph, basis, basis_at, client_at}
-use Rattle.run_book.proofs.Lists.{filter-map}
+use Rattle.list_core.proofs.Images.{filter-map}
 use Rattle.run_book.proofs.Held.{dot_at}
 use Rattle.run_book.proofs.Dots.{own_dots_are}
 use Rattle.run_book.proofs.Served.{cached_some}

@@ -17,9 +17,9 @@ use Rattle.tx_core.specs.declared.op.Op.TheVariants.{Write}
 use Rattle.tx_core.specs.declared.state.Value.{Value}
 use Rattle.tx_core.specs.declared.state.Value.TheVariants.{Number, Word, Words, Pairs}
 use Rattle.dc_talk.specs.Objects.{mark}
-use Rattle.run_book.specs.Nodes.{Node, WellMade}
-use Rattle.run_book.specs.Values.{Act, acts_from, acts_over, IsRegisterOver, IsSetOver, IsMapOver, IsValueBy}
-use Rattle.run_book.specs.Acts.{HasUniqueMarks}
+use Rattle.tx_graph.specs.Nodes.{Node, WellMade}
+use Rattle.tx_graph.specs.Values.{Act, acts_from, acts_over, IsRegisterOver, IsSetOver, IsMapOver, IsValueBy}
+use Rattle.tx_graph.specs.Acts.{HasUniqueMarks}
 use Rattle.list_core.proofs.Apart.{apart_one}
 use Rattle.run_book.proofs.Causal.SetNodes.{StandsIn}
 use Rattle.run_book.proofs.Causal.Acts.{act_at, IsActOf, IsActIn, act_in}

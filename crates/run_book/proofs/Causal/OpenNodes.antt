@@ -2,7 +2,7 @@
 use Rattle.std.proofs.Common.{◌≡◌, ◌<◌, inl, inr, List, sym, ap, ◌∙◌, subst, arith}
 use Rattle.list_core.specs.Members.{In}
 use Rattle.ids_core.specs.declared.ids.Dot.{Dot}
-use Rattle.run_book.specs.Nodes.{Node, Closed, WellMade}
+use Rattle.tx_graph.specs.Nodes.{Node, Closed, WellMade}
 use Rattle.list_core.proofs.Apart.{apart_one}
 use Rattle.run_book.proofs.Causal.InView.{IsIssued}
 use Rattle.run_book.proofs.Causal.SetNodes.{StandsIn}

@@ -15,8 +15,8 @@ use Rattle.tx_core.specs.Ops.{sort_of_op}
 use Rattle.tx_core.specs.Objects.{AreOf}
 use Rattle.dc_talk.specs.Records.{has}
 use Rattle.dc_talk.specs.Objects.{mark, ops_from}
-use Rattle.run_book.specs.Nodes.{Node, WellMade}
-use Rattle.run_book.specs.Values.{nodes_in}
+use Rattle.tx_graph.specs.Nodes.{Node, WellMade}
+use Rattle.tx_graph.specs.Values.{nodes_in}
 use Rattle.list_core.proofs.Members.{In_from_flat_map}
 use Rattle.list_core.proofs.Apart.{Apart, apart_filter}
 use Rattle.run_book.proofs.Causal.InView.{node_ops, ops_in, ops_over}

@@ -14,8 +14,8 @@ use Rattle.dc_talk.specs.Rule.{Allows}
 use Rattle.run_book.specs.declared.book.Book.{Book}
 use Rattle.run_book.specs.Parts.{notes_of}
 use Rattle.run_book.specs.Fit.{FitsWith}
-use Rattle.run_book.specs.Nodes.{Node, Within}
-use Rattle.run_book.specs.Values.{nodes_in, IsValueOver}
+use Rattle.tx_graph.specs.Nodes.{Node, Within}
+use Rattle.tx_graph.specs.Values.{nodes_in, IsValueOver}
 use Rattle.run_book.specs.Graphs.{graph, basis_at, client_at, open_node}
 use Rattle.run_book.specs.Causal.{Reads}
 use Rattle.run_book.proofs.Dots.{has_In, In_has, has_is}

@@ -16,17 +16,17 @@ use Rattle.tx_core.specs.Ops.{counter_op, marked}
 use Rattle.dc_talk.specs.Records.{has}
 use Rattle.dc_talk.specs.Rule.{commits_of}
 use Rattle.run_book.specs.declared.book.Book.{Book}
-use Rattle.run_book.specs.Nodes.{Node}
+use Rattle.tx_graph.specs.Nodes.{Node}
 use Rattle.run_book.specs.Parts.{notes_of}
 use Rattle.run_book.specs.Fit.{FitsWith}
-use Rattle.run_book.specs.Values.{Act, delta_of, deltas_of, nodes_in, acts_over}
-use Rattle.run_book.specs.Acts.{deltas_in}
+use Rattle.tx_graph.specs.Values.{Act, delta_of, deltas_of, nodes_in, acts_over}
+use Rattle.tx_graph.specs.Acts.{deltas_in}
 use Rattle.run_book.specs.Graphs.{node_of, committed, graph}
 use Rattle.run_book.proofs.Sizes.{sizes-append, sizes-flat_map, sum_by_most, sum_by_filter}
 use Rattle.run_book.proofs.Sessions.{IsModest}
 use Rattle.list_core.proofs.Ranges.{In_from_range}
 use Rattle.run_book.proofs.Causal.Closure.{session_held}
-use Rattle.run_book.proofs.BareActs.{deltas_over}
+use Rattle.tx_graph.proofs.BareActs.{deltas_over}
 use Rattle.run_book.proofs.Causal.InView.{ops_over}
 use Rattle.run_book.proofs.Causal.Acts.{op_of_act, acts_over_are}
 use Rattle.run_book.proofs.Causal.CommitMoments.{all_commits, commit_modest}

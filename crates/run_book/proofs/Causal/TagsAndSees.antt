@@ -13,8 +13,8 @@ use Rattle.tally_core.proofs.Finds.{any_true}
 use Rattle.tx_core.specs.declared.op.Op.{Op}
 use Rattle.tx_core.specs.Ops.{over_of, name_of, is_add}
 use Rattle.tx_core.specs.Objects.{IsLiveId}
-use Rattle.run_book.specs.Nodes.{Node}
-use Rattle.run_book.specs.Values.{Act, acts_of, acts_over, sees}
+use Rattle.tx_graph.specs.Nodes.{Node}
+use Rattle.tx_graph.specs.Values.{Act, acts_of, acts_over, sees}
 use Rattle.run_book.proofs.Causal.InView.{node_ops, ops_before, with_first}
 use Rattle.run_book.proofs.Causal.SetNodes.{StandsIn, over_from, over_in}
 use Rattle.run_book.proofs.Causal.Acts.{op_of_act, HasAct, node_act, node_op, IsActIn, act_in, first_below, first_ops, ops_below}

@@ -6,10 +6,10 @@ use Rattle.list_core.proofs.Members.{In_right}
 use Rattle.list_core.proofs.Gets.{In_get}
 use Rattle.tx_core.specs.declared.tx.Tx.{Tx}
 use Rattle.run_book.specs.declared.book.Book.{Book}
-use Rattle.run_book.specs.Nodes.{Node}
+use Rattle.tx_graph.specs.Nodes.{Node}
 use Rattle.run_book.specs.Parts.{IsClient}
 use Rattle.run_book.specs.Fit.{FitsWith}
-use Rattle.run_book.specs.Values.{counter_over, acts_over}
+use Rattle.tx_graph.specs.Values.{counter_over, acts_over}
 use Rattle.run_book.specs.Graphs.{cover, own_dots, graph, basis_at, client_at, open_node}
 use Rattle.run_book.specs.Causal.{commits_at, IsCausal}
 use Rattle.run_book.specs.Laws.{HasSoundVectors, HasOneList, HasClosedBases, KeepsSessions, HasKnownBases, HasValues, Agrees}

@@ -20,7 +20,7 @@ use Rattle.tx_core.specs.declared.state.Value.TheVariants.{Number, Word, Words, 
 use Rattle.tx_core.specs.Ops.{sort_of_op, name_of, is_add}
 use Rattle.tx_core.specs.Objects as by_tags
 use Rattle.tx_core.specs.Objects.{AreOf, IsLive, IsLiveId, AreWords, ArePairs, IsValueOf}
-use Rattle.run_book.specs.Values.{Act, sees, IsRegisterOver, IsUnseenAdd, IsSetOver, put, IsUnseenPut, IsWordAt, IsMapOver, IsValueBy}
+use Rattle.tx_graph.specs.Values.{Act, sees, IsRegisterOver, IsUnseenAdd, IsSetOver, put, IsUnseenPut, IsWordAt, IsMapOver, IsValueBy}
 use Rattle.run_book.proofs.Causal.Acts.{op_of_act, act_behind}
 use Rattle.run_book.proofs.Causal.ActTests.{adds, adds-true, adds-from, kills, kills-true, kills-from, over, over-true, none_over, less}
 use Rattle.run_book.proofs.Causal.AddsAndRemoves.{add_of, remove_of, of_add, of_remove, put_of, erase_of, of_put, of_erase}

@@ -19,7 +19,7 @@ use Rattle.dc_talk.specs.Clients.{Client, cached, view, draft_updates}
 use Rattle.run_book.specs.declared.book.Book.{Book}
 use Rattle.run_book.specs.Parts.{notes_of, IsClient}
 use Rattle.run_book.specs.Fit.{FitsWith}
-use Rattle.run_book.specs.Nodes.{Node}
+use Rattle.tx_graph.specs.Nodes.{Node}
 use Rattle.run_book.specs.Graphs.{node_of, committed, graph, basis, basis_at, client_at, open_node}
 use Rattle.run_book.specs.Causal.{commits_at}
 use Rattle.run_book.proofs.Causal.Closure.{made, closed_basis}

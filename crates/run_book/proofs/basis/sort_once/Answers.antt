@@ -1,4 +1,4 @@
-use Rattle.run_book.proofs.Ascending.{once_ascending, once_members}
+use Rattle.tx_graph.proofs.Ascending.{once_ascending, once_members}
 use Rattle.run_book.proofs.basis.sort_once.Goals as goal
 
 pub returns-clause-ascending : goal.returns-clause-ascending

@@ -2,8 +2,8 @@ use Rattle.std.proofs.Common.{◌≡◌, length, take, map, Some, refl, ap, ◌�
 use Rattle.std.specs.Prelude.{slice_get, flat_map}
 use Rattle.std.proofs.lemmas.Option.{slice_get_read}
 use Rattle.std.proofs.lemmas.List.{take_all, length-map}
-use Rattle.run_book.specs.Values.{acts_of, nodes_in}
-use Rattle.run_book.specs.Acts.{bare_of}
+use Rattle.tx_graph.specs.Values.{acts_of, nodes_in}
+use Rattle.tx_graph.specs.Acts.{bare_of}
 use Rattle.run_book.specs.BareNodes.{bare_node}
 use Rattle.run_book.proofs.ObjectActs.{nodes_more}
 use Rattle.run_book.proofs.object_acts.acts_over.Goals as goal

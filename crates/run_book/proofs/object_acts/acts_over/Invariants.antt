@@ -1,8 +1,8 @@
 use Rattle.std.proofs.Common.{◌≡◌, ◌≤◌, List, length, take, map}
 use Rattle.std.specs.Prelude.{All, flat_map}
-use Rattle.run_book.specs.Nodes.{Node}
-use Rattle.run_book.specs.Values.{acts_of, nodes_in}
-use Rattle.run_book.specs.Acts.{bare_of}
+use Rattle.tx_graph.specs.Nodes.{Node}
+use Rattle.tx_graph.specs.Values.{acts_of, nodes_in}
+use Rattle.tx_graph.specs.Acts.{bare_of}
 use Rattle.run_book.specs.BareNodes.{bare_node}
 use Rattle.run_book.proofs.object_acts.acts_over.Given as goal
 

@@ -4,9 +4,9 @@ use Rattle.std.proofs.lemmas.Option.{slice_get_read}
 use Rattle.std.proofs.lemmas.List.{append-nil, take_all, length-map}
 use Rattle.run_book.specs.declared.edits.Edit.{Edit}
 use Rattle.run_book.specs.declared.bare_nodes.BareNode.{BareNode}
-use Rattle.run_book.specs.Values.{acts_from}
+use Rattle.tx_graph.specs.Values.{acts_from}
 use Rattle.run_book.specs.Edits.{edit_of, edits_of}
-use Rattle.run_book.specs.Acts.{bare_of}
+use Rattle.tx_graph.specs.Acts.{bare_of}
 use Rattle.run_book.proofs.ObjectActs.{acts_more}
 use Rattle.run_book.proofs.object_acts.push_acts.Goals as goal
 

@@ -1,7 +1,7 @@
 use Rattle.std.proofs.Common.{◌≡◌, ◌≤◌, ◌++◌, length, take, map}
-use Rattle.run_book.specs.Nodes.{Node}
-use Rattle.run_book.specs.Values.{acts_from}
-use Rattle.run_book.specs.Acts.{bare_of}
+use Rattle.tx_graph.specs.Nodes.{Node}
+use Rattle.tx_graph.specs.Values.{acts_from}
+use Rattle.tx_graph.specs.Acts.{bare_of}
 use Rattle.run_book.specs.BareNodes.{bare_node}
 use Rattle.run_book.proofs.object_acts.push_acts.Given as goal
 

@@ -3,7 +3,7 @@ use Rattle.std.proofs.lemmas.List.{append-nil}
 use Rattle.std.proofs.lemmas.Result.{on_ok_weaker}
 use Rattle.dc_talk.specs.Records.{has}
 use Rattle.run_book.specs.declared.bare_nodes.BareNode.{BareNode}
-use Rattle.run_book.specs.Acts.{bare_of}
+use Rattle.tx_graph.specs.Acts.{bare_of}
 use Rattle.run_book.proofs.ObjectActs.{acts_here, none_here}
 use Rattle.run_book.proofs.object_acts.push_acts_in.Goals as goal
 

@@ -3,9 +3,9 @@ use Rattle.std.specs.Prelude.{flat_map}
 use Rattle.std.proofs.lemmas.List.{map-append}
 use Rattle.std.proofs.lemmas.Result.{IfOk-at_ok}
 use Rattle.run_book.specs.declared.bare_nodes.BareNode.{BareNode}
-use Rattle.run_book.specs.Values.{acts_of, acts_over, nodes_in, IsValueBy}
+use Rattle.tx_graph.specs.Values.{acts_of, acts_over, nodes_in, IsValueBy}
 use Rattle.run_book.specs.Graphs.{graph, basis_at, client_at, open_node}
-use Rattle.run_book.specs.Acts.{bare_of, sum_of}
+use Rattle.tx_graph.specs.Acts.{bare_of, sum_of}
 use Rattle.run_book.specs.BareNodes.{bare_node}
 use Rattle.run_book.proofs.ReadValues.{ok_from, few_updates, open_modest, value_at}
 use Rattle.run_book.proofs.book.Book.value_before.Goals as goal

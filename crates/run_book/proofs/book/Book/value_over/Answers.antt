@@ -1,9 +1,9 @@
 use Rattle.std.proofs.Common.{◌≡◌, map, ◌∙◌}
 use Rattle.std.specs.Prelude.{flat_map}
 use Rattle.std.proofs.lemmas.Result.{IfOk-at_ok}
-use Rattle.run_book.specs.Values.{acts_of, nodes_in, IsValueBy}
+use Rattle.tx_graph.specs.Values.{acts_of, nodes_in, IsValueBy}
 use Rattle.run_book.specs.Graphs.{graph}
-use Rattle.run_book.specs.Acts.{bare_of, sum_of}
+use Rattle.tx_graph.specs.Acts.{bare_of, sum_of}
 use Rattle.run_book.specs.BareNodes.{bare_node}
 use Rattle.run_book.proofs.ReadValues.{ok_from, few_updates, value_of_set}
 use Rattle.run_book.proofs.book.Book.value_over.Goals as goal

@@ -1,6 +1,6 @@
 use Rattle.std.proofs.Common.{◌+◌, subst}
 use Rattle.run_book.specs.Parts.{no_log}
-use Rattle.run_book.specs.Values.{IsValueOver}
+use Rattle.tx_graph.specs.Values.{IsValueOver}
 use Rattle.run_book.specs.Graphs.{graph, basis_at, client_at, open_node}
 use Rattle.run_book.proofs.Bases.{log_there}
 use Rattle.run_book.proofs.ReadValues.{last_there, read_there, same_value}

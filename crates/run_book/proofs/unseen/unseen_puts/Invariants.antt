@@ -1,8 +1,0 @@
-use Rattle.std.proofs.Common.{◌≡◌, ◌++◌, drop, map}
-use Rattle.std.specs.List.{filter_map}
-use Rattle.run_book.specs.Acts.{act_of}
-use Rattle.run_book.specs.Unseen.{unseen_put}
-use Rattle.run_book.proofs.unseen.unseen_puts.Given as goal
-
-abbrev pub invariant-loop-act : goal.invariant-loop-act
-invariant-loop-act l = l.list.items ++ filter_map (unseen_put (map act_of l.acts)) (map act_of (drop l.act-index l.acts)) ≡ filter_map (unseen_put (map act_of l.fn.acts)) (map act_of l.fn.acts)

@@ -1,5 +1,0 @@
-use Rattle.run_book.proofs.BareActs.{sum_done}
-use Rattle.run_book.proofs.values.sum_of.Goals as goal
-
-pub returns : goal.returns
-returns c = sum_done c.args.acts.now c.loop-act.act-index _ c.loop-act-test.false c.loop-act.invariant

@@ -1,7 +1,0 @@
-use Rattle.std.proofs.Common.{◌≡◌, ◌++◌, drop}
-use Rattle.std.specs.List.{filter_map}
-use Rattle.run_book.specs.Unseen.{word_under}
-use Rattle.run_book.proofs.values.words_under.Given as goal
-
-abbrev pub invariant-loop-put : goal.invariant-loop-put
-invariant-loop-put l = l.list.items ++ filter_map (word_under l.key) (drop l.put-index l.puts) ≡ filter_map (word_under l.fn.key) l.fn.puts

@@ -1,0 +1,7 @@
+pub mod BareActs
+pub mod SameValues
+pub mod LastWords
+pub mod PairsOfPuts
+pub mod UnseenActs
+pub mod Ascending
+pub mod AscendingNames

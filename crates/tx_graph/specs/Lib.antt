@@ -1,0 +1,4 @@
+pub mod Nodes
+pub mod Values
+pub mod Acts
+pub mod Unseen
