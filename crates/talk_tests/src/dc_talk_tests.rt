@@ -1,5 +1,5 @@
 // Asks and trails.
-use dc_talk::{Ask, Say, Trail};
+use dc_talk::{Ask, Say, Trail, law_history};
 use ids_core::NoMemory;
 use samples::{pair, single};
 use std::test::Fail;
@@ -34,6 +34,7 @@ fn is_by(trail: &Trail, at: usize, caller: u32) -> bool {
 
 #[test]
 fn entries_stand_in_order(rt: HostRuntime) -> Result<(), Fail> {
+    law_history();
     let mut trail = Trail::new(rt.alloc());
     note(&mut trail, 4, 3)?;
     note(&mut trail, 2, 1)?;
