@@ -27,13 +27,13 @@ module _ (nodes : List Node) (set : List Dot) (last : Node) (well : WellIssued n
   abbrev acts : List Act
   acts = acts_over nodes set last o
 
-  -- where an act stands there
-  abbrev Standing : Act → Type 0
-  Standing act = IsActIn nodes set last o act
+  -- the node and the update that an act is of
+  abbrev Source : Act → Type 0
+  Source act = IsActIn nodes set last o act
 
-  -- each of the acts stands somewhere
-  standing : (act : Act) → In act acts → Standing act
-  standing act i = act_in nodes set last o act i
+  -- each of the acts has them
+  source : (act : Act) → In act acts → Source act
+  source act i = act_in nodes set last o act i
 
   -- an operation of a node that stands there is that of one of the acts
   node_has_act : (t : Node) → StandsIn nodes set last t → (op : Mark × Op) → In op (node_ops o t) → HasAct acts op
@@ -41,7 +41,7 @@ module _ (nodes : List Node) (set : List Dot) (last : Node) (well : WellIssued n
 
   -- ---- the view of an act's issuer
 
-  module _ (q : Act) (f : Standing q) where
+  module _ (q : Act) (f : Source q) where
     -- its dot is that of its node
     dot_is : q.mark.id.dot ≡ f.node.dot
     dot_is = ap (λ (a : Act). a.mark.id.dot) f.update.is
@@ -93,7 +93,7 @@ module _ (nodes : List Node) (set : List Dot) (last : Node) (well : WellIssued n
         go t (inr same) j = node_has_act f.node f.stands op (first_ops o f.update.k f.node op (subst (λ t. In op (node_ops o t)) same j))
 
     -- the operation of an act that it sees is in the view
-    seen_in_view : (p : Act) → Standing p → sees q p ≡ true → In (op_of_act p) viewed
+    seen_in_view : (p : Act) → Source p → sees q p ≡ true → In (op_of_act p) viewed
     seen_in_view p g s = ⊎_elim by_deps by_place (sees-true q p s)
       where
         p_op : In (op_of_act p) (node_ops o g.node)
@@ -127,15 +127,15 @@ module _ (nodes : List Node) (set : List Dot) (last : Node) (well : WellIssued n
   over_seen : (w : List ℕ) (q p : Act) → In q acts → over w q p ≡ true → sees q p ≡ true
   over_seen w q p i is =
       let parts = over-true w q p is in
-      let f = standing q i in
+      let f = source q i in
       let l = (over_live q f w p.mark.id parts.0).0 parts.1 in
       sees-from q p (subst (λ id. IsSeenBy q id) l.is (view_seen q f l.op l.live.there))
 
   -- what an act sees has the lesser mark
   seen_below : (q p : Act) → In q acts → In p acts → sees q p ≡ true → less p q ≡ true
-  seen_below q p i j s = go (standing q i) (standing p j) (sees-true q p s)
+  seen_below q p i j s = go (source q i) (source p j) (sees-true q p s)
     where
-      go : Standing q → Standing p → IsSeenBy q p.mark.id → less p q ≡ true
+      go : Source q → Source p → IsSeenBy q p.mark.id → less p q ≡ true
       go f g (inl d) =
           let e : In g.node.dot f.node.deps = subst (λ l. In g.node.dot l) (deps_is q f) (subst (λ d. In d q.deps) (dot_is p g) d) in
           let lesser = dep_below nodes set last well open_last f.node g.node f.stands g.stands e in
@@ -146,12 +146,12 @@ module _ (nodes : List Node) (set : List Dot) (last : Node) (well : WellIssued n
 
   -- an act sees what is seen by an act that it sees
   seen_through : (r q p : Act) → In r acts → In q acts → In p acts → sees r q ≡ true → sees q p ≡ true → sees r p ≡ true
-  seen_through r q p h i j s t = sees-from r p (go (standing r h) (standing q i) (sees-true r q s) (sees-true q p t))
+  seen_through r q p h i j s t = sees-from r p (go (source r h) (source q i) (sees-true r q s) (sees-true q p t))
     where
       d : Dot
       d = p.mark.id.dot
 
-      go : Standing r → Standing q → IsSeenBy r q.mark.id → IsSeenBy q p.mark.id → IsSeenBy r p.mark.id
+      go : Source r → Source q → IsSeenBy r q.mark.id → IsSeenBy q p.mark.id → IsSeenBy r p.mark.id
       go f g (inl e) (inl k) =
           let dep : In g.node.dot f.node.deps = subst (λ l. In g.node.dot l) (deps_is r f) (subst (λ d. In d r.deps) (dot_is q g) e) in
           inl (subst (λ l. In d l) (sym (deps_is r f)) (dep_through nodes set last well open_last f.node g.node f.stands g.stands dep d (subst (λ l. In d l) (deps_is q g) k)))
@@ -165,14 +165,14 @@ module _ (nodes : List Node) (set : List Dot) (last : Node) (well : WellIssued n
   seen_add_covered : (w : List ℕ) (q p : Act) → In q acts → In p acts → kills w q ≡ true → adds w p ≡ true → sees q p ≡ true → (h : Act) × In h acts × (over w h p ≡ true)
   seen_add_covered w q p i j kill add s = by_test (cases_Bool (any (λ h. over w h p) acts))
     where
-      f : Standing q
-      f = standing q i
+      f : Source q
+      f = source q i
 
       is_live : any (λ h. over w h p) acts ≡ false → IsLiveId (viewed q f) w p.mark.id
       is_live none = record {
         op = op_of_act p;
         live = record {
-          there = seen_in_view q f p (standing p j) s;
+          there = seen_in_view q f p (source p j) s;
           adds = (adds-true w p add).1;
           under = (adds-true w p add).0;
           free = λ other k name held. none_over acts w p none other (view_act q f other k) name held;
