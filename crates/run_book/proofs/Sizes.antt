@@ -1,12 +1,11 @@
 -- The sizes of deltas, of joined lists and of updates.
-use Rattle.std.proofs.Common.{◌≡◌, ℕ, ◌+◌, ◌*◌, ◌≤◌, ℤ, Bool, true, false, not, cond, List, [], ◌∷◌, ◌++◌, length, get_or, Option, Some, None, refl, ap, arith}
+use Rattle.std.proofs.Common.{◌≡◌, ℕ, ◌+◌, ◌*◌, ◌≤◌, ℤ, Bool, true, false, not, cond, List, [], ◌∷◌, ◌++◌, length, Option, Some, None, refl, ap, arith}
 use Rattle.std.specs.Prelude.{filter, flat_map}
 use Rattle.std.specs.List.{sum_by, cons_option}
-use Rattle.std.proofs.lemmas.Option.{slice_get-get_or}
 use Rattle.std.proofs.lemmas.List.Sums.{sum_by-cons, sum_by-le}
 use Rattle.std.proofs.lemmas.List.Filters.{sum_by-filter_both}
 use Rattle.list_core.specs.Members.{In}
-use Rattle.list_core.proofs.Gets.{get_In}
+use Rattle.list_core.proofs.Members.{In-All}
 use Rattle.ids_core.specs.declared.object.ObjectId.{ObjectId}
 use Rattle.ids_core.specs.Ids.{same_object}
 use Rattle.obj_counter.specs.Counter.{sizes}
@@ -25,7 +24,7 @@ sizes-flat_map f (x ∷ xs) = omega (arith, sizes-append (f x) (flat_map f xs), 
 
 -- a sum is at most as many times the most that a member adds as there are members
 pub sum_by_most : {X : Type 0} (f : X → ℕ) (most : ℕ) (xs : List X) → ((x : X) → In x xs → f x ≤ most) → sum_by f xs ≤ length xs * most
-sum_by_most f most xs each = sum_by-le f most xs (λ k d below. each (get_or xs k d) (get_In xs k (get_or xs k d) (slice_get-get_or xs k d below)))
+sum_by_most f most xs each = sum_by-le f most xs (In-All (λ x. f x ≤ most) xs each)
 
 -- a sum over the members that pass a test is at most that over all
 pub sum_by_filter : {X : Type 0} (f : X → ℕ) (p : X → Bool) (xs : List X) → sum_by f (filter p xs) ≤ sum_by f xs

@@ -1,7 +1,7 @@
 -- The operation of a change that is made: its kind, its word or key, and what it is over.
 use Rattle.std.proofs.Common.{◌≡◌, ℕ, ⊎_elim, List, [], ◌∷◌, ◌++◌, take, Option, Some, None, refl, sym, ap, ◌∙◌, subst}
 use Rattle.std.specs.Option.{option_map}
-use Rattle.list_core.proofs.Members.{In_either}
+use Rattle.list_core.proofs.Members.{In_more}
 use Rattle.ids_core.specs.declared.ids.OpId.{OpId}
 use Rattle.ids_core.specs.declared.object.ObjectId.{ObjectId}
 use Rattle.tx_core.specs.declared.tx.Update.{Update}
@@ -62,7 +62,7 @@ no_kinds = record { each = λ u i. absurd i }
 
 -- one update more, of its object's kind
 kinds_more : (us : List Update) (u : Update) → HasKinds us → sort_of_op u.op ≡ u.object.sort → HasKinds (us ++ u ∷ [])
-kinds_more us u h is = record { each = λ v i. ⊎_elim (λ j. h.each v j) (λ j. ⊎_elim (λ e. subst (λ (u : Update). sort_of_op u.op ≡ u.object.sort) (sym e) is) (λ k. absurd k) j) (In_either us (u ∷ []) v i) }
+kinds_more us u h is = record { each = λ v i. ⊎_elim (h.each v) (λ e. subst (λ (u : Update). sort_of_op u.op ≡ u.object.sort) (sym e) is) (In_more us u v i) }
 
 -- the open updates of a session are of their objects' kinds, and so are its commits
 of_kinds : IsOfDrafts (λ s. Unit {0}) (λ s. HasKinds (draft_updates s)) (λ t. HasKinds t.updates)

@@ -5,7 +5,7 @@ use Rattle.std.specs.Option.{unwrap_or}
 use Rattle.std.proofs.lemmas.Bool.{and_parts}
 use Rattle.std.proofs.lemmas.List.{append-nil}
 use Rattle.list_core.specs.Members.{In}
-use Rattle.list_core.proofs.Members.{In_either}
+use Rattle.list_core.proofs.Members.{In_more}
 use Rattle.ids_core.specs.declared.object.ObjectId.{ObjectId}
 use Rattle.tx_core.specs.declared.tx.Tx.{Tx}
 use Rattle.dc_talk.specs.declared.ask.Ask.{Ask}
@@ -66,7 +66,7 @@ module _ {Fit Open : Client → Type 0} {Made : Tx → Type 0} (facts : IsOfDraf
   holds_did s C (ChangeCall o change) Fine fit is h = unchanged _ C (record { draft = facts.more s o change fit is h.draft; commits = h.commits })
   holds_did s C (ChangeCall o change) (Refused (TooManyTags count)) fit is h = unchanged _ C (beside s C s.link _ h)
   holds_did s C (Read o) (Got value) fit is h = unchanged _ C (beside s C s.link _ h)
-  holds_did s C Commit (Number number) fit is h = closed _ _ refl (λ t i. ⊎_elim (λ j. h.commits t j) (λ j. ⊎_elim (λ e. subst Made (sym e) (facts.commit s h.draft)) (λ k. absurd k) j) (In_either C (next_tx s (draft_updates s) ∷ []) t i))
+  holds_did s C Commit (Number number) fit is h = closed _ _ refl (λ t i. ⊎_elim (h.commits t) (λ e. subst Made (sym e) (facts.commit s h.draft)) (In_more C (next_tx s (draft_updates s)) t i))
   holds_did s C Commit Nothing fit is h = unchanged _ C (closed _ C refl h.commits)
   holds_did s C Abort Fine fit is h = unchanged _ C (closed _ C refl h.commits)
   holds_did s C _ _ fit is h = unchanged s C h
