@@ -1,6 +1,5 @@
 -- What the answer to a client's ask tells of the ask and of what was applied before it.
-use Rattle.std.proofs.Common.{◌≡◌, ℕ, ◌+◌, ◌≤◌, ◌<◌, true, List, length, Option, Some, None, refl, sym, ap, ◌∙◌, arith}
-use Rattle.std.specs.Prelude.{is_none}
+use Rattle.std.proofs.Common.{◌≡◌, ℕ, ◌+◌, ◌≤◌, ◌<◌, true, List, length, refl, sym, ap, ◌∙◌, arith}
 use Rattle.std.proofs.lemmas.Bool.{and_parts, leb-true, leb-false, eqb-true, false≢true}
 use Rattle.list_core.proofs.Choices.{is_none_true, when_none, when_holds}
 use Rattle.ids_core.specs.declared.object.ObjectId.{ObjectId}

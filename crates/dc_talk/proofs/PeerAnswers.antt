@@ -1,17 +1,17 @@
 -- What the answer to an ask of another centre tells of the ask and of what was applied before it.
-use Rattle.std.proofs.Common.{◌≡◌, ℕ, ◌+◌, ◌≤◌, Bool, true, List, length, refl, sym, ◌∙◌, subst, arith}
+use Rattle.std.proofs.Common.{◌≡◌, ℕ, zero, suc, ◌+◌, ◌≤◌, Bool, true, List, [], ◌∷◌, length, refl, sym, ap, ◌∙◌, subst, arith}
 use Rattle.std.specs.Prelude.{nat_le, take, drop, is_none, ◌==◌, ◌&&◌}
-use Rattle.std.proofs.lemmas.Bool.{and_parts, or_parts, leb-true, leb-false, eqb-true, eq-eqb, false≢true}
+use Rattle.std.proofs.lemmas.Bool.{and_parts, and_from, or_parts, le-leb, leb-true, leb-false, eqb-true, eq-eqb, false≢true}
 use Rattle.list_core.specs.Members.{In}
 use Rattle.list_core.proofs.Members.{In_take, In_drop}
 use Rattle.list_core.proofs.Choices.{is_none_true, when_none, when_holds}
-use Rattle.vv_core.specs.Vectors.{Covers}
+use Rattle.vv_core.specs.Vectors.{at, Covers}
 use Rattle.tx_core.specs.declared.tx.Record.{Record}
 use Rattle.tx_core.specs.Checks.{is_within, fault_of, IsFit}
-use Rattle.tx_core.proofs.Fits.{fault_of-none}
+use Rattle.tx_core.proofs.Fits.{fault_of-none, none-fault_of}
 use Rattle.dc_talk.specs.declared.ask.Ask.{Ask}
 use Rattle.dc_talk.specs.declared.ask.Ask.TheVariants.{Send, Deliver, Report}
-use Rattle.dc_talk.specs.declared.say.Say.TheVariants.{Records, Waits, Applied, Vector}
+use Rattle.dc_talk.specs.declared.say.Say.TheVariants.{Records, Waits, Orphan, Applied, Vector}
 use Rattle.dc_talk.specs.declared.trail.Entry.{Entry}
 use Rattle.dc_talk.specs.Records.{count, vector, guard, own}
 use Rattle.dc_talk.specs.Trails.{applied}
@@ -90,6 +90,66 @@ item_fits n item is =
       width = eqb-true (length item.deps) n width.1;
       fit = fault_of-none n item.tx (is_none_true (fault_of n item.tx) tx.1);
     }
+
+-- a vector of small entries is modest
+pub modest_from : (v : List ℕ) → ((e : ℕ) → at v e ≤ 1000000) → are_modest v ≡ true
+modest_from [] small = refl
+modest_from (x ∷ v) small = and_from (nat_le x 1000000) (are_modest v) (le-leb x 1000000 (small 1)) (modest_from v rest)
+  where
+    rest : (e : ℕ) → at v e ≤ 1000000
+    rest zero = omega arith
+    rest (suc e) = small (suc (suc e))
+
+-- a record that can be delivered, with a modest dependency vector, passes the test
+pub fits_item : (n : ℕ) (item : Record) → IsFitItem n item → are_modest item.deps ≡ true → is_fit_item n item ≡ true
+fits_item n item fit modest =
+    let centre : is_within 1 n item.stamp.centre ≡ true = and_from (nat_le 1 item.stamp.centre) (nat_le item.stamp.centre n) (le-leb 1 item.stamp.centre fit.centre.0) (le-leb item.stamp.centre n fit.centre.1) in
+    let seq : is_within 1 1000000 item.stamp.seq ≡ true = and_from (nat_le 1 item.stamp.seq) (nat_le item.stamp.seq 1000000) (le-leb 1 item.stamp.seq fit.seq.0) (le-leb item.stamp.seq 1000000 fit.seq.1) in
+    let width : (length item.deps == n) ≡ true = eq-eqb (length item.deps) n fit.width in
+    let tx : is_none (fault_of n item.tx) ≡ true = ap is_none (none-fault_of n item.tx fit.fit) in
+    and_from (is_within 1 n item.stamp.centre && is_within 1 1000000 item.stamp.seq && (length item.deps == n) && are_modest item.deps) (is_none (fault_of n item.tx))
+    (and_from (is_within 1 n item.stamp.centre && is_within 1 1000000 item.stamp.seq && (length item.deps == n)) (are_modest item.deps)
+    (and_from (is_within 1 n item.stamp.centre && is_within 1 1000000 item.stamp.seq) (length item.deps == n)
+    (and_from (is_within 1 n item.stamp.centre) (is_within 1 1000000 item.stamp.seq) centre seq) width) modest) tx
+
+-- the ask is a delivery
+pub record IsDelivery (ask : Ask) : Type 0 where
+  pub item : Record
+  pub is : ask ≡ Deliver item
+
+-- no other ask can be answered with an orphan
+orphan_asked : (ask : Ask) (number have : ℕ) → may_answer ask (Orphan number have) ≡ true → IsDelivery ask
+orphan_asked (Deliver item) number have is = record { item = item; is = refl }
+orphan_asked _ number have is = absurd (false≢true is)
+
+-- so what is answered with an orphan is a delivery
+pub delivery_by : (me n k limit : ℕ) (trail : List Entry) (ask : Ask) (number have : ℕ) → Orphan number have ≡ answer me n k limit trail ask → IsDelivery ask
+delivery_by me n k limit trail ask number have is = orphan_asked ask number have (answers_it me n k limit trail ask (Orphan number have) is (λ e. cc) (λ e. cc))
+
+-- a delivered record that is an orphan after the records A: what it depends on is there, but not the
+-- transaction before it
+pub record OrphanBy (n : ℕ) (A : List Record) (item : Record) : Type 0 where
+  pub covered : Covers (vector n A) item.deps
+  pub far : guard item.tx.dot.client A + 2 ≤ item.tx.dot.number
+
+-- an orphan, by the answer
+pub orphan_by : (me n k limit : ℕ) (trail : List Entry) (item : Record) (number have : ℕ) → Orphan number have ≡ answer me n k limit trail (Deliver item) → OrphanBy n (applied n trail) item
+orphan_by me n k limit trail item number have is = deliver_holds (λ say. Orphan number have ≡ say → OrphanBy n (applied n trail) item) me n (applied n trail) item (
+  when_holds _ _ _ (λ t e. absurd (cc)),
+  λ old. (
+    when_holds _ _ _ (λ t e. absurd (cc)),
+    λ gap. (
+      lack_holds _ Waits (λ c m h e. absurd (cc)) (vector n (applied n trail)) item.deps,
+      λ waits. (
+        when_holds _ _ _ (λ t e. record {
+          covered = lack_none Waits (vector n (applied n trail)) item.deps waits;
+          far = leb-true (guard item.tx.dot.client (applied n trail) + 2) item.tx.dot.number t;
+        }),
+        λ orphan e. absurd (cc),
+      ),
+    ),
+  ),
+) (fitting me n k limit trail (Deliver item) (Orphan number have) is (λ e. cc) (λ e. cc)).1
 
 -- a delivered record that is applied after the records A
 pub record AppliedBy (me n : ℕ) (A : List Record) (item : Record) (fresh : Bool) : Type 0 where

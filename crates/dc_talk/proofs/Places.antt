@@ -1,6 +1,6 @@
 -- Where the records of an applied list stand: each stamp within the counts at one place, each number of a
 -- client up to its greatest, each own record at its number.
-use Rattle.std.proofs.Common.{◌≡◌, ℕ, ◌+◌, ◌-◌, ◌≤◌, ◌<◌, max, true, false, cond, ◌⊎◌, inl, inr, ⊎_elim, List, [], ◌∷◌, ◌++◌, length, take, Some, refl, sym, ap, ◌∙◌, subst, arith}
+use Rattle.std.proofs.Common.{◌≡◌, ℕ, zero, suc, ◌+◌, ◌-◌, ◌≤◌, ◌<◌, max, true, false, cond, ◌⊎◌, inl, inr, ⊎_elim, List, [], ◌∷◌, ◌++◌, length, take, Some, refl, sym, ap, ◌∙◌, subst, arith}
 use Rattle.std.specs.Prelude.{slice_get, ◌==◌}
 use Rattle.std.proofs.lemmas.Bool.{cases_Bool, cases_lt, eqb-true}
 use Rattle.std.proofs.lemmas.Option.{none-some, same_Some}
@@ -42,6 +42,17 @@ have_stamp me n A each = by_steps (λ X. (e k : ℕ) → 1 ≤ k → k ≤ count
         go (inl lt) (inr f) =
             let more : count e (X ++ r ∷ []) ≡ count e X + 0 = count_more e X r ∙ ap (λ b. count e X + cond b 1 0) f in
             absurd (omega (arith, more, lt, high))
+
+-- so no count is above 1,000,000
+pub count_few : (me n : ℕ) (A : List Record) → Each (IsInOrder me n) A → (e : ℕ) → count e A ≤ 1000000
+count_few me n A each e = go (count e A) refl
+  where
+    go : (c : ℕ) → count e A ≡ c → count e A ≤ 1000000
+    go zero is = omega (arith, is)
+    go (suc c) is =
+        let h = have_stamp me n A each e (suc c) (omega arith) (omega (arith, is)) in
+        let g = In_get A h.item h.there in
+        omega (arith, is, (each.by g.0 h.item g.1).few, ap (λ (s : Stamp). s.seq) h.is)
 
 -- a later record of the same centre has a greater number
 later_seq : (me n : ℕ) (A : List Record) → Each (IsInOrder me n) A → (q p : ℕ) (r s : Record) → slice_get A q ≡ Some r → slice_get A p ≡ Some s → r.stamp ≡ s.stamp → q < p → ⊥

@@ -32,3 +32,8 @@ pub mod FoldedValues
 pub mod Reads
 pub mod ClosedSetValues
 pub mod Theorem
+pub mod Deliveries
+pub mod Links
+pub mod FitCommits
+pub mod ClientAsks
+pub mod TimelySnapshots

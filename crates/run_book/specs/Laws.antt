@@ -7,11 +7,13 @@ use Rattle.vv_core.specs.Vectors.{Covers}
 use Rattle.tx_core.specs.declared.tx.Tx.{Tx}
 use Rattle.tx_core.specs.declared.tx.Record.{Record}
 use Rattle.tx_core.specs.declared.state.Value.{Value}
+use Rattle.dc_talk.specs.declared.ask.Ask.TheVariants.{Refresh}
 use Rattle.dc_talk.specs.declared.say.Say.TheVariants.{Snap}
 use Rattle.dc_talk.specs.declared.trail.Entry.{Entry}
 use Rattle.dc_talk.specs.Records.{vector, count, own, inside}
 use Rattle.dc_talk.specs.Trails.{applied, told, stable}
 use Rattle.dc_talk.specs.Clients.{draft_updates}
+use Rattle.dc_talk.specs.Rule.{takes}
 use Rattle.run_book.specs.declared.book.Book.{Book}
 use Rattle.tx_graph.specs.Nodes.{Node, Within, Closed, WellMade}
 use Rattle.run_book.specs.Parts.{trail_of, IsClient}
@@ -20,6 +22,7 @@ use Rattle.run_book.specs.Graphs.{own_list, cover, graph, basis_at, client_at, o
 use Rattle.run_book.specs.Sound.{IsSound}
 use Rattle.run_book.specs.Known.{knows, HasMoment, IsKnownDot}
 use Rattle.run_book.specs.Causal.{Reads, commits_at}
+use Rattle.run_book.specs.Refusals.{Hears, IsTimely}
 
 -- the records that centre i of the book has applied by the first p entries of its trail
 abbrev pub applied_at : Book → ℕ → ℕ → List Record
@@ -72,3 +75,9 @@ pub record HasValues (b : Book) (clients capacity : ℕ) : Type 0 where
 -- and whichever centres served them
 pub record Agrees (b : Book) (clients capacity : ℕ) : Type 0 where
   pub reads : (a m c q : ℕ) (o : ObjectId) (value other : Value) → Reads b clients a m o value → Reads b clients c q o other → Within (basis_at b capacity a m) (basis_at b capacity c q) → Within (basis_at b capacity c q) (basis_at b capacity a m) → draft_updates (client_at b capacity a m) ≡ [] → draft_updates (client_at b capacity c q) ≡ [] → value ≡ other
+
+-- a session takes each snapshot that it hears which has no more of its commits than it had made, and no
+-- other; so in a timely book it takes all that it hears
+pub record TakesSnapshots (b : Book) (clients capacity : ℕ) : Type 0 where
+  pub exact : (a m i client : ℕ) (here w : List ℕ) (number rank : ℕ) → Hears b clients a m i (Refresh client here) (Snap w number rank) → (takes (client_at b capacity a m) i (Refresh client here) (Snap w number rank) ≡ true) ↔ (number ≤ (client_at b capacity a m).own)
+  pub timely : IsTimely b clients capacity → (a m i client : ℕ) (here w : List ℕ) (number rank : ℕ) → Hears b clients a m i (Refresh client here) (Snap w number rank) → takes (client_at b capacity a m) i (Refresh client here) (Snap w number rank) ≡ true

@@ -8,6 +8,7 @@ pub mod Known
 pub mod Causal
 pub mod Laws
 pub mod Numbers
+pub mod Refusals
 pub mod Together
 pub mod Edits
 pub mod Replay

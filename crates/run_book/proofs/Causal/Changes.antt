@@ -23,7 +23,7 @@ use Rattle.run_book.proofs.Causal.Drafts.{IsOfDrafts, HoldsOf, holds_after}
 -- ---- one change
 
 -- its operation is of its kind
-kind_of_op : (change : Change) (ids : List OpId) → sort_of_op (op_of change ids) ≡ kind_of change
+pub kind_of_op : (change : Change) (ids : List OpId) → sort_of_op (op_of change ids) ≡ kind_of change
 kind_of_op (Inc delta) ids = refl
 kind_of_op _ ids = refl
 
@@ -70,7 +70,7 @@ of_kinds = record {
   first = λ s none. subst HasKinds (sym none) no_kinds;
   beside = λ s link cache h. h;
   more = λ s o change fit fine h. kinds_more (draft_updates s) (record { object = o; op = op_of change (over s o change) }) h (kind_of_op change (over s o change) ∙ (change_fine s o change fine).kind);
-  commit = λ s h. h;
+  commit = λ s fit some h. h;
 }
 
 -- so it is at each moment of a log that follows the rule

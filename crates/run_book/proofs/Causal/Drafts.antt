@@ -1,5 +1,5 @@
 -- What holds of an open transaction from its begin to its commit holds of each commit.
-use Rattle.std.proofs.Common.{◌≡◌, ℕ, ⊎_elim, Bool, true, false, cond, ◌&&◌, List, [], ◌∷◌, ◌++◌, take, Option, Some, refl, sym, ap, subst}
+use Rattle.std.proofs.Common.{◌≡◌, ℕ, ◌≤◌, ⊎_elim, Bool, true, false, cond, ◌&&◌, List, [], ◌∷◌, ◌++◌, length, take, Option, Some, None, refl, sym, ap, subst, arith}
 use Rattle.std.specs.Prelude.{◌==◌}
 use Rattle.std.specs.Option.{unwrap_or}
 use Rattle.std.proofs.lemmas.Bool.{and_parts}
@@ -7,6 +7,7 @@ use Rattle.std.proofs.lemmas.List.{append-nil}
 use Rattle.list_core.specs.Members.{In}
 use Rattle.list_core.proofs.Members.{In_more}
 use Rattle.ids_core.specs.declared.object.ObjectId.{ObjectId}
+use Rattle.tx_core.specs.declared.tx.Update.{Update}
 use Rattle.tx_core.specs.declared.tx.Tx.{Tx}
 use Rattle.dc_talk.specs.declared.ask.Ask.{Ask}
 use Rattle.dc_talk.specs.declared.ask.Ask.TheVariants.{Hello, Refresh, Fetch, Commit as CommitAsk}
@@ -25,7 +26,7 @@ use Rattle.dc_talk.specs.declared.log.Deed.{Deed}
 use Rattle.dc_talk.specs.declared.log.Deed.TheVariants.{Did, Asked, Told}
 use Rattle.dc_talk.specs.declared.log.Note.{Note}
 use Rattle.dc_talk.specs.Clients.{Client, new_client, next_tx, draft_updates}
-use Rattle.dc_talk.specs.Calls.{op_of, over, looked_up, change_outcome, outcome_of, did}
+use Rattle.dc_talk.specs.Calls.{op_of, over, looked_up, change_outcome, commit_outcome, outcome_of, did}
 use Rattle.dc_talk.specs.Rule.{after, heard, takes, taken, is_linked, can_follow, client_after, commit_in, commits_of, Allows, Follows}
 use Rattle.run_book.proofs.Sessions.{can_follow-true, by_notes}
 
@@ -35,17 +36,23 @@ changed s o change = record s { draft = Some (draft_updates s ++ record { object
 
 -- a fact Open of the open transaction of a session: it holds where nothing was changed yet, whatever the link and
 -- the cache are, and goes on with each change that is made where the session is as Fit says; and a fact Made of
--- each commit of such a transaction
+-- each commit of such a transaction that has updates
 pub record IsOfDrafts (Fit Open : Client → Type 0) (Made : Tx → Type 0) : Type 0 where
   pub first : (s : Client) → draft_updates s ≡ [] → Open s
   pub beside : (s : Client) (link : Option Link) (cache : List Cached) → Open s → Open (record s { link = link; cache = cache })
   pub more : (s : Client) (o : ObjectId) (change : Change) → Fit s → Fine ≡ change_outcome s o change → Open s → Open (changed s o change)
-  pub commit : (s : Client) → Open s → Made (next_tx s (draft_updates s))
+  pub commit : (s : Client) → Fit s → 1 ≤ length (draft_updates s) → Open s → Made (next_tx s (draft_updates s))
 
 -- the one of the open transaction, and the other of all commits so far
 pub record HoldsOf (Open : Client → Type 0) (Made : Tx → Type 0) (s : Client) (C : List Tx) : Type 0 where
   pub draft : Open s
   pub commits : (t : Tx) → In t C → Made t
+
+-- a commit that gets a number has updates
+commit_some : (s : Client) (number : ℕ) (draft : Option (List Update)) → Number number ≡ commit_outcome s draft → 1 ≤ length (unwrap_or draft [])
+commit_some s number None is = absurd (cc)
+commit_some s number (Some []) is = absurd (cc)
+commit_some s number (Some (u ∷ us)) is = omega arith
 
 module _ {Fit Open : Client → Type 0} {Made : Tx → Type 0} (facts : IsOfDrafts Fit Open Made) where
   -- nothing is open, or nothing was changed yet
@@ -66,7 +73,7 @@ module _ {Fit Open : Client → Type 0} {Made : Tx → Type 0} (facts : IsOfDraf
   holds_did s C (ChangeCall o change) Fine fit is h = unchanged _ C (record { draft = facts.more s o change fit is h.draft; commits = h.commits })
   holds_did s C (ChangeCall o change) (Refused (TooManyTags count)) fit is h = unchanged _ C (beside s C s.link _ h)
   holds_did s C (Read o) (Got value) fit is h = unchanged _ C (beside s C s.link _ h)
-  holds_did s C Commit (Number number) fit is h = closed _ _ refl (λ t i. ⊎_elim (h.commits t) (λ e. subst Made (sym e) (facts.commit s h.draft)) (In_more C (next_tx s (draft_updates s)) t i))
+  holds_did s C Commit (Number number) fit is h = closed _ _ refl (λ t i. ⊎_elim (h.commits t) (λ e. subst Made (sym e) (facts.commit s fit (commit_some s number s.draft is) h.draft)) (In_more C (next_tx s (draft_updates s)) t i))
   holds_did s C Commit Nothing fit is h = unchanged _ C (closed _ C refl h.commits)
   holds_did s C Abort Fine fit is h = unchanged _ C (closed _ C refl h.commits)
   holds_did s C _ _ fit is h = unchanged s C h

@@ -77,7 +77,7 @@ module _ (b : Book) (nodes : List Node) where
     first = λ s none. record { each = λ k u there. absurd (none-some u (sym (ap (λ us. slice_get us k) none) ∙ there)) };
     beside = λ s link cache h. record { each = λ k u there. record { over = (h.each k u there).over } };
     more = issued_more;
-    commit = λ s h. subst (λ n. IsIssued nodes (record { dot = next_dot s; deps = cover b s.vector ++ own_dots s.client n; rank = s.clock + 1; updates = draft_updates s })) (let e : s.own ≡ s.own + 1 - 1 = omega arith in e) h;
+    commit = λ s fit some h. subst (λ n. IsIssued nodes (record { dot = next_dot s; deps = cover b s.vector ++ own_dots s.client n; rank = s.clock + 1; updates = draft_updates s })) (let e : s.own ≡ s.own + 1 - 1 = omega arith in e) h;
   }
 
   -- so it is at each moment of a log that follows the rule, where each view shows the tags
