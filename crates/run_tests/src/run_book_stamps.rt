@@ -3,8 +3,8 @@
 use dc_talk::{Ask, Call, Change, Deed, Fate, Log, Outcome, Records, Refusal, Say, Trail};
 use ids_core::{Dot, NoMemory, ObjectId};
 use run_book::{
-    Book, law_agree, law_causal, law_closed, law_known, law_numbers, law_one_list, law_session,
-    law_sound, law_value,
+    Book, law_agree, law_causal, law_closed, law_known, law_numbers, law_one_list, law_refusals,
+    law_session, law_sound, law_value,
 };
 use samples::{counter, id, inc, inc_tx, mark};
 use std::alloc::Global;
@@ -304,6 +304,7 @@ fn the_laws_are_of_books_of_three_centres(rt: HostRuntime) -> Result<(), Fail> {
     law_known(&book);
     law_value(&book);
     law_agree(&book);
+    law_refusals(&book);
     law_causal(&book);
     assert!(rt; reads_five(rt.alloc(), &book, &object, 11)?);
     Ok(())

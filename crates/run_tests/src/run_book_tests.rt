@@ -4,7 +4,7 @@ use dc_talk::{Log, Trail};
 use ids_core::{Dot, NoMemory};
 use run_book::{
     Book, Logs, Trails, law_agree, law_causal, law_closed, law_known, law_numbers, law_one_list,
-    law_session, law_sound, law_value,
+    law_refusals, law_session, law_sound, law_value,
 };
 use samples::counter;
 use std::alloc::Global;
@@ -22,6 +22,7 @@ fn take_laws(book: &Book) {
     law_known(book);
     law_value(book);
     law_agree(book);
+    law_refusals(book);
     law_causal(book);
 }
 
