@@ -8,6 +8,8 @@ from functions import Function
 # What refuses a body, the strongest first; docs/tests.md says what each shows. Or that nothing did.
 FALSE_GOAL, OPEN_GOAL, WRITTEN_PROOF, LOST_NAME = "false-goal", "open-goal", "written-proof", "lost-name"
 NOT_REFUSED, BAD_EDIT = "NOT-REFUSED", "BAD-EDIT"
+# The goals that the search did not prove, in the verdict on a function that has no file with answers.
+SEARCHED = re.compile(r"expected answers in .*?; `search` did not prove (.*)")
 REFUSALS = (FALSE_GOAL, OPEN_GOAL, WRITTEN_PROOF, LOST_NAME)
 
 
@@ -48,6 +50,12 @@ def goals_of(function, said):
     return [it for it in said.goals if function.has_line(it.file, it.line)]
 
 
+def searched_goals(function, said):
+    """The goals that the verdict on a function names as not found by the search, where no note tells of them."""
+    found = [SEARCHED.search(it) for it in verdicts_on(function, said)]
+    return tuple(dict.fromkeys(name for it in found if it for name in re.findall(r"`([^`]+)`", it[1])))
+
+
 def refusal_of(function, said, answered):
     """What refuses a function for itself, or None: what is said of the functions that it calls counts for nothing.
     The last argument has the goals that its written proof answers: another goal needed no answer before the edit."""
@@ -66,7 +74,8 @@ def refusal_of(function, said, answered):
         return Result(WRITTEN_PROOF, function, tuple(dict.fromkeys(it.goal for it in misfits if not it.has_lost_name)))
     if lost or goals:
         return Result(LOST_NAME, function, tuple(dict.fromkeys([it.goal for it in lost] + [it.name for it in goals])))
-    return None
+    searched = searched_goals(function, said)
+    return Result(OPEN_GOAL, function, searched) if searched else None
 
 
 def may_tell_more(function, said, answered):
