@@ -1,9 +1,10 @@
 // Names, identifiers, marks, objects and tags.
 use ids_core::{
-    BadName, Mark, Name, ObjectId, OpId, Sort, Tags, id_order, law_id_order, law_mark_order,
-    law_name_order, mark_order,
+    BadName, Mark, Name, NoMemory, ObjectId, OpId, Sort, Tags, id_order, law_id_order,
+    law_mark_order, law_name_order, law_object_order, mark_order,
 };
 use samples::{id, mark};
+use std::hash::{DefaultHasher, Hash, Hasher};
 use std::test::Fail;
 
 // Whether a text is read as a name that comes before the one that another text is read as.
@@ -30,6 +31,40 @@ fn names_are_read_and_go_by_their_bytes(rt: HostRuntime) -> Result<(), Fail> {
     for text in ["", "A", "a-b", "a b", "abcdefghijklmnopqrstuvwxyz_012345"] {
         assert!(rt; Name::read(text.as_bytes()).is_err(), "at {text}");
     }
+    Ok(())
+}
+
+// The hash of an object.
+fn hash_of(object: &ObjectId) -> u64 {
+    let mut state = DefaultHasher::new();
+    object.hash(&mut state);
+    state.finish()
+}
+
+#[test]
+fn objects_go_by_kind_then_name(rt: HostRuntime) -> Result<(), Fail> {
+    law_object_order();
+    let (a, b) = (Name::read(b"a")?, Name::read(b"b")?);
+    let low = ObjectId {
+        sort: Sort::Counter,
+        name: b,
+    };
+    let high = ObjectId {
+        sort: Sort::Map,
+        name: a,
+    };
+    assert!(rt; low < high && low.cmp(&low).is_eq());
+    assert!(rt; hash_of(&low) == hash_of(&low) && hash_of(&low) != hash_of(&high));
+    Ok(())
+}
+
+#[test]
+fn errors_say_what_is_wrong(rt: HostRuntime) -> Result<(), Fail> {
+    let text = format!(in rt.alloc(); "{NoMemory}, {BadName}")?;
+    assert_eq!(rt;
+        text.as_str(),
+        "memory ran out, no name: 1 to 32 bytes out of a to z, 0 to 9 and _"
+    );
     Ok(())
 }
 

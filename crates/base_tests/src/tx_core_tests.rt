@@ -78,20 +78,14 @@ fn a_set_has_what_is_live(rt: HostRuntime) -> Result<(), Fail> {
     Ok(())
 }
 
-// Whether a copy of an update is of the object.
-fn is_of(update: &Update, object: &ObjectId) -> Result<bool, NoMemory> {
-    Ok(update.copy()?.object == *object)
-}
-
 // Whether updates are so many, each of the object.
 fn are_of(updates: &Updates, object: &ObjectId, count: usize) -> Result<bool, NoMemory> {
     let updates = Updates::from_vec(updates.copy()?.into_vec());
-    for update in updates.as_slice() {
-        if !is_of(update, object)? {
-            return Ok(false);
-        }
-    }
-    Ok(updates.len() == count && !updates.is_empty())
+    let are = updates
+        .as_slice()
+        .iter()
+        .all(|update| update.object == *object);
+    Ok(are && updates.len() == count)
 }
 
 // The transaction of client 1 that adds deltas to a counter.

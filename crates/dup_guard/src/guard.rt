@@ -2,13 +2,10 @@
 ghost use Rattle.std.specs.Prelude.{◌≡◌, ◌≢◌, ◌≤◌, ◌+◌, ◌↔◌, ℕ, IsTrue, IsNone, IfOk, Some, None};
 ghost use Rattle.dup_guard.specs.Notes.{last_at, number_of, stamp_of};
 
-use ids_core::{Dot, NoMemory};
+use ids_core::{Dot, MOST_CLIENTS, NoMemory};
 use std::alloc::Global;
 use std::marker::Model;
 use vv_core::Stamp;
-
-// How many clients there are, counted from 1.
-const CLIENTS: usize = 1024;
 
 // What was last noted of a client: the number, 0 for none, and the stamp that was first noted with it.
 #[derive(Clone, Copy)]
@@ -17,7 +14,7 @@ struct Last {
     stamp: Stamp,
 }
 
-/// A filter of duplicates, seen as the list of what was last noted of the clients 1 to 1,024. A client's
+/// A filter of duplicates, seen as the list of what was last noted of each client. A client's
 /// transactions are noted in the order of their numbers, each once; so one that comes again is told by its
 /// number, and found by the stamp that it was first noted with. (Zawirski and others, Middleware 2015.)
 #[derive(Drop)]
@@ -27,13 +24,14 @@ pub struct Guard {
 
 impl Model for Guard {
     ghost use Rattle.std.specs.Prelude.{◌≡◌, List, length};
+    ghost use Rattle.ids_core.specs.declared.limits.TheConstants.{MOST_CLIENTS};
     ghost use Rattle.dup_guard.specs.declared.guard.Last.{Last};
 
     ghost Value = { List Last };
 
     ghost view = { λ g. g.lasts.items };
 
-    ghost invariant = { λ g. length g.lasts.items ≡ 1024 };
+    ghost invariant = { λ g. length g.lasts.items ≡ MOST_CLIENTS };
 }
 
 impl Guard {
@@ -46,7 +44,7 @@ impl Guard {
             number: 0,
             stamp: Stamp { centre: 0, seq: 0 },
         };
-        let lasts = vec![in alloc; nothing; CLIENTS]?;
+        let lasts = vec![in alloc; nothing; MOST_CLIENTS as usize]?;
         Ok(Guard { lasts })
     }
 
@@ -84,9 +82,9 @@ impl Guard {
         dot.number <= self.through(dot.client)
     }
 
-    /// Notes the next number of a client, 1 to 1,024, with its stamp.
+    /// Notes the next number of a client with its stamp.
     pub fn note(&mut self, dot: &Dot, stamp: &Stamp)
-        requires client { (1 ≤ dot.now.client) × (dot.now.client ≤ 1024) }
+        requires client { (1 ≤ dot.now.client) × (dot.now.client ≤ MOST_CLIENTS) }
         requires next { dot.now.number ≡ number_of self.old dot.now.client + 1 }
         ensures number { number_of self.new dot.now.client ≡ dot.now.number }
         ensures stamp { stamp_of self.new dot.now.client ≡ Some stamp.now }

@@ -1,9 +1,11 @@
 // Want of memory.
 
 use std::alloc::{AllocError, AllocFailed};
+use thiserror::Error;
 
 /// There was no room: the one error whose cause no contract states.
-#[derive(Clone, Copy, Debug)]
+#[derive(Clone, Copy, Debug, Error)]
+#[error("memory ran out")]
 pub struct NoMemory;
 
 impl From<AllocError> for NoMemory {

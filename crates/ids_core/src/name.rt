@@ -6,10 +6,13 @@ ghost use Rattle.ids_core.specs.Name.{IsName, IsNameByte};
 ghost use Rattle.ids_core.specs.Orders.{name_cmp};
 
 use std::cmp::Ordering;
+use std::hash::{Hash, Hasher};
 use std::marker::Model;
+use thiserror::Error;
 
 /// The bytes are no name.
-#[derive(Clone, Copy, Debug)]
+#[derive(Clone, Copy, Debug, Error)]
+#[error("no name: 1 to 32 bytes out of a to z, 0 to 9 and _")]
 pub struct BadName;
 
 /// A name, seen as the list of its bytes: 1 to 32 out of `a` to `z`, `0` to `9` and `_`. Names are
@@ -22,18 +25,19 @@ pub struct Name {
 }
 
 impl Model for Name {
-    ghost use Rattle.std.specs.Prelude.{ℕ, List, ◌++◌, ◌-◌, take, length};
-    ghost use Rattle.ids_core.specs.Padded.{IsPadded, repadded, zeros};
+    ghost use Rattle.std.specs.Prelude.{ℕ, List, ◌++◌, ◌-◌, take, length, replicate};
+    ghost use Rattle.list_core.specs.Padded.{repadded};
+    ghost use Rattle.ids_core.specs.Padded.{IsPaddedName};
 
     ghost Value = { List ℕ };
 
     ghost view = { λ n. take n.len n.bytes };
 
-    ghost invariant = { λ n. IsPadded n.bytes n.len };
+    ghost invariant = { λ n. IsPaddedName n.bytes n.len };
 
-    ghost inverse = { λ l. record { bytes = l ++ zeros (32 - length l); len = length l } };
+    ghost inverse = { λ l. record { bytes = l ++ replicate (32 - length l) 0; len = length l } };
 
-    ghost inverse_ok = { λ n h. repadded (λ bytes len. record { bytes = bytes; len = len }) n.bytes n.len h };
+    ghost inverse_ok = { λ n h. repadded (λ bytes len. record { bytes = bytes; len = len }) 32 n.bytes n.len h.padded };
 }
 
 impl Name {
@@ -116,6 +120,20 @@ impl PartialOrd for Name {
 
     fn partial_cmp(&self, other: &Name) -> Option<Ordering> {
         Some(self.cmp(other))
+    }
+}
+
+impl Hash for Name {
+    ghost use Rattle.std.proofs.Common.{rules};
+    ghost use Rattle.std.specs.Cmp.Rules.{comparing, hashing};
+    ghost use Rattle.std.specs.Hash as fed;
+
+    ghost hash_input = { fed.slice fed.u8 };
+
+    ghost respects_eq = { Prim.search (hashing, rules) };
+
+    fn hash<H: Hasher>(&self, state: &mut H) {
+        self.as_slice().hash(state);
     }
 }
 

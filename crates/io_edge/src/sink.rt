@@ -1,12 +1,16 @@
 ghost use Rattle.std.specs.Prelude.{◌≡◌, ◌≢◌, ◌<◌, ◌≤◌, List, ℕ, Option, length, take, IfOk, OnErr};
 ghost use Rattle.io_edge.specs.Streams.{HasRisen, puts_behind};
 
+use thiserror::Error;
+
 /// Why a write took nothing.
-#[derive(Clone, Copy, Debug)]
+#[derive(Clone, Copy, Debug, Error)]
 pub enum WriteFault {
     /// The outside failed.
+    #[error("a write failed")]
     Failed,
     /// There is no memory to keep the bytes in.
+    #[error("memory ran out")]
     NoMemory,
 }
 

@@ -1,8 +1,11 @@
 ghost use Rattle.std.specs.Prelude.{◌≡◌, ◌<◌, ◌≤◌, [], List, ℕ, Option, length, take, IfOk, IfSome, OnOk, OnErr};
 ghost use Rattle.io_edge.specs.Streams.{HasRisen, puts_back};
 
+use thiserror::Error;
+
 /// The one way in which a read fails. No byte was taken.
-#[derive(Clone, Copy, Debug)]
+#[derive(Clone, Copy, Debug, Error)]
+#[error("a read failed")]
 pub struct Failed;
 
 /// Where bytes are read from. A source may tell which bytes it has left, and counts its faults.

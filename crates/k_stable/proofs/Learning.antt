@@ -10,7 +10,7 @@ use Rattle.k_stable.specs.Tables.{Table, IsTable, Learns, table_in, told_by}
 
 -- a vector that covers another is their join
 pub join_of-covered : (v w : List ℕ) → length v ≡ length w → Covers v w → join_of v w ≡ v
-join_of-covered v w len covers = same_vectors (join_of v w) v (omega (arith, len, length-join_of v w)) (λ e one few. omega (arith, at-join_of v w e, covers.by e))
+join_of-covered v w len covers = same_vectors (join_of v w) v (omega (arith, len, length-join_of v w)) (λ e one few. omega (arith, at-join_of v w e, covers.holds e))
 
 -- a join with what is not covered is another vector
 pub join_of-uncovered : (v w : List ℕ) → (Covers v w → ⊥) → join_of v w ≢ v
@@ -20,6 +20,7 @@ join_of-uncovered v w not same = not (subst (λ u. Covers u w) same (Covers-join
 abbrev written : Table → ℕ → List ℕ → Table
 written t i row = record t { rows = set t.rows i row }
 
+-- a table with another row of the same width is a table
 written_is : (t : Table) (i : ℕ) (row : List ℕ) → IsTable t → length row ≡ t.n → IsTable (written t i row)
 written_is t i row is wide = record {
   centre = is.centre;
@@ -29,12 +30,14 @@ written_is t i row is wide = record {
   wide = All-set (λ row. length row ≡ t.n) t.rows i row wide is.wide;
 }
 
+-- the row that was written is read at its centre
 told_by-written : (t : Table) (i from : ℕ) (row : List ℕ) → IsTable t → i + 1 ≡ from → from ≤ t.n → told_by (written t i row) from ≡ row
 told_by-written t i zero row is place few = absurd (omega arith)
 told_by-written t i (suc j) row is place few =
     let same : i ≡ j = omega (arith, place) in
     ap (λ i. get_or (set t.rows i row) j []) same ∙ get_or-set_same t.rows j row [] (omega (arith, few, is.count))
 
+-- and the others as before
 told_by-written_other : (t : Table) (i from : ℕ) (row : List ℕ) → i + 1 ≡ from → (j : ℕ) → j ≢ from → told_by (written t i row) j ≡ told_by t j
 told_by-written_other t i from row place zero other = refl
 told_by-written_other t i from row place (suc j) other = get_or-set_other t.rows i j row [] (λ same. other (omega (arith, same, place)))
@@ -56,6 +59,7 @@ length-told_by t (suc i) is one few = All-get_or (λ row. length row ≡ t.n) t.
 -- ---- the same of rows that stand first in a place for more
 
 module _ (me n k : ℕ) (places : List (List ℕ)) (is : IsTable (table_in me n k places)) (i from : ℕ) (place : i ≡ from - 1) (one : 1 ≤ from) (few : from ≤ n) where
+  -- the place comes before the centre's number
   next : i + 1 ≡ from
   next = omega (arith, place, one)
 
@@ -69,6 +73,7 @@ module _ (me n k : ℕ) (places : List (List ℕ)) (is : IsTable (table_in me n 
           let same : j ≡ i = omega (arith, is') in
           get_or_default (take n places) j [] d (omega (arith, le, is.count)) ∙ (get_or-take n places j d (omega (arith, le)) ∙ ap (λ j. get_or places j d) same)
 
+  -- what is written at the place is written in the table
   table_in-set : (row : List ℕ) → table_in me n k (set places i row) ≡ written (table_in me n k places) i row
   table_in-set row = ap (λ rows. record { me = me; n = n; k = k; rows = rows }) (take-set-lt n places i row (omega (arith, next, few)))
 
@@ -77,14 +82,17 @@ module _ (me n k : ℕ) (places : List (List ℕ)) (is : IsTable (table_in me n 
   told_by-set row = ap (λ t. told_by t from) (table_in-set row) ∙ told_by-written (table_in me n k places) i from row is next few
 
   module _ (d vector row : List ℕ) (join : row ≡ join_of (get_or places i d) vector) where
+    -- the row that is written is the join of the table's
     joined : row ≡ join_of (told_by (table_in me n k places) from) vector
     joined = join ∙ ap (λ r. join_of r vector) (sym (told_by-place d))
 
+    -- the table is one with it
     pub place_is : length vector ≡ n → IsTable (table_in me n k (set places i row))
     place_is wide =
         let len : length row ≡ n = omega (arith, wide, ap length joined, length-join_of (told_by (table_in me n k places) from) vector, length-told_by (table_in me n k places) from is one few) in
         subst IsTable (sym (table_in-set row)) (written_is (table_in me n k places) i row is len)
 
+    -- and has learned the vector
     pub place_learns : from ≢ me → Learns (table_in me n k places) (table_in me n k (set places i row)) from vector
     place_learns other =
         subst (λ t. Learns (table_in me n k places) t from vector) (sym (table_in-set row))

@@ -1,5 +1,5 @@
 -- The least of a list is the number that all of the list reach.
-use Rattle.std.proofs.Common.{◌≡◌, ◌≤◌, ℕ, zero, suc, Bool, true, false, cond, leb, List, [], ◌∷◌, length, refl, sym, ap, ◌∙◌, arith}
+use Rattle.std.proofs.Common.{◌≡◌, ◌≤◌, ℕ, Bool, true, false, cond, leb, List, [], ◌∷◌, length, refl, sym, ap, ◌∙◌, arith}
 use Rattle.std.specs.Prelude.{All}
 use Rattle.std.proofs.lemmas.Bool.{leb-true, le-leb}
 use Rattle.std.proofs.lemmas.List.{length-map}
@@ -13,16 +13,8 @@ use Rattle.k_stable.specs.Tables.{least}
 -- what is at most the least, all reach
 pub reach_least : (m : ℕ) (xs : List ℕ) → m ≤ least xs → length xs ≤ reach m xs
 reach_least m [] le = omega arith
-reach_least m (x ∷ []) le = omega (arith, count_by-cons (leb m) x [], counts (leb m x) (le-leb m x le))
-  where
-    counts : (b : Bool) → b ≡ true → cond b 1 0 ≡ suc zero
-    counts true is = refl
-    counts false is = cc
-reach_least m (x ∷ y ∷ ys) le = omega (arith, count_by-cons (leb m) x (y ∷ ys), counts (leb m x) (le-leb m x (omega (arith, le))), reach_least m (y ∷ ys) (omega (arith, le)))
-  where
-    counts : (b : Bool) → b ≡ true → cond b 1 0 ≡ suc zero
-    counts true is = refl
-    counts false is = cc
+reach_least m (x ∷ []) le = omega (arith, count_by-cons (leb m) x [], ap {B = ℕ} (λ b. cond b 1 0) (le-leb m x le))
+reach_least m (x ∷ y ∷ ys) le = omega (arith, count_by-cons (leb m) x (y ∷ ys), ap {B = ℕ} (λ b. cond b 1 0) (le-leb m x (omega (arith, le))), reach_least m (y ∷ ys) (omega (arith, le)))
 
 -- what all reach is at most each
 pub reached_all : (m : ℕ) (xs : List ℕ) → length xs ≤ reach m xs → All (λ x. m ≤ x) xs
@@ -35,6 +27,7 @@ reached_all m (x ∷ xs) full =
     counted true is = (leb-true m x is, omega (arith, full, count_by-cons (leb m) x xs, ap {B = ℕ} (λ b. cond b 1 0) is))
     counted false is = absurd (omega (arith, full, count_by-cons (leb m) x xs, ap {B = ℕ} (λ b. cond b 1 0) is, count_by-le-length (leb m) xs))
 
+-- what is at most each is at most the least
 pub All-least : (m : ℕ) (xs : List ℕ) → 1 ≤ length xs → All (λ x. m ≤ x) xs → m ≤ least xs
 All-least m [] some all = absurd (omega arith)
 All-least m (x ∷ []) some all = All-head (λ x. m ≤ x) x [] all

@@ -1,6 +1,7 @@
 -- What a centre was told of the others' vectors, and what follows from it with the centre's own vector.
 use Rattle.std.specs.Prelude.{◌≡◌, ◌≢◌, ◌≤◌, ℕ, zero, suc, ◌==◌, cond, min, List, [], ◌∷◌, length, take, map, All}
 use Rattle.std.proofs.Common.{get_or}
+use Rattle.ids_core.specs.declared.limits.TheConstants.{MOST_CENTRES}
 use Rattle.vv_core.specs.Vectors.{centres, tabulate, column, kth_largest, meet_of, join_of}
 
 -- which of n centres it is, how many make an entry stable, and for each centre in order the join of the vectors
@@ -11,10 +12,10 @@ pub record Table : Type 0 where
   pub k : ℕ
   pub rows : List (List ℕ)
 
--- it is one of at most eight centres, K is a number of centres, and each centre has a row
+-- it is one of at most MOST_CENTRES centres, K is a number of centres, and each centre has a row
 pub record IsTable (t : Table) : Type 0 where
   pub centre : (1 ≤ t.me) × (t.me ≤ t.n)
-  pub few : t.n ≤ 8
+  pub few : t.n ≤ MOST_CENTRES
   pub known : (1 ≤ t.k) × (t.k ≤ t.n)
   pub count : length t.rows ≡ t.n
   pub wide : All (λ row. length row ≡ t.n) t.rows

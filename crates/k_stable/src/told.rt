@@ -3,6 +3,7 @@ ghost use Rattle.std.specs.Prelude.{◌≡◌, ◌≢◌, ◌≤◌, ◌↔◌, 
 ghost use Rattle.vv_core.specs.Vectors.{zeros, join_of};
 ghost use Rattle.k_stable.specs.Tables.{IsTable, Learns, told_by, rows_of, stable_of, all_known_of};
 
+use ids_core::MOST_CENTRES;
 use std::marker::Model;
 use vv_core::Vector;
 
@@ -14,7 +15,7 @@ pub struct Told {
     me: u8,
     n: u8,
     k: u8,
-    rows: [Vector; 8],
+    rows: [Vector; MOST_CENTRES as usize],
 }
 
 impl Model for Told {
@@ -28,10 +29,10 @@ impl Model for Told {
 }
 
 impl Told {
-    /// The table of centre `me` of `n`, 1 to 8, with nothing learned. An entry is stable once `k` centres know it.
+    /// The table of centre `me` of `n` with nothing learned. An entry is stable once `k` centres know it.
     pub fn new(me: u8, n: u8, k: u8) -> Told
         requires centre { (1 ≤ me) × (me ≤ n) }
-        requires few { n ≤ 8 }
+        requires few { n ≤ MOST_CENTRES }
         requires known { (1 ≤ k) × (k ≤ n) }
         ensures numbers { (result.me ≡ me) × (result.n ≡ n) × (result.k ≡ k) }
         ensures told { (j : ℕ) → 1 ≤ j → j ≤ n → told_by result j ≡ zeros n }
@@ -41,7 +42,7 @@ impl Told {
             me,
             n,
             k,
-            rows: [Vector::zero(n); 8],
+            rows: [Vector::zero(n); MOST_CENTRES as usize],
         }
     }
 
@@ -82,7 +83,7 @@ impl Told {
     }
 
     // The rows of all centres, with the own vector in place of what was told by this one.
-    fn rows_with(&self, own: &Vector) -> [Vector; 8]
+    fn rows_with(&self, own: &Vector) -> [Vector; MOST_CENTRES as usize]
         requires { length own.now ≡ self.now.n }
         ensures { take self.now.n result ≡ rows_of self.now own.now }
     {

@@ -1,6 +1,6 @@
 -- What the first of several choices is, and what holds of it.
 use Rattle.std.proofs.Common.{◌≡◌, Bool, true, false, List, [], ◌∷◌, Option, Some, None, refl, sym, ◌∙◌, subst}
-use Rattle.std.specs.Prelude.{is_none}
+use Rattle.std.specs.Prelude.{is_none, option_map}
 use Rattle.std.proofs.lemmas.Bool.{false≢true}
 use Rattle.std.proofs.lemmas.Option.{none-some, same_Some}
 use Rattle.list_core.specs.Choices.{when, first_of}
@@ -9,6 +9,11 @@ use Rattle.list_core.specs.Choices.{when, first_of}
 pub is_none_true : {X : Type 0} (choice : Option X) → is_none choice ≡ true → choice ≡ None
 is_none_true None is = refl
 is_none_true (Some x) is = absurd (false≢true is)
+
+-- a choice whose image is none, is none
+pub option_map-none : {X Y : Type 0} (f : X → Y) (choice : Option X) → option_map f choice ≡ None → choice ≡ None
+option_map-none f None is = refl
+option_map-none f (Some x) is = absurd (none-some (f x) (sym is))
 
 -- ---- a choice under a test
 

@@ -8,7 +8,7 @@ use Rattle.list_core.proofs.Gets.{get_in_take}
 
 -- nothing is to be shown of no element
 pub each_none : {X : Type 0} (P : List X → X → Type 0) → Each P []
-each_none P = record { by = λ p x there. absurd (none-some x there) }
+each_none P = record { holds = λ p x there. absurd (none-some x there) }
 
 -- an element of the longer list stands in the shorter one, or is the last
 get-append_last : {X : Type 0} (xs : List X) (x y : X) (p : ℕ) → slice_get (xs ++ x ∷ []) p ≡ Some y → ((slice_get xs p ≡ Some y) × (take p (xs ++ x ∷ []) ≡ take p xs)) ⊎ ((x ≡ y) × (take p (xs ++ x ∷ []) ≡ xs))
@@ -19,7 +19,7 @@ get-append_last (z ∷ xs) x y (suc p) there = ⊎_elim (λ before. inl (before.
 
 -- one element more, of which the fact holds after the others
 pub each_more : {X : Type 0} (P : List X → X → Type 0) (xs : List X) (x : X) → Each P xs → P xs x → Each P (xs ++ x ∷ [])
-each_more P xs x each here = record { by = λ p y there. ⊎_elim (λ before. subst (λ l. P l y) (sym before.1) (each.by p y before.0)) (λ last. subst (λ l. P l y) (sym last.1) (subst (λ y. P xs y) last.0 here)) (get-append_last xs x y p there) }
+each_more P xs x each here = record { holds = λ p y there. ⊎_elim (λ before. subst (λ l. P l y) (sym before.1) (each.holds p y before.0)) (λ last. subst (λ l. P l y) (sym last.1) (subst (λ y. P xs y) last.0 here)) (get-append_last xs x y p there) }
 
 -- the prefix with one element more
 pub take_one_more : {X : Type 0} (xs : List X) (p : ℕ) (x : X) → slice_get xs p ≡ Some x → take (suc p) xs ≡ take p xs ++ x ∷ []
@@ -30,10 +30,10 @@ take_one_more (y ∷ xs) (suc p) x there = ap (λ l. y ∷ l) (take_one_more xs 
 -- what holds of each element after those before it, holds so in a prefix
 pub each_take : {X : Type 0} (P : List X → X → Type 0) (xs : List X) (n : ℕ) → Each P xs → Each P (take n xs)
 each_take P xs n each = record {
-  by = λ p x there.
+  holds = λ p x there.
       let within = slice_get_within (take n xs) p x there in
       let long = length-take n xs in
-      subst (λ l. P l x) (sym (take-take p n xs (omega (arith, within, long)))) (each.by p x (get_in_take xs n p x there));
+      subst (λ l. P l x) (sym (take-take p n xs (omega (arith, within, long)))) (each.holds p x (get_in_take xs n p x there));
 }
 
 -- past the end a longer prefix is the same

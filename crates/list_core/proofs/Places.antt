@@ -12,6 +12,7 @@ record FirstAt {X : Type 0} (p : X → Bool) (xs : List X) (place : ℕ) : Type 
   first : first_that p xs ≡ slice_get xs place
   others : without_first p xs ≡ remove xs place
 
+-- a place that is found, counted from i, is that of the first that passes
 first_at : {X : Type 0} (p : X → Bool) (i : ℕ) (xs : List X) (k : ℕ) → position_from p i xs ≡ Some k → (j : ℕ) × (k ≡ i + j) × FirstAt p xs j
 first_at p i [] k is = absurd (none-some k is)
 first_at p i (x ∷ xs) k is = by (p x) refl is (λ rest. first_at p (i + 1) xs k rest)
@@ -36,6 +37,7 @@ none_at p i (x ∷ xs) is = by (p x) refl is (λ rest. none_at p (i + 1) xs rest
         let r = rest is in
         (rw test r.0, rw test (ap (λ ys. x ∷ ys) r.1))
 
+-- the place that is found is that of the first that passes
 found : {X : Type 0} (p : X → Bool) (xs : List X) (place : ℕ) → position p xs ≡ Some place → FirstAt p xs place
 found p xs place is =
     let f = first_at p 0 xs place (sym (position_from-zero p xs) ∙ is) in
@@ -43,21 +45,27 @@ found p xs place is =
     let same : f.0 ≡ place = omega arith in
     subst (λ j. FirstAt p xs j) same f.2
 
+-- the first that passes is the element at the place that is found
 pub first_that-found : {X : Type 0} (p : X → Bool) (xs : List X) (place : ℕ) → position p xs ≡ Some place → first_that p xs ≡ slice_get xs place
 first_that-found p xs place is = (found p xs place is).first
 
+-- and the others are what is left without that place
 pub without_first-found : {X : Type 0} (p : X → Bool) (xs : List X) (place : ℕ) → position p xs ≡ Some place → without_first p xs ≡ remove xs place
 without_first-found p xs place is = (found p xs place is).others
 
+-- where no place is found, none passes
 pub first_that-none : {X : Type 0} (p : X → Bool) (xs : List X) → position p xs ≡ None → first_that p xs ≡ None
 first_that-none p xs is = (none_at p 0 xs (sym (position_from-zero p xs) ∙ is)).0
 
+-- and the list stays
 pub without_first-none : {X : Type 0} (p : X → Bool) (xs : List X) → position p xs ≡ None → without_first p xs ≡ xs
 without_first-none p xs is = (none_at p 0 xs (sym (position_from-zero p xs) ∙ is)).1
 
+-- what is brought forward is the element at the place that is found
 pub brought_forward-found : {X : Type 0} (p : X → Bool) (xs : List X) (place : ℕ) → position p xs ≡ Some place → brought_forward p xs ≡ in_front (slice_get xs place) (remove xs place)
 brought_forward-found p xs place is = rw (first_that-found p xs place is) (ap (in_front (slice_get xs place)) (without_first-found p xs place is))
 
+-- where no place is found, the list stays as it is
 pub brought_forward-none : {X : Type 0} (p : X → Bool) (xs : List X) → position p xs ≡ None → brought_forward p xs ≡ xs
 brought_forward-none p xs is = rw (first_that-none p xs is) (without_first-none p xs is)
 
@@ -79,12 +87,13 @@ turned xs turn place lt is =
     let turn_is : turn ≡ last.0 ∷ take place xs = rw (last.2, last.3) at whole in
     rw (turn_is, add-one, last.1) refl
 
--- the element at a place in front: read, and replaced
+-- the element that was put in front is read there
 pub front-read : {X : Type 0} (xs rest : List X) (place : ℕ) → place < length xs → slice_get (in_front (slice_get xs place) rest) 0 ≡ slice_get xs place
 front-read xs rest place lt =
     let last = last_of xs place lt in
     rw last.1 refl
 
+-- and replaced there
 pub front-set : {X : Type 0} (xs rest : List X) (place : ℕ) (y : X) → place < length xs → slice_set (in_front (slice_get xs place) rest) 0 y ≡ y ∷ rest
 front-set xs rest place y lt =
     let last = last_of xs place lt in

@@ -3,3 +3,4 @@ pub mod Choices
 pub mod Firsts
 pub mod Members
 pub mod Permutations
+pub mod Padded

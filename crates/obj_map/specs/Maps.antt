@@ -9,7 +9,7 @@ use Rattle.ids_core.specs.declared.ids.Mark.{Mark}
 use Rattle.tally_core.specs.Places.{place_code}
 use Rattle.tally_core.specs.Cells.{Tallied, cell_code}
 use Rattle.tally_core.specs.Changes.{Change, IsTallyOf, IsLiveIn, step as changed}
-use Rattle.tally_core.specs.Live.{live_ids, live_names, kept_at}
+use Rattle.tally_core.specs.Live.{live_names, kept_at}
 use Rattle.obj_map.specs.declared.put.Put.{Put}
 use Rattle.obj_map.specs.declared.map.MapOp.{MapOp}
 use Rattle.obj_map.specs.Puts.{put_code, greatest}
@@ -46,10 +46,6 @@ pairs_of m keys = filter_map (λ key. option_map (λ word. (key, word)) (word_at
 -- the keys with a live put and their words
 abbrev pub pairs : Map → List (List ℕ × List ℕ)
 pairs m = pairs_of m (live_names m)
-
--- the live identifiers of a key
-abbrev pub tags : Map → List ℕ → List OpId
-tags = live_ids
 
 -- the word is that of a live put of the key, and no other live put of the key has a greater mark
 pub record IsGreatestPut (ops : List (Mark × MapOp)) (key word : List ℕ) : Type 0 where

@@ -6,7 +6,8 @@ ghost use Rattle.ids_core.specs.declared.ids.Mark.{Mark};
 ghost use Rattle.ids_core.specs.Kinds.{Distinct};
 ghost use Rattle.ids_core.specs.Orders.{name_cmp};
 ghost use Rattle.tally_core.specs.Changes.{LiveByOps};
-ghost use Rattle.obj_map.specs.Maps.{Map, does, step, pairs, tags, IsStateOf, IsGreatestPut};
+ghost use Rattle.tally_core.specs.Live.{live_ids};
+ghost use Rattle.obj_map.specs.Maps.{Map, does, step, pairs, IsStateOf, IsGreatestPut};
 
 use crate::put::{Put, greatest};
 use ids_core::{Kind, Mark, Name, NoMemory, Tags};
@@ -85,7 +86,7 @@ impl MapState {
 
     /// The live identifiers of a key: those with a tally of 1 or more.
     pub fn tags_of(&self, alloc: Global, key: &Name) -> Result<Tags, NoMemory>
-        ensures { IfOk result (λ list. list ≡ tags self.now key.now) }
+        ensures { IfOk result (λ list. list ≡ live_ids self.now key.now) }
     {
         self.tallies.live(alloc, key)
     }

@@ -3,12 +3,10 @@ use Rattle.std.specs.Prelude.{ℕ, cond, List, Some, None}
 use Rattle.std.specs.Coded.{Coded}
 use base.Stored.{coded_unit}
 use Rattle.std.specs.FinMap.{code, empty}
-use Rattle.ids_core.specs.declared.ids.OpId.{OpId}
 use Rattle.ids_core.specs.declared.ids.Mark.{Mark}
 use Rattle.tally_core.specs.Places.{place_code}
 use Rattle.tally_core.specs.Cells.{Tallied, cell_code}
 use Rattle.tally_core.specs.Changes.{Change, IsTallyOf, step as changed}
-use Rattle.tally_core.specs.Live.{live_ids, live_names}
 use Rattle.obj_set.specs.declared.set.SetOp.{SetOp}
 
 -- tallies of adds that keep nothing
@@ -30,14 +28,6 @@ step = changed does
 -- each tally is plus one for each add of the identifier, minus one for each operation on the word that is over it
 abbrev pub IsStateOf : List (Mark × SetOp) → Set → Type 0
 IsStateOf = IsTallyOf does
-
--- the words with a live identifier
-abbrev pub words : Set → List (List ℕ)
-words = live_names
-
--- the live identifiers of a word
-abbrev pub tags : Set → List ℕ → List OpId
-tags = live_ids
 
 -- a set is stored as the entries of its tallies
 abbrev pub set_code : Coded Set

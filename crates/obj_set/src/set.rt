@@ -7,7 +7,8 @@ ghost use Rattle.ids_core.specs.Kinds.{Distinct};
 ghost use Rattle.ids_core.specs.Orders.{name_cmp};
 ghost use Rattle.tally_core.specs.Changes.{LiveByOps};
 ghost use Rattle.tally_core.specs.Live.{IsLiveName};
-ghost use Rattle.obj_set.specs.Sets.{Set, does, step, words, tags, IsStateOf};
+ghost use Rattle.tally_core.specs.Live.{live_ids, live_names};
+ghost use Rattle.obj_set.specs.Sets.{Set, does, step, IsStateOf};
 
 use ids_core::{Kind, Mark, Name, NoMemory, Tags};
 use std::alloc::Global;
@@ -62,7 +63,7 @@ impl SetState {
 
     /// The words with a live identifier, ascending.
     pub fn value(&self, alloc: Global) -> Result<Vec<Name>, NoMemory>
-        ensures words { IfOk result (λ list. list.items ≡ words self.now) }
+        ensures words { IfOk result (λ list. list.items ≡ live_names self.now) }
         ensures ascending { IfOk result (λ list. IsStrictlySortedBy name_cmp list.items) }
         ensures exact { IfOk result (λ list. (word : List ℕ) → In word list.items ↔ IsLiveName self.now word) }
     {
@@ -71,7 +72,7 @@ impl SetState {
 
     /// The live identifiers of a word: those with a tally of 1 or more.
     pub fn tags_of(&self, alloc: Global, word: &Name) -> Result<Tags, NoMemory>
-        ensures { IfOk result (λ list. list ≡ tags self.now word.now) }
+        ensures { IfOk result (λ list. list ≡ live_ids self.now word.now) }
     {
         self.tallies.live(alloc, word)
     }

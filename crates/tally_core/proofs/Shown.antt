@@ -9,6 +9,7 @@ use Rattle.tally_core.specs.declared.place.Cell.{Cell}
 use Rattle.tally_core.specs.Places.{place_cmp, same_name}
 use Rattle.tally_core.specs.Cells.{nothing, is_nothing, seen}
 use Rattle.tally_core.specs.Live.{is_live, under, live_in, live_ids, kept_in, kept_at, names_after, live_names}
+use Rattle.tally_core.proofs.Listed.{names_given}
 use Rattle.tally_core.proofs.Places.{place_cmp_total, place_cmp_same}
 use Rattle.tally_core.proofs.Sparse.{entries-sparse}
 use Rattle.tally_core.proofs.Kept.{nothing_is}
@@ -66,4 +67,4 @@ module _ {P : Type 0} where
   kept_seen name es h = sym (ap (λ l. kept_in (under name l)) (entries_seen es h) ∙ kept_shown name es)
 
   pub names_seen : (es : List (Place × Cell P)) → IsStrictlySortedBy place_cmp (keys_of es) → names_after None es ≡ live_names (seen es)
-  names_seen es h = sym (ap (names_after None) (entries_seen es h) ∙ names_shown None es)
+  names_seen es h = sym (ap (names_after None) (entries_seen es h) ∙ names_shown None es) ∙ names_given (seen es)

@@ -1,9 +1,10 @@
 -- What a change of a sparse map answers, and that changes commute.
-use Rattle.std.proofs.Common.{◌≡◌, ◌⊎◌, Bool, true, false, cond, not, ◌&&◌, length, arith, Option, Some, None, refl, sym, ap, ◌∙◌, subst, inl, inr, List, [], ◌∷◌}
+use Rattle.std.proofs.Common.{◌≡◌, ◌⊎◌, Bool, true, false, cond, not, ◌&&◌, Option, Some, None, refl, sym, ap, ◌∙◌, subst, inl, inr, List, [], ◌∷◌}
 use Rattle.std.specs.Prelude.{T, filter}
 use Rattle.std.specs.Option.{unwrap_or}
 use Rattle.std.specs.Ordering.{eq_by_cmp, is_eq, is_lt}
 use Rattle.std.specs.Cmp.{IsTotalOrder, IsEquivalence}
+use Rattle.std.proofs.lemmas.List.{nil_from_length}
 use Rattle.std.proofs.lemmas.Cmp.{eq_by_cmp_equiv}
 use Rattle.std.proofs.lemmas.Bool.{cases_Bool, false≢true}
 use Rattle.std.specs.declared.cmp.Ordering.{Ordering}
@@ -173,14 +174,10 @@ module _ {K X : Type 0} (R : K → K → Ordering) where
   sorted_keys m = sorted_from (entries m) (entries_sorted m)
 
 module _ {K X : Type 0} {R : K → K → Ordering} (zero : X) (is_zero : X → Bool) (o : IsTotalOrder R) (same : IsAntisymmetric R) (z : (x : X) → is_zero x ≡ true → x ≡ zero) where
-  no_items : {A : Type 0} (es : List A) → length es ≡ 0 → es ≡ []
-  no_items [] e = refl
-  no_items (x ∷ es) e = absurd (omega arith)
-
   -- the entries of a sparse map, from sorted ones
   pub entries-sparse : (es : List (K × X)) → IsStrictlySortedBy R (keys_of es) → entries (from_sparse {R = R} zero is_zero es) ≡ filter (λ e. not (is_zero e.1)) es
   unfolding IsStrictlySortedBy put_at
-  entries-sparse [] h = no_items (entries (empty {X = X} {R = R})) (sym (len-entries (empty {X = X} {R = R})) ∙ len-empty R X)
+  entries-sparse [] h = nil_from_length (entries (empty {X = X} {R = R})) (sym (len-entries (empty {X = X} {R = R})) ∙ len-empty R X)
   entries-sparse (e ∷ es) h = at (is_zero e.1) (entries-sparse es h.1)
     where
       m : FinMap R X

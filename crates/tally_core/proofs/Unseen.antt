@@ -15,7 +15,7 @@ both_ways : (a b : Bool) → (a ≡ true → b ≡ true) → (b ≡ true → a �
 both_ways true b f g = sym (f refl)
 both_ways false b f g = sym (not_true_is b (λ e. false≢true (g e)))
 
-module _ {X : Type 0} (acts : List X) (adds kills : X → Bool) (over sees less : X → X → Bool) (t : Tagged acts adds kills over sees less) where
+module _ {X : Type 0} (acts : List X) (adds kills : X → Bool) (over sees less : X → X → Bool) (t : Tagged acts (record { adds = adds; kills = kills; over = over; sees = sees; less = less })) where
   abbrev lives : X → Bool
   lives = live adds over acts
 
@@ -122,7 +122,7 @@ module _ {X : Type 0} (acts : List X) (adds kills : X → Bool) (over sees less 
       let a = above stays r.0 r.1 r.2 in
       any_from lives acts a.top a.greatest.there (greatest_live a.top a.greatest)
 
-  pub tags_equal_sees : TagsEqualSees acts adds kills over sees less
+  pub tags_equal_sees : TagsEqualSees acts (record { adds = adds; kills = kills; over = over; sees = sees; less = less })
   tags_equal_sees = record {
     live_is_unseen = live_unseen;
     greatest_is_live = greatest_live;

@@ -18,6 +18,7 @@ module _ {P : Type 0} where
   abbrev pub nothing : Cell P
   nothing = record { count = pos 0; kept = None }
 
+  -- whether nothing is stored there
   abbrev pub is_nothing : Cell P → Bool
   is_nothing c = int_eq c.count (pos 0) && not (is_some c.kept)
 

@@ -1,5 +1,6 @@
 -- Live identifiers, and the names that have one.
 use Rattle.std.specs.Prelude.{◌≡◌, ℕ, Bool, true, false, cond, ◌&&◌, not, pos, int_lt, List, [], ◌∷◌, map, filter, filter_map, Option, Some, None, option_map}
+use Rattle.std.specs.List.{dedup}
 use Rattle.std.specs.FinMap.{entries}
 use Rattle.ids_core.specs.declared.ids.OpId.{OpId}
 use Rattle.tally_core.specs.declared.place.Place.{Place}
@@ -42,9 +43,9 @@ module _ {P : Type 0} where
   names_after last [] = []
   names_after last (e ∷ es) = cond (is_live e.1 && not (is_name last e.0.name)) (e.0.name ∷ names_after (Some e.0.name) es) (names_after last es)
 
-  -- the names with a live identifier
+  -- the names of the live entries, in their order, each once
   abbrev pub live_names : Tallied P → List (List ℕ)
-  live_names m = names_after None (entries m)
+  live_names m = dedup same_name (map (λ e. e.0.name) (filter (λ e. is_live e.1) (entries m)))
 
   -- the name has a live identifier
   abbrev pub IsLiveName : Tallied P → List ℕ → Type 0

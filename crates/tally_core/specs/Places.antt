@@ -7,6 +7,7 @@ use Rattle.ids_core.specs.declared.ids.OpId.{OpId}
 use Rattle.ids_core.specs.Orders.{name_cmp, id_cmp}
 use Rattle.tally_core.specs.declared.place.Place.{Place}
 
+-- the place of an identifier under a name
 abbrev pub place : List ℕ → OpId → Place
 place name id = record { name = name; id = id }
 

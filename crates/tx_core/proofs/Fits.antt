@@ -1,6 +1,6 @@
 -- A transaction has no fault exactly where it is fit.
-use Rattle.std.proofs.Common.{◌≡◌, ◌≢◌, ◌≤◌, ◌+◌, ◌^◌, ℕ, zero, suc, unsigned_abs, Bool, true, false, cond, not, nat_le, nat_lt, ◌==◌, Option, Some, None, List, [], ◌∷◌, length, All, refl, sym, ap, ◌∙◌, arith}
-use Rattle.std.specs.Prelude.{position}
+use Rattle.std.proofs.Common.{◌≡◌, ◌≢◌, ◌≤◌, ◌+◌, ℕ, zero, suc, unsigned_abs, Bool, true, false, cond, not, nat_le, nat_lt, ◌==◌, Option, Some, None, List, [], ◌∷◌, length, All, refl, sym, ap, ◌∙◌, arith}
+use Rattle.std.specs.Prelude.{◌↔◌, ℤ, neg_ℤ, pos, ◌≤ℤ◌, IsTrue, position}
 use Rattle.std.specs.Bool.{Decides}
 use Rattle.std.specs.List.{position_from}
 use Rattle.std.specs.Option.{option_or, option_map}
@@ -11,59 +11,64 @@ use Rattle.std.proofs.Math.Dec.{eqb-suc-zero}
 use Rattle.std.proofs.lemmas.Iterator.Adapters.{position_from-zero}
 use Rattle.std.proofs.lemmas.List.Elements.{All-head, All-tail, All-cons}
 use Rattle.list_core.specs.Choices.{when, first_of}
+use Rattle.list_core.proofs.Choices.{option_map-none}
+use Rattle.ids_core.specs.declared.limits.TheConstants.{MOST_CLIENTS, MOST_UPDATES, MOST_TAGS, MOST_RECORDS, MOST_DELTA, MOST_NUMBER}
 use Rattle.ids_core.specs.Ids.{same_sort}
 use Rattle.ids_core.specs.Same.{same_sort-true, same_sort-itself}
-use Rattle.tx_core.specs.declared.op.Op.{Op}
-use Rattle.tx_core.specs.declared.op.Op.TheVariants.{Inc, Write, Add, Remove, Put, Erase}
 use Rattle.tx_core.specs.declared.tx.Update.{Update}
 use Rattle.tx_core.specs.declared.tx.Tx.{Tx}
 use Rattle.tx_core.specs.declared.check.TxFault.{TxFault}
 use Rattle.tx_core.specs.declared.check.TxFault.TheVariants.{NoUpdates, TooManyUpdates, BadDot, BadRank, WrongWidth, BadSnap, WrongKind, DeltaTooLarge, TooManyTags}
 use Rattle.tx_core.specs.Ops.{sort_of_op, over_of}
-use Rattle.tx_core.specs.Checks.{is_within, is_dot, is_small, snap_fault, update_fault, updates_fault, fault_of, HasSmallDelta, IsFitUpdate, IsFit}
+use Rattle.tx_core.specs.Checks.{is_within, is_dot, is_small, snap_fault, update_fault, updates_fault, fault_of, is_small_delta, IsFitUpdate, IsFit}
 
 -- a choice that is not there
 passed : (test : Bool) (fault : TxFault) (rest : List (Option (Option TxFault))) (last : Option TxFault) → first_of (when test (Some fault) ∷ rest) last ≡ None → (test ≡ false) × (first_of rest last ≡ None)
 passed true fault rest last h = cc
 passed false fault rest last h = (refl, h)
 
+-- and where it is not there, the first is that of the others
 passes : (test : Bool) (fault : TxFault) (rest : List (Option (Option TxFault))) (last : Option TxFault) → test ≡ false → first_of rest last ≡ None → first_of (when test (Some fault) ∷ rest) last ≡ None
 passes true fault rest last t h = cc
 passes false fault rest last t h = h
 
+-- where one of two is none, both are
 both_none : (a b : Option TxFault) → option_or a b ≡ None → (a ≡ None) × (b ≡ None)
 both_none None b h = (refl, h)
 both_none (Some fault) b h = cc
 
+-- and the other way round
 none_of_both : (a b : Option TxFault) → a ≡ None → b ≡ None → option_or a b ≡ None
 none_of_both None b h k = k
 none_of_both (Some fault) b h k = cc
 
+-- what is not denied holds
 true_of : (b : Bool) → not b ≡ false → b ≡ true
 true_of true h = refl
 true_of false h = cc
 
+-- and what holds is not denied
 false_of : (b : Bool) → b ≡ true → not b ≡ false
 false_of true h = refl
 false_of false h = cc
 
+-- the test of a range says that the number is in it
 is_within-Decides : (low high number : ℕ) → Decides (is_within low high number) ((low ≤ number) × (number ≤ high))
 is_within-Decides low high number = (λ h. let parts = and_parts (nat_le low number) (nat_le number high) h in (leb-true low number parts.0, leb-true number high parts.1), λ h. and_from (nat_le low number) (nat_le number high) (le-leb low number h.0) (le-leb number high h.1))
 
-is_small-Decides : (op : Op) → Decides (is_small op) (HasSmallDelta op)
-is_small-Decides (Inc delta) = (λ h. let le = leb-true (unsigned_abs delta) 1000000000000 h in (omega (arith, ints, le), omega (arith, ints, le)), λ h. let low = h.0 in let high = h.1 in le-leb (unsigned_abs delta) 1000000000000 (omega (arith, ints, low, high)))
-is_small-Decides (Write word) = (λ h. tt, λ h. refl)
-is_small-Decides (Add word over) = (λ h. tt, λ h. refl)
-is_small-Decides (Remove word over) = (λ h. tt, λ h. refl)
-is_small-Decides (Put key word over) = (λ h. tt, λ h. refl)
-is_small-Decides (Erase key over) = (λ h. tt, λ h. refl)
+-- a small delta lies between the limit below 0 and the limit
+pub small_delta : (delta : ℤ) → IsTrue (is_small_delta delta) ↔ ((neg_ℤ (pos MOST_DELTA) ≤ℤ delta) × (delta ≤ℤ pos MOST_DELTA))
+small_delta delta = (λ small. let le = leb-true (unsigned_abs delta) MOST_DELTA small in (omega (arith, ints, le), omega (arith, ints, le)), λ within. let low = within.0 in let high = within.1 in le-leb (unsigned_abs delta) MOST_DELTA (omega (arith, ints, low, high)))
 
+-- what is not above is at most as great
 nat_lt-false : (low high : ℕ) → nat_lt low high ≡ false → high ≤ low
 nat_lt-false low high h = grind (arith, leb_tells)
 
+-- and the other way round
 false-nat_lt : (low high : ℕ) → high ≤ low → nat_lt low high ≡ false
 false-nat_lt low high h = grind (arith, leb_tells)
 
+-- what is 1 or more is not 0
 zero_apart : (n : ℕ) → 1 ≤ n → (n == 0) ≡ false
 zero_apart zero h = absurd (omega (arith, h))
 zero_apart (suc n) h = eqb-suc-zero n
@@ -77,85 +82,90 @@ none_passes test place (x ∷ xs) h = All-cons (λ x. test x ≡ false) x xs (fa
     fails true rest h = cc
     fails false rest h = (refl, h)
 
+-- and where no entry passes, no place is found
 none_found : {X : Type 0} (test : X → Bool) (place : ℕ) (xs : List X) → All (λ x. test x ≡ false) xs → position_from test place xs ≡ None
 none_found test place [] h = refl
 none_found test place (x ∷ xs) h = rw (All-head (λ x. test x ≡ false) x xs h) (none_found test (place + 1) xs (All-tail (λ x. test x ≡ false) x xs h))
 
-map_none : {X Y : Type 0} (f : X → Y) (o : Option X) → option_map f o ≡ None → o ≡ None
-map_none f None h = refl
-map_none f (Some x) h = cc
-
-snap_fault-none : (snap : List ℕ) → snap_fault snap ≡ None → All (λ entry. entry ≤ 1000000) snap
+-- a snapshot without a fault has no great entry
+snap_fault-none : (snap : List ℕ) → snap_fault snap ≡ None → All (λ entry. entry ≤ MOST_RECORDS) snap
 snap_fault-none snap h =
-    let none = map_none (λ place. BadSnap (place + 1)) (position (nat_lt 1000000) snap) h in
-    let fails = none_passes (nat_lt 1000000) 0 snap (sym (position_from-zero (nat_lt 1000000) snap) ∙ none) in
-    λ k d below. nat_lt-false 1000000 _ (fails k d below)
+    let none = option_map-none (λ place. BadSnap (place + 1)) (position (nat_lt MOST_RECORDS) snap) h in
+    let fails = none_passes (nat_lt MOST_RECORDS) 0 snap (sym (position_from-zero (nat_lt MOST_RECORDS) snap) ∙ none) in
+    λ k d below. nat_lt-false MOST_RECORDS _ (fails k d below)
 
-none-snap_fault : (snap : List ℕ) → All (λ entry. entry ≤ 1000000) snap → snap_fault snap ≡ None
-none-snap_fault snap h = ap (option_map (λ place. BadSnap (place + 1))) (position_from-zero (nat_lt 1000000) snap ∙ none_found (nat_lt 1000000) 0 snap (λ k d below. false-nat_lt 1000000 _ (h k d below)))
+-- and the other way round
+none-snap_fault : (snap : List ℕ) → All (λ entry. entry ≤ MOST_RECORDS) snap → snap_fault snap ≡ None
+none-snap_fault snap h = ap (option_map (λ place. BadSnap (place + 1))) (position_from-zero (nat_lt MOST_RECORDS) snap ∙ none_found (nat_lt MOST_RECORDS) 0 snap (λ k d below. false-nat_lt MOST_RECORDS _ (h k d below)))
 
+-- an update without a fault is fit
 update_fault-none : (place : ℕ) (update : Update) → update_fault place update ≡ None → IsFitUpdate update
 update_fault-none place update h =
     let kind = passed (not (same_sort (sort_of_op update.op) update.object.sort)) (WrongKind place) _ _ h in
     let delta = passed (not (is_small update.op)) (DeltaTooLarge place) _ _ kind.1 in
-    let tags = passed (nat_lt 4096 (length (over_of update.op))) (TooManyTags place (length (over_of update.op))) _ _ delta.1 in
+    let tags = passed (nat_lt MOST_TAGS (length (over_of update.op))) (TooManyTags place (length (over_of update.op))) _ _ delta.1 in
     record {
       kind = same_sort-true (sort_of_op update.op) update.object.sort (true_of (same_sort (sort_of_op update.op) update.object.sort) kind.0);
-      delta = (is_small-Decides update.op).0 (true_of (is_small update.op) delta.0);
-      tags = nat_lt-false 4096 (length (over_of update.op)) tags.0;
+      delta = true_of (is_small update.op) delta.0;
+      tags = nat_lt-false MOST_TAGS (length (over_of update.op)) tags.0;
     }
 
+-- and the other way round
 none-update_fault : (place : ℕ) (update : Update) → IsFitUpdate update → update_fault place update ≡ None
 none-update_fault place update fit =
     let kind : same_sort (sort_of_op update.op) update.object.sort ≡ true = ap (same_sort (sort_of_op update.op)) (sym fit.kind) ∙ same_sort-itself (sort_of_op update.op) in
     passes (not (same_sort (sort_of_op update.op) update.object.sort)) (WrongKind place) _ _ (false_of (same_sort (sort_of_op update.op) update.object.sort) kind)
-    (passes (not (is_small update.op)) (DeltaTooLarge place) _ _ (false_of (is_small update.op) ((is_small-Decides update.op).1 fit.delta))
-    (passes (nat_lt 4096 (length (over_of update.op))) (TooManyTags place (length (over_of update.op))) _ _ (false-nat_lt 4096 (length (over_of update.op)) fit.tags)
+    (passes (not (is_small update.op)) (DeltaTooLarge place) _ _ (false_of (is_small update.op) fit.delta)
+    (passes (nat_lt MOST_TAGS (length (over_of update.op))) (TooManyTags place (length (over_of update.op))) _ _ (false-nat_lt MOST_TAGS (length (over_of update.op)) fit.tags)
     refl))
 
+-- updates without a fault are fit
 updates_fault-none : (place : ℕ) (updates : List Update) → updates_fault place updates ≡ None → All IsFitUpdate updates
 updates_fault-none place [] h = λ k d below. absurd (omega (arith, below))
 updates_fault-none place (update ∷ updates) h =
     let both = both_none (update_fault place update) (updates_fault (place + 1) updates) h in
     All-cons IsFitUpdate update updates (update_fault-none place update both.0) (updates_fault-none (place + 1) updates both.1)
 
+-- and the other way round
 none-updates_fault : (place : ℕ) (updates : List Update) → All IsFitUpdate updates → updates_fault place updates ≡ None
 none-updates_fault place [] h = refl
 none-updates_fault place (update ∷ updates) h =
     none_of_both (update_fault place update) (updates_fault (place + 1) updates) (none-update_fault place update (All-head IsFitUpdate update updates h)) (none-updates_fault (place + 1) updates (All-tail IsFitUpdate update updates h))
 
+-- a transaction without a fault is fit
 pub fault_of-none : (n : ℕ) (tx : Tx) → fault_of n tx ≡ None → IsFit n tx
 fault_of-none n tx h =
     let some = passed (length tx.updates == 0) NoUpdates _ _ h in
-    let few = passed (nat_lt 256 (length tx.updates)) (TooManyUpdates (length tx.updates)) _ _ some.1 in
+    let few = passed (nat_lt MOST_UPDATES (length tx.updates)) (TooManyUpdates (length tx.updates)) _ _ some.1 in
     let dot = passed (not (is_dot tx.dot)) BadDot _ _ few.1 in
-    let rank = passed (not (is_within 1 (2 ^ 62) tx.rank)) BadRank _ _ dot.1 in
+    let rank = passed (not (is_within 1 MOST_NUMBER tx.rank)) BadRank _ _ dot.1 in
     let width = passed (not (length tx.snap == n)) (WrongWidth (length tx.snap)) _ _ rank.1 in
     let rest = both_none (snap_fault tx.snap) (updates_fault 0 tx.updates) width.1 in
-    let parts = and_parts (is_within 1 1024 tx.dot.client) (is_within 1 (2 ^ 62) tx.dot.number) (true_of (is_dot tx.dot) dot.0) in
+    let parts = and_parts (is_within 1 MOST_CLIENTS tx.dot.client) (is_within 1 MOST_NUMBER tx.dot.number) (true_of (is_dot tx.dot) dot.0) in
     let none : length tx.updates ≢ 0 = λ e. false≢true (sym some.0 ∙ (Decides-eqb (length tx.updates) 0).1 e) in
     record {
       some = omega (arith, none);
-      few = nat_lt-false 256 (length tx.updates) few.0;
-      client = (is_within-Decides 1 1024 tx.dot.client).0 parts.0;
-      number = (is_within-Decides 1 (2 ^ 62) tx.dot.number).0 parts.1;
-      rank = (is_within-Decides 1 (2 ^ 62) tx.rank).0 (true_of (is_within 1 (2 ^ 62) tx.rank) rank.0);
+      few = nat_lt-false MOST_UPDATES (length tx.updates) few.0;
+      client = (is_within-Decides 1 MOST_CLIENTS tx.dot.client).0 parts.0;
+      number = (is_within-Decides 1 MOST_NUMBER tx.dot.number).0 parts.1;
+      rank = (is_within-Decides 1 MOST_NUMBER tx.rank).0 (true_of (is_within 1 MOST_NUMBER tx.rank) rank.0);
       width = (Decides-eqb (length tx.snap) n).0 (true_of (length tx.snap == n) width.0);
       snap = snap_fault-none tx.snap rest.0;
       updates = updates_fault-none 0 tx.updates rest.1;
     }
 
+-- and a fit one has no fault
 pub none-fault_of : (n : ℕ) (tx : Tx) → IsFit n tx → fault_of n tx ≡ None
 none-fault_of n tx fit =
     let some = zero_apart (length tx.updates) fit.some in
-    let client = (is_within-Decides 1 1024 tx.dot.client).1 fit.client in
-    let number = (is_within-Decides 1 (2 ^ 62) tx.dot.number).1 fit.number in
-    let dot = and_from (is_within 1 1024 tx.dot.client) (is_within 1 (2 ^ 62) tx.dot.number) client number in
-    let rank = (is_within-Decides 1 (2 ^ 62) tx.rank).1 fit.rank in
+    let client = (is_within-Decides 1 MOST_CLIENTS tx.dot.client).1 fit.client in
+    let number = (is_within-Decides 1 MOST_NUMBER tx.dot.number).1 fit.number in
+    let dot = and_from (is_within 1 MOST_CLIENTS tx.dot.client) (is_within 1 MOST_NUMBER tx.dot.number) client number in
+    let rank = (is_within-Decides 1 MOST_NUMBER tx.rank).1 fit.rank in
     let width = (Decides-eqb (length tx.snap) n).1 fit.width in
     passes (length tx.updates == 0) NoUpdates _ _ some
-    (passes (nat_lt 256 (length tx.updates)) (TooManyUpdates (length tx.updates)) _ _ (false-nat_lt 256 (length tx.updates) fit.few)
+    (passes (nat_lt MOST_UPDATES (length tx.updates)) (TooManyUpdates (length tx.updates)) _ _ (false-nat_lt MOST_UPDATES (length tx.updates) fit.few)
     (passes (not (is_dot tx.dot)) BadDot _ _ (false_of (is_dot tx.dot) dot)
-    (passes (not (is_within 1 (2 ^ 62) tx.rank)) BadRank _ _ (false_of (is_within 1 (2 ^ 62) tx.rank) rank)
+    (passes (not (is_within 1 MOST_NUMBER tx.rank)) BadRank _ _ (false_of (is_within 1 MOST_NUMBER tx.rank) rank)
     (passes (not (length tx.snap == n)) (WrongWidth (length tx.snap)) _ _ (false_of (length tx.snap == n) width)
     (none_of_both (snap_fault tx.snap) (updates_fault 0 tx.updates) (none-snap_fault tx.snap fit.snap) (none-updates_fault 0 tx.updates fit.updates))))))

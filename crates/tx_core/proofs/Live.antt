@@ -54,12 +54,12 @@ pub record Tells {P : Type 0} (op : Op) (change : Change P) : Type 0 where
 
 -- a kind with tallies takes each operation on its objects as it is
 pub record Takes {O P : Type 0} (sort : Sort) (of : Op → Option O) (does : (Mark × O) → Change P) : Type 0 where
-  pub by : (mark : Mark) (op : Op) → sort_of_op op ≡ sort → (o : O) × (of op ≡ Some o) × Tells op (does (mark, o))
+  pub holds : (mark : Mark) (op : Op) → sort_of_op op ≡ sort → (o : O) × (of op ≡ Some o) × Tells op (does (mark, o))
 
 module _ {O P : Type 0} (sort : Sort) (of : Op → Option O) (does : (Mark × O) → Change P) (takes : Takes sort of does) (ops : List (Mark × Op)) (are : AreOf sort ops) where
   tells : (mark : Mark) (op : Op) (o : O) → In (mark, op) ops → of op ≡ Some o → Tells op (does (mark, o))
   tells mark op o i is =
-      let t = takes.by mark op (are.each (mark, op) i) in
+      let t = takes.holds mark op (are.each (mark, op) i) in
       subst (λ o. Tells op (does (mark, o))) (same_Some t.0 o (sym t.1 ∙ is)) t.2
 
   -- the parts of an add
@@ -88,7 +88,7 @@ module _ {O P : Type 0} (sort : Sort) (of : Op → Option O) (does : (Mark × O)
     where
       none : (other : Mark × Op) → In other ops → name_of other.1 ≡ Some name → In id (over_of other.1) → ⊥
       none other i same held =
-          let t = takes.by other.0 other.1 (are.each other i) in
+          let t = takes.holds other.0 other.1 (are.each other i) in
           let d = does (other.0, t.0) in
           let under : name ≡ d.name = same_Some name d.name (sym same ∙ t.2.name) in
           let times_none : times id d.over ≡ 0 = subst (λ b. cond b (times id d.over) 0 ≡ 0) (one_name name d.name under) (l.free (other.0, t.0) (marked_in of ops other t.0 i t.1)) in
@@ -102,7 +102,7 @@ module _ {O P : Type 0} (sort : Sort) (of : Op → Option O) (does : (Mark × O)
 
   pub live_to : (name : List ℕ) (op : Mark × Op) → IsLive ops name op → LiveTo name op
   live_to name op l =
-      let t = takes.by op.0 op.1 (are.each op l.there) in
+      let t = takes.holds op.0 op.1 (are.each op l.there) in
       let d = does (op.0, t.0) in
       let under : name ≡ d.name = same_Some name d.name (sym l.under ∙ t.2.name) in
       record {

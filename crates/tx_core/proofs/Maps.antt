@@ -13,6 +13,7 @@ use Rattle.obj_map.specs.declared.map.MapOp.{MapOp}
 use Rattle.obj_map.specs.Maps as map
 use Rattle.obj_map.specs.Laws.{step_defined}
 use Rattle.obj_map.proofs.Values.{pairs_ascend, value_exact}
+use Rattle.tally_core.specs.Live.{live_ids}
 use Rattle.tally_core.specs.Changes.{LiveByOps}
 use Rattle.tally_core.proofs.Alive.{live_by_ops}
 use Rattle.tx_core.specs.declared.op.Op.{Op}
@@ -23,7 +24,7 @@ use Rattle.tx_core.proofs.Folds.{distinct_marked}
 use Rattle.tx_core.proofs.Live.{Takes, Tells, live_from, live_to, live_by_kind, both}
 
 map_takes : Takes sort.Map map_op map.does
-map_takes = record { by = by }
+map_takes = record { holds = by }
   where
     by : (mark : Mark) (op : Op) → sort_of_op op ≡ sort.Map → (o : MapOp) × (map_op op ≡ Some o) × Tells op (map.does (mark, o))
     by mark (Put key word over) is = (_, refl, record { name = refl; adds = refl; over = refl })
@@ -53,7 +54,7 @@ module _ (ops : List (Mark × Op)) (distinct : Distinct ops) (are : AreOf sort.M
       let apart = distinct_marked map_op ops distinct in
       live_by_ops map.does (marked map_op ops) map_after apart (step_defined (marked map_op ops) apart)
 
-  pub map_tags : (key : List ℕ) (id : OpId) → In id (map.tags map_after key) ↔ IsLiveId ops key id
+  pub map_tags : (key : List ℕ) (id : OpId) → In id (live_ids map_after key) ↔ IsLiveId ops key id
   map_tags key id = both (map_live.ids key id) (live_by_kind sort.Map map_op map.does map_takes ops are key id)
 
   word_from : (key word : List ℕ) → map.IsGreatestPut (marked map_op ops) key word → IsWordAt ops key word

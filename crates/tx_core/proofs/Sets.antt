@@ -8,6 +8,7 @@ use Rattle.ids_core.specs.Kinds.{Distinct}
 use Rattle.obj_set.specs.declared.set.SetOp.{SetOp}
 use Rattle.obj_set.specs.Sets as set
 use Rattle.obj_set.specs.Laws.{step_defined}
+use Rattle.tally_core.specs.Live.{live_ids, live_names}
 use Rattle.tally_core.specs.Changes.{LiveByOps}
 use Rattle.tally_core.proofs.Alive.{live_by_ops}
 use Rattle.tally_core.proofs.Listed.{names_ascend}
@@ -19,7 +20,7 @@ use Rattle.tx_core.proofs.Folds.{distinct_marked}
 use Rattle.tx_core.proofs.Live.{Takes, Tells, live_by_kind, both}
 
 set_takes : Takes sort.Set set_op set.does
-set_takes = record { by = by }
+set_takes = record { holds = by }
   where
     by : (mark : Mark) (op : Op) → sort_of_op op ≡ sort.Set → (o : SetOp) × (set_op op ≡ Some o) × Tells op (set.does (mark, o))
     by mark (Add word over) is = (_, refl, record { name = refl; adds = refl; over = refl })
@@ -38,10 +39,10 @@ module _ (ops : List (Mark × Op)) (distinct : Distinct ops) (are : AreOf sort.S
       let apart = distinct_marked set_op ops distinct in
       live_by_ops set.does (marked set_op ops) set_after apart (step_defined (marked set_op ops) apart)
 
-  pub set_tags : (word : List ℕ) (id : OpId) → In id (set.tags set_after word) ↔ IsLiveId ops word id
+  pub set_tags : (word : List ℕ) (id : OpId) → In id (live_ids set_after word) ↔ IsLiveId ops word id
   set_tags word id = both (set_live.ids word id) (live_by_kind sort.Set set_op set.does set_takes ops are word id)
 
-  pub set_words : AreWords ops (set.words set_after)
+  pub set_words : AreWords ops (live_names set_after)
   set_words = record {
     ascending = names_ascend set_after;
     exact = λ word.

@@ -1,8 +1,9 @@
 -- Which transactions are fit, and what is wrong with the others.
-use Rattle.std.specs.Prelude.{◌≡◌, ◌≤◌, ◌==◌, ◌&&◌, ◌+◌, ◌^◌, ℕ, neg_ℤ, pos, ◌≤ℤ◌, Bool, true, not, nat_le, nat_lt, unsigned_abs, Option, Some, None, List, [], ◌∷◌, length, position, All}
+use Rattle.std.specs.Prelude.{◌≡◌, ◌≤◌, ◌==◌, ◌&&◌, ◌+◌, ℕ, ℤ, Bool, true, not, nat_le, nat_lt, unsigned_abs, Option, Some, None, List, [], ◌∷◌, length, position, All, IsTrue}
 use Rattle.std.specs.Option.{option_or, option_map}
 use Rattle.list_core.specs.Choices.{when, first_of}
 use Rattle.ids_core.specs.declared.ids.Dot.{Dot}
+use Rattle.ids_core.specs.declared.limits.TheConstants.{MOST_CLIENTS, MOST_UPDATES, MOST_TAGS, MOST_RECORDS, MOST_DELTA, MOST_NUMBER}
 use Rattle.ids_core.specs.Ids.{same_sort}
 use Rattle.tx_core.specs.declared.op.Op.{Op}
 use Rattle.tx_core.specs.declared.op.Op.TheVariants.{Inc}
@@ -16,18 +17,22 @@ use Rattle.tx_core.specs.Ops.{sort_of_op, over_of}
 abbrev pub is_within : ℕ → ℕ → ℕ → Bool
 is_within low high number = nat_le low number && nat_le number high
 
--- a client of 1 to 1,024, and a number of 1 to 2^62
+-- a client of 1 to MOST_CLIENTS, and a number of 1 to MOST_NUMBER
 abbrev pub is_dot : Dot → Bool
-is_dot dot = is_within 1 1024 dot.client && is_within 1 (2 ^ 62) dot.number
+is_dot dot = is_within 1 MOST_CLIENTS dot.client && is_within 1 MOST_NUMBER dot.number
 
--- a delta of at most 10^12, up or down, if there is one
+-- the delta lies in ±MOST_DELTA
+abbrev pub is_small_delta : ℤ → Bool
+is_small_delta delta = nat_le (unsigned_abs delta) MOST_DELTA
+
+-- the delta of the operation, if it has one, is small
 abbrev pub is_small : Op → Bool
-is_small (Inc delta) = nat_le (unsigned_abs delta) 1000000000000
+is_small (Inc delta) = is_small_delta delta
 is_small _ = true
 
--- the least centre with an entry above 1,000,000 is at fault
+-- the least centre with an entry above MOST_RECORDS is at fault
 abbrev pub snap_fault : List ℕ → Option TxFault
-snap_fault snap = option_map (λ place. BadSnap (place + 1)) (position (nat_lt 1000000) snap)
+snap_fault snap = option_map (λ place. BadSnap (place + 1)) (position (nat_lt MOST_RECORDS) snap)
 
 -- what is wrong with the update at a place
 abbrev pub update_fault : ℕ → Update → Option TxFault
@@ -35,7 +40,7 @@ update_fault place update =
     first_of (
     when (not (same_sort (sort_of_op update.op) update.object.sort)) (Some (WrongKind place))
     ∷ when (not (is_small update.op)) (Some (DeltaTooLarge place))
-    ∷ when (nat_lt 4096 (length (over_of update.op))) (Some (TooManyTags place (length (over_of update.op))))
+    ∷ when (nat_lt MOST_TAGS (length (over_of update.op))) (Some (TooManyTags place (length (over_of update.op))))
     ∷ [])
     None
 
@@ -49,31 +54,26 @@ abbrev pub fault_of : ℕ → Tx → Option TxFault
 fault_of n tx =
     first_of (
     when (length tx.updates == 0) (Some NoUpdates)
-    ∷ when (nat_lt 256 (length tx.updates)) (Some (TooManyUpdates (length tx.updates)))
+    ∷ when (nat_lt MOST_UPDATES (length tx.updates)) (Some (TooManyUpdates (length tx.updates)))
     ∷ when (not (is_dot tx.dot)) (Some BadDot)
-    ∷ when (not (is_within 1 (2 ^ 62) tx.rank)) (Some BadRank)
+    ∷ when (not (is_within 1 MOST_NUMBER tx.rank)) (Some BadRank)
     ∷ when (not (length tx.snap == n)) (Some (WrongWidth (length tx.snap)))
     ∷ [])
     (option_or (snap_fault tx.snap) (updates_fault 0 tx.updates))
 
--- the delta, if there is one, lies in ±10^12
-abbrev pub HasSmallDelta : Op → Type 0
-HasSmallDelta (Inc delta) = (neg_ℤ (pos 1000000000000) ≤ℤ delta) × (delta ≤ℤ pos 1000000000000)
-HasSmallDelta _ = Unit {0}
-
--- the operation is of its object's kind, its delta is small, and it is over at most 4,096 identifiers
+-- the operation is of its object's kind, its delta is small, and it is over at most MOST_TAGS identifiers
 pub record IsFitUpdate (update : Update) : Type 0 where
   pub kind : sort_of_op update.op ≡ update.object.sort
-  pub delta : HasSmallDelta update.op
-  pub tags : length (over_of update.op) ≤ 4096
+  pub delta : IsTrue (is_small update.op)
+  pub tags : length (over_of update.op) ≤ MOST_TAGS
 
 -- a transaction that is fit for n centres
 pub record IsFit (n : ℕ) (tx : Tx) : Type 0 where
   pub some : 1 ≤ length tx.updates
-  pub few : length tx.updates ≤ 256
-  pub client : (1 ≤ tx.dot.client) × (tx.dot.client ≤ 1024)
-  pub number : (1 ≤ tx.dot.number) × (tx.dot.number ≤ 2 ^ 62)
-  pub rank : (1 ≤ tx.rank) × (tx.rank ≤ 2 ^ 62)
+  pub few : length tx.updates ≤ MOST_UPDATES
+  pub client : (1 ≤ tx.dot.client) × (tx.dot.client ≤ MOST_CLIENTS)
+  pub number : (1 ≤ tx.dot.number) × (tx.dot.number ≤ MOST_NUMBER)
+  pub rank : (1 ≤ tx.rank) × (tx.rank ≤ MOST_NUMBER)
   pub width : length tx.snap ≡ n
-  pub snap : All (λ entry. entry ≤ 1000000) tx.snap
+  pub snap : All (λ entry. entry ≤ MOST_RECORDS) tx.snap
   pub updates : All IsFitUpdate tx.updates

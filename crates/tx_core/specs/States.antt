@@ -1,10 +1,12 @@
 -- The states of objects, by kind.
+use Rattle.std.specs.Coded.{codes}
 use Rattle.std.specs.Prelude.{Bool, ℕ, List, [], Option, Some, None, pos, fold}
 use Rattle.ids_core.specs.declared.ids.OpId.{OpId}
 use Rattle.ids_core.specs.declared.ids.Mark.{Mark}
 use Rattle.ids_core.specs.declared.object.Sort.{Sort}
 use Rattle.ids_core.specs.declared.object.Sort.TheVariants as sort
 use Rattle.ids_core.specs.Ids.{same_sort}
+use Rattle.tally_core.specs.Live.{live_ids, live_names}
 use Rattle.obj_counter.specs.Counter as counter
 use Rattle.obj_register.specs.Registers as register
 use Rattle.obj_set.specs.Sets as set
@@ -54,12 +56,15 @@ fold_of = fold step
 abbrev pub value_of : State → Value
 value_of (Counter s) = Number s
 value_of (Register s) = Word (register.word_of s)
-value_of (Set s) = Words (set.words s)
+value_of (Set s) = Words (live_names s)
 value_of (Map s) = Pairs (map.pairs s)
 
 -- the live identifiers of a word or key, and none at counters and registers
 abbrev pub tags_of : State → List ℕ → List OpId
 tags_of (Counter s) word = []
 tags_of (Register s) word = []
-tags_of (Set s) word = set.tags s word
-tags_of (Map s) word = map.tags s word
+tags_of (Set s) word = live_ids s word
+tags_of (Map s) word = live_ids s word
+
+-- how states are stored: what the type of a value that holds states, or what is made of them, names as its code
+pub ruleset state_codes = (codes, set.set_code, map.map_code)

@@ -1,32 +1,42 @@
 // Which transactions are taken.
 ghost use Rattle.std.specs.Prelude.{◌≡◌, ◌≤◌, ◌<◌, ◌↔◌, Some, None, OnOk, IfErr, IfSome, IsOk, length, nat_lt, position};
-ghost use Rattle.tx_core.specs.Checks.{fault_of, is_dot, is_small, is_within, snap_fault, updates_fault, update_fault, IsFit};
+ghost use Rattle.tx_core.specs.Checks.{fault_of, is_dot, is_small, is_small_delta, is_within, snap_fault, updates_fault, update_fault, IsFit};
 
 use crate::op::Op;
 use crate::tx::{Tx, Update};
-use ids_core::Dot;
+use ids_core::{Dot, MOST_CLIENTS, MOST_DELTA, MOST_NUMBER, MOST_RECORDS, MOST_TAGS, MOST_UPDATES};
+use thiserror::Error;
 use vv_core::Vector;
 
 /// What is wrong with a transaction.
-#[derive(Clone, Copy, Debug)]
+#[derive(Clone, Copy, Debug, Error)]
 pub enum TxFault {
     /// There is no update.
+    #[error("there is no update")]
     NoUpdates,
-    /// There are more than 256 updates.
+    /// There are more than `MOST_UPDATES` updates.
+    #[error("{count} updates are too many")]
     TooManyUpdates { count: u64 },
-    /// The client is outside 1 to 1,024, or the number is outside 1 to 2^62.
+    /// The client is outside 1 to `MOST_CLIENTS`, or the number is outside 1 to `MOST_NUMBER`.
+    #[error("the client or the number is out of range")]
     BadDot,
-    /// The rank is outside 1 to 2^62.
+    /// The rank is outside 1 to `MOST_NUMBER`.
+    #[error("the rank is out of range")]
     BadRank,
     /// The snapshot has not the width asked for.
+    #[error("the snapshot has {width} entries")]
     WrongWidth { width: u8 },
-    /// An entry of the snapshot is above 1,000,000; the least such centre.
+    /// An entry of the snapshot is above `MOST_RECORDS`; the least such centre.
+    #[error("the entry of centre {centre} in the snapshot is too great")]
     BadSnap { centre: u8 },
     /// The operation of the update at that place is not of its object's kind.
+    #[error("update {place} is not of its object's kind")]
     WrongKind { place: u16 },
-    /// The delta of the update at that place is outside ±10^12.
+    /// The delta of the update at that place is outside ±`MOST_DELTA`.
+    #[error("the delta of update {place} is too large")]
     DeltaTooLarge { place: u16 },
-    /// The operation of the update at that place is over more than 4,096 identifiers.
+    /// The operation of the update at that place is over more than `MOST_TAGS` identifiers.
+    #[error("update {place} is over {count} identifiers, which are too many")]
     TooManyTags { place: u16, count: u64 },
 }
 
@@ -49,15 +59,15 @@ fn first_fault(tx: &Tx, n: u8) -> Option<TxFault>
     ensures { result ≡ fault_of n tx.now }
 {
     let updates = tx.updates.as_slice();
+    let count = updates.len() as u64;
     let width = tx.snap.width();
     if updates.is_empty() {
         Some(TxFault::NoUpdates)
-    } else if updates.len() > 256 {
-        let count = updates.len() as u64;
+    } else if count > MOST_UPDATES {
         Some(TxFault::TooManyUpdates { count })
     } else if !is_dot(&tx.dot) {
         Some(TxFault::BadDot)
-    } else if !is_within(1, 1 << 62, tx.rank) {
+    } else if !is_within(1, MOST_NUMBER, tx.rank) {
         Some(TxFault::BadRank)
     } else if width != n {
         Some(TxFault::WrongWidth { width })
@@ -72,7 +82,8 @@ fn first_fault(tx: &Tx, n: u8) -> Option<TxFault>
 fn is_dot(dot: &Dot) -> bool
     ensures { result ≡ is_dot dot.now }
 {
-    is_within(1, 1024, u64::from(dot.client)) && is_within(1, 1 << 62, dot.number)
+    is_within(1, u64::from(MOST_CLIENTS), u64::from(dot.client))
+        && is_within(1, MOST_NUMBER, dot.number)
 }
 
 fn is_within(low: u64, high: u64, number: u64) -> bool
@@ -93,16 +104,16 @@ fn snap_fault(snap: &Vector) -> Option<TxFault>
     }
 }
 
-// The first place with an entry above 1,000,000.
+// The first place with an entry above `MOST_RECORDS`.
 fn high_place(entries: &[u64]) -> Option<usize>
-    ensures place { result ≡ position (nat_lt 1000000) entries.now }
+    ensures place { result ≡ position (nat_lt MOST_RECORDS) entries.now }
     ensures inside { IfSome result (λ place. place < length entries.now) }
 {
-    entries.iter().position(|entry| 1_000_000 < *entry)
+    entries.iter().position(|entry| MOST_RECORDS < *entry)
 }
 
 fn updates_fault(updates: &[Update]) -> Option<TxFault>
-    requires { length updates.now ≤ 256 }
+    requires { length updates.now ≤ MOST_UPDATES }
     ensures { result ≡ updates_fault 0 updates.now }
 {
     for (place, update) in updates.iter().enumerate() {
@@ -121,7 +132,7 @@ fn update_fault(place: u16, update: &Update) -> Option<TxFault>
         Some(TxFault::WrongKind { place })
     } else if !is_small(&update.op) {
         Some(TxFault::DeltaTooLarge { place })
-    } else if count > 4_096 {
+    } else if count > MOST_TAGS {
         Some(TxFault::TooManyTags { place, count })
     } else {
         None
@@ -132,7 +143,14 @@ fn is_small(op: &Op) -> bool
     ensures { result ≡ is_small op.now }
 {
     match op {
-        Op::Inc { delta } => delta.unsigned_abs() <= 1_000_000_000_000,
+        Op::Inc { delta } => is_small_delta(*delta),
         _ => true,
     }
+}
+
+/// Whether a delta lies in ±`MOST_DELTA`.
+pub fn is_small_delta(delta: i64) -> bool
+    ensures { result ≡ is_small_delta delta }
+{
+    delta.unsigned_abs() <= MOST_DELTA
 }

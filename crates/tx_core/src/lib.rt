@@ -8,7 +8,7 @@ mod op;
 mod state;
 mod tx;
 
-pub use check::TxFault;
+pub use check::{TxFault, is_small_delta};
 pub use laws::{law_state_order, law_state_tags, law_state_value};
 pub use names::{NamePairs, Names};
 pub use op::Op;

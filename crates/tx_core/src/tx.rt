@@ -1,10 +1,9 @@
 // Transactions and their records.
-ghost use Rattle.std.specs.Prelude.{◌≡◌, ◌==◌, [], length, IfOk, ◌∷◌, ◌++◌, OnOk, OnErr};
+ghost use Rattle.std.specs.Prelude.{◌≡◌, IfOk};
 
 use crate::op::Op;
 use ids_core::{Dot, NoMemory, ObjectId};
-use std::alloc::Global;
-use std::marker::Model;
+use list_core::List;
 use vv_core::{Stamp, Vector};
 
 /// An operation on one object.
@@ -15,10 +14,7 @@ pub struct Update {
 }
 
 /// The updates of a transaction in their order, seen as their list.
-#[derive(Clone, Drop)]
-pub struct Updates {
-    items: Vec<Update>,
-}
+pub type Updates = List<Update>;
 
 /// A transaction as its client commits it (Zawirski and others, Middleware 2015).
 #[derive(Clone, Drop)]
@@ -40,86 +36,6 @@ pub struct Record {
     /// What has to be at another centre before it.
     pub deps: Vector,
     pub tx: Tx,
-}
-
-impl Model for Updates {
-    ghost use Rattle.std.specs.Prelude.{List};
-    ghost use Rattle.tx_core.specs.declared.tx.Update.{Update};
-
-    ghost Value = { List Update };
-
-    ghost view = { λ u. u.items.items };
-}
-
-impl Update {
-    /// The same update again.
-    pub fn copy(&self) -> Result<Update, NoMemory>
-        ensures { IfOk result (λ copy. copy ≡ self.now) }
-    {
-        Ok(self.clone()?)
-    }
-}
-
-impl Updates {
-    /// No updates.
-    pub fn new(alloc: Global) -> Self
-        ensures { result ≡ [] }
-    {
-        Updates {
-            items: Vec::new(alloc),
-        }
-    }
-
-    /// Puts an update at the end. An `Err` leaves the updates as they were.
-    pub fn push(&mut self, update: Update) -> Result<(), NoMemory>
-        ensures ok { OnOk result (self.new ≡ self.old ++ update ∷ []) }
-        ensures err { OnErr result (self.new ≡ self.old) }
-    {
-        self.items.push(update)?;
-        Ok(())
-    }
-
-    /// The updates of a vector.
-    pub fn from_vec(items: Vec<Update>) -> Self
-        ensures { result ≡ items.items }
-    {
-        Updates { items }
-    }
-
-    /// The updates as a vector.
-    pub fn into_vec(self) -> Vec<Update>
-        ensures { result.items ≡ self }
-    {
-        self.items
-    }
-
-    /// The updates in their order.
-    pub fn as_slice(&self) -> &[Update]
-        ensures { result.now ≡ self.now }
-    {
-        self.items.as_slice()
-    }
-
-    /// How many there are.
-    pub fn len(&self) -> usize
-        ensures { result ≡ length self.now }
-    {
-        self.items.len()
-    }
-
-    /// Whether there is none.
-    pub fn is_empty(&self) -> bool
-        ensures { result ≡ (length self.now == 0) }
-    {
-        self.items.is_empty()
-    }
-
-    /// The same updates again.
-    pub fn copy(&self) -> Result<Updates, NoMemory>
-        ensures { IfOk result (λ copy. copy ≡ self.now) }
-    {
-        Ok(self.clone()?)
-    }
 }
 
 impl Tx {

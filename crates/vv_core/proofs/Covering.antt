@@ -9,36 +9,45 @@ use Rattle.vv_core.proofs.Entrywise.{at-join_of, at-meet_of, at_past, at-tabulat
 
 -- ---- the order
 
+-- a vector covers itself
 pub Covers_refl : (v : List ℕ) → Covers v v
-Covers_refl v = record { by = λ e. omega arith }
+Covers_refl v = record { holds = λ e. omega arith }
 
+-- what covers a vector covers all that this covers
 pub Covers_trans : (u v w : List ℕ) → Covers u v → Covers v w → Covers u w
-Covers_trans u v w more less = record { by = λ e. omega (arith, more.by e, less.by e) }
+Covers_trans u v w more less = record { holds = λ e. omega (arith, more.holds e, less.holds e) }
 
+-- two vectors of one width that cover one another are one
 pub Covers_antisym : (v w : List ℕ) → length v ≡ length w → Covers v w → Covers w v → v ≡ w
-Covers_antisym v w len more less = same_vectors v w len (λ e one few. omega (arith, more.by e, less.by e))
+Covers_antisym v w len more less = same_vectors v w len (λ e one few. omega (arith, more.holds e, less.holds e))
 
+-- a join covers its left side
 pub Covers-join_left : (v w : List ℕ) → Covers (join_of v w) v
-Covers-join_left v w = record { by = λ e. omega (arith, at-join_of v w e) }
+Covers-join_left v w = record { holds = λ e. omega (arith, at-join_of v w e) }
 
+-- and its right side
 pub Covers-join_right : (v w : List ℕ) → Covers (join_of v w) w
-Covers-join_right v w = record { by = λ e. omega (arith, at-join_of v w e) }
+Covers-join_right v w = record { holds = λ e. omega (arith, at-join_of v w e) }
 
+-- what covers both sides covers the join
 pub Covers_join : (u v w : List ℕ) → Covers u v → Covers u w → Covers u (join_of v w)
-Covers_join u v w left right = record { by = λ e. omega (arith, at-join_of v w e, left.by e, right.by e) }
+Covers_join u v w left right = record { holds = λ e. omega (arith, at-join_of v w e, left.holds e, right.holds e) }
 
+-- the left side covers the meet
 pub Covers-meet_left : (v w : List ℕ) → Covers v (meet_of v w)
-Covers-meet_left v w = record { by = λ e. omega (arith, at-meet_of v w e) }
+Covers-meet_left v w = record { holds = λ e. omega (arith, at-meet_of v w e) }
 
+-- and so does the right side
 pub Covers-meet_right : (v w : List ℕ) → Covers w (meet_of v w)
-Covers-meet_right v w = record { by = λ e. omega (arith, at-meet_of v w e) }
+Covers-meet_right v w = record { holds = λ e. omega (arith, at-meet_of v w e) }
 
+-- a meet covers what both sides cover
 pub Covers_meet : (u v w : List ℕ) → Covers u w → Covers v w → Covers (meet_of u v) w
-Covers_meet u v w left right = record { by = λ e. omega (arith, at-meet_of u v e, left.by e, right.by e) }
+Covers_meet u v w left right = record { holds = λ e. omega (arith, at-meet_of u v e, left.holds e, right.holds e) }
 
 -- a vector of what stands at each centre covers one of n entries that are no greater
 pub Covers-tabulate : (n : ℕ) (f : ℕ → ℕ) (v : List ℕ) → length v ≡ n → ((e : ℕ) → at v e ≤ f e) → Covers (tabulate n f) v
-Covers-tabulate n f v wide le = record { by = each }
+Covers-tabulate n f v wide le = record { holds = each }
   where
     each : (e : ℕ) → at v e ≤ at (tabulate n f) e
     each zero = omega arith
@@ -50,6 +59,7 @@ Covers-tabulate n f v wide le = record { by = each }
 
 -- ---- the test says it
 
+-- where the test says so, each entry is covered, by its place from 0
 pub covers_places : (v w : List ℕ) → covers v w ≡ true → (i : ℕ) → get_or w i 0 ≤ get_or v i 0
 covers_places v [] is i = omega arith
 covers_places [] (y ∷ w) is zero = leb-true y 0 (and_parts (leb y 0) (covers [] w) is).0
@@ -57,20 +67,23 @@ covers_places [] (y ∷ w) is (suc i) = covers_places [] w (and_parts (leb y 0) 
 covers_places (x ∷ v) (y ∷ w) is zero = leb-true y x (and_parts (leb y x) (covers v w) is).0
 covers_places (x ∷ v) (y ∷ w) is (suc i) = covers_places v w (and_parts (leb y x) (covers v w) is).1 i
 
+-- where each entry is covered, the test says so
 pub covers_from_places : (v w : List ℕ) → ((i : ℕ) → get_or w i 0 ≤ get_or v i 0) → covers v w ≡ true
 covers_from_places v [] le = refl
 covers_from_places [] (y ∷ w) le = and_from (leb y 0) (covers [] w) (le-leb y 0 (le 0)) (covers_from_places [] w (λ i. le (suc i)))
 covers_from_places (x ∷ v) (y ∷ w) le = and_from (leb y x) (covers v w) (le-leb y x (le 0)) (covers_from_places v w (λ i. le (suc i)))
 
+-- the test says that the vector covers
 pub covers-true : (v w : List ℕ) → covers v w ≡ true → Covers v w
-covers-true v w is = record { by = each }
+covers-true v w is = record { holds = each }
   where
     each : (e : ℕ) → at w e ≤ at v e
     each zero = omega arith
     each (suc i) = covers_places v w is i
 
+-- and says so of each that covers
 pub covers_from : (v w : List ℕ) → Covers v w → covers v w ≡ true
-covers_from v w h = covers_from_places v w (λ i. h.by (suc i))
+covers_from v w h = covers_from_places v w (λ i. h.holds (suc i))
 
 -- a test of each place is that test
 pub is_covers : (v w : List ℕ) (r : Bool) → (IsTrue r ↔ ((i : ℕ) → slice_index w i ≤ slice_index v i)) → r ≡ covers v w
@@ -83,6 +96,7 @@ is_covers v w false h = by_test (cases_Bool (covers v w))
 
 -- ---- the first lack
 
+-- where nothing is lacked at the centre nor later, both are so
 lack_or-none : (e have need : ℕ) (later : Option Lack) → lack_or e have need later ≡ None → (need ≤ have) × (later ≡ None)
 lack_or-none e have need later is = by_test (ltb have need) refl is
   where
@@ -90,6 +104,7 @@ lack_or-none e have need later is = by_test (ltb have need) refl is
     by_test true lt is = absurd (none-some _ (sym is))
     by_test false le is = (ltb-false have need le, is)
 
+-- what is lacked is the lack of the centre, or what is lacked later
 lack_or-some : (e have need : ℕ) (later : Option Lack) (lack : Lack) → lack_or e have need later ≡ Some lack → ((have < need) × (record { centre = e; need = need; have = have } ≡ lack)) ⊎ ((need ≤ have) × (later ≡ Some lack))
 lack_or-some e have need later lack is = by_test (ltb have need) refl is
   where
@@ -107,6 +122,7 @@ lack_from-none e (x ∷ have) (n ∷ need) none =
     let h = lack_or-none e x n (lack_from (e + 1) have need) none in
     and_from (leb n x) (covers have need) (le-leb n x h.0) (lack_from-none (e + 1) have need h.1)
 
+-- where nothing is lacked, the vector is covered
 pub lack_of-none : (have need : List ℕ) → lack_of have need ≡ None → covers have need ≡ true
 lack_of-none have need none = lack_from-none 1 have need none
 
@@ -120,6 +136,7 @@ record IsLackFrom (e : ℕ) (have need : List ℕ) (lack : Lack) : Type 0 where
   lacks : lack.have < lack.need
   before : (i : ℕ) → i < place → get_or need i 0 ≤ get_or have i 0
 
+-- where the first entry is lacked, it is the first lack
 lack_here : (e h n : ℕ) (have need : List ℕ) (lack : Lack) → get_or have 0 0 ≡ h → h < n → record { centre = e; need = n; have = h } ≡ lack → IsLackFrom e have (n ∷ need) lack
 lack_here e h n have need lack first lt is = record {
   place = 0;
@@ -131,6 +148,7 @@ lack_here e h n have need lack first lt is = record {
   before = λ i no. absurd (omega arith);
 }
 
+-- where the first entry is covered, the first lack is that of the others
 lack_later : (e n : ℕ) (have rest need : List ℕ) (lack : Lack) → ((i : ℕ) → get_or have (suc i) 0 ≡ get_or rest i 0) → n ≤ get_or have 0 0 → IsLackFrom (e + 1) rest need lack → IsLackFrom e have (n ∷ need) lack
 lack_later e n have rest need lack shifted le l = record {
   place = suc l.place;
@@ -146,6 +164,7 @@ lack_later e n have rest need lack shifted le l = record {
     earlier zero lt = le
     earlier (suc i) lt = omega (arith, l.before i (omega (arith, lt)), shifted i)
 
+-- a lack that is found is the first
 lack_from-some : (e : ℕ) (have need : List ℕ) (lack : Lack) → lack_from e have need ≡ Some lack → IsLackFrom e have need lack
 lack_from-some e have [] lack is = absurd (none-some lack is)
 lack_from-some e [] (n ∷ need) lack is =
@@ -159,6 +178,7 @@ lack_from-some e (x ∷ have) (n ∷ need) lack is =
     (λ h. lack_later e n (x ∷ have) have need lack (λ i. refl) h.0 (lack_from-some (e + 1) have need lack h.1))
     (lack_or-some e x n (lack_from (e + 1) have need) lack is)
 
+-- so the lack that is found is the first of all
 pub lack_of-some : (have need : List ℕ) (lack : Lack) → lack_of have need ≡ Some lack → IsFirstLack have need lack
 lack_of-some have need lack is = first (lack_from-some 1 have need lack is)
   where
@@ -185,16 +205,18 @@ lack_of_covered have need is = by_answer (lack_of have need) refl
     by_answer None e = refl
     by_answer (Some lack) e =
         let l = lack_of-some have need lack e in
-        absurd (omega (arith, l.lacks, l.number, l.has, (covers-true have need is).by lack.centre))
+        absurd (omega (arith, l.lacks, l.number, l.has, (covers-true have need is).holds lack.centre))
 
 -- ---- a loop over the centres: what is left to look at before the centre c, and after it
 
+-- what is lacked from an entry on is its own lack, or that of the later ones
 lack_from_next : (c i : ℕ) (have need : List ℕ) → i < length have → i < length need → lack_from c (drop i have) (drop i need) ≡ lack_or c (get_or have i 0) (get_or need i 0) (lack_from (c + 1) (drop (suc i) have) (drop (suc i) need))
 lack_from_next c i [] need more enough = absurd (omega arith)
 lack_from_next c i (x ∷ have) [] more enough = absurd (omega arith)
 lack_from_next c zero (x ∷ have) (n ∷ need) more enough = refl
 lack_from_next c (suc i) (x ∷ have) (n ∷ need) more enough = lack_from_next c i have need (omega arith) (omega arith)
 
+-- past a covered entry the first lack is the same
 pub lack_from_covered : (c : ℕ) (have need : List ℕ) → 1 ≤ c → c ≤ length have → c ≤ length need → at need c ≤ at have c → lack_from (c + 1) (drop c have) (drop c need) ≡ lack_from c (drop (c - 1) have) (drop (c - 1) need)
 lack_from_covered zero have need one more enough le = absurd (omega arith)
 lack_from_covered (suc i) have need one more enough le =
@@ -202,12 +224,14 @@ lack_from_covered (suc i) have need one more enough le =
     let skip : lack_or (suc i) (get_or have i 0) (get_or need i 0) (lack_from (suc i + 1) (drop (suc i) have) (drop (suc i) need)) ≡ lack_from (suc i + 1) (drop (suc i) have) (drop (suc i) need) = cond-false _ _ _ (le-ltb _ _ le) in
     sym (ap (λ k. lack_from (suc i) (drop k have) (drop k need)) before ∙ (lack_from_next (suc i) i have need (omega arith) (omega arith) ∙ skip))
 
+-- at an entry that is lacked the first lack is its own
 pub lack_from_lacking : (c : ℕ) (have need : List ℕ) → 1 ≤ c → c ≤ length have → c ≤ length need → at have c < at need c → lack_from c (drop (c - 1) have) (drop (c - 1) need) ≡ Some (record { centre = c; need = at need c; have = at have c })
 lack_from_lacking zero have need one more enough lt = absurd (omega arith)
 lack_from_lacking (suc i) have need one more enough lt =
     let before : suc i - 1 ≡ i = omega arith in
     ap (λ k. lack_from (suc i) (drop k have) (drop k need)) before ∙ (lack_from_next (suc i) i have need (omega arith) (omega arith) ∙ cond-true _ _ _ (lt-ltb _ _ lt))
 
+-- past the last entry nothing is lacked
 pub lack_from_end : (c : ℕ) (have need : List ℕ) → length need < c → lack_from c (drop (c - 1) have) (drop (c - 1) need) ≡ None
 lack_from_end c have need past = ap (λ rest. lack_from c (drop (c - 1) have) rest) (drop-past need (c - 1) (omega arith))
   where

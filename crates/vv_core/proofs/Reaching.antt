@@ -9,9 +9,11 @@ use Rattle.vv_core.specs.Vectors.{at, most, reach, kth_of, column}
 
 -- ---- counts
 
+-- a count is that of the first element and that of the others
 pub count_by-cons : {X : Type 0} (p : X → Bool) (x : X) (xs : List X) → count_by p (x ∷ xs) ≡ cond (p x) 1 0 + count_by p xs
 count_by-cons p x xs = sum_by-cons (λ x. cond (p x) 1 0) x xs
 
+-- a count of images is a count of the elements
 pub count_by-map : {X Y : Type 0} (p : Y → Bool) (f : X → Y) (xs : List X) → count_by p (map f xs) ≡ count_by (λ x. p (f x)) xs
 count_by-map p f [] = refl
 count_by-map p f (x ∷ xs) = omega (arith, count_by-cons p (f x) (map f xs), count_by-cons (λ x. p (f x)) x xs, count_by-map p f xs)
@@ -39,13 +41,10 @@ counted {X} p (x ∷ xs) some = by_test (λ h. counted p xs h) (p x) refl (subst
     by_test rest true is some = (x, inl refl, is)
     by_test rest false is some = let r = rest (omega arith) in (r.0, inr r.1, r.2)
 
+-- all of a list reach 0
 pub reach-zero : (xs : List ℕ) → reach 0 xs ≡ length xs
 reach-zero [] = refl
-reach-zero (x ∷ xs) = omega (arith, count_by-cons (leb 0) x xs, one (leb 0 x) (le-leb 0 x (omega arith)), reach-zero xs)
-  where
-    one : (b : Bool) → b ≡ true → cond b 1 0 ≡ suc zero
-    one true is = refl
-    one false is = absurd (false≢true is)
+reach-zero (x ∷ xs) = omega (arith, count_by-cons (leb 0) x xs, ap {B = ℕ} (λ b. cond b 1 0) (le-leb 0 x (omega arith)), reach-zero xs)
 
 -- a greater number is reached by no more
 pub reach_falls : (m n : ℕ) (xs : List ℕ) → m ≤ n → reach n xs ≤ reach m xs
@@ -53,11 +52,13 @@ reach_falls m n xs le = count_by_grows (leb n) (leb m) xs (λ y i is. le-leb m y
 
 -- ---- the greatest, and what a filter keeps
 
+-- no element is above the greatest
 pub In-most : (xs : List ℕ) (x : ℕ) → In x xs → x ≤ most xs
 In-most [] x i = absurd i
 In-most (y ∷ xs) x (inl same) = omega (arith, same)
 In-most (y ∷ xs) x (inr i) = omega (arith, In-most xs x i)
 
+-- the greatest is an element, where it is not 0
 pub most_in : (xs : List ℕ) → 1 ≤ most xs → In (most xs) xs
 most_in [] some = absurd (omega arith)
 most_in (y ∷ xs) some =
@@ -74,6 +75,7 @@ record IsLeastFrom (m : ℕ) (xs : List ℕ) (y : ℕ) : Type 0 where
   from : m ≤ y
   least : (z : ℕ) → In z xs → m ≤ z → y ≤ z
 
+-- a list has a least element that reaches a number, or none that does
 least_from : (m : ℕ) (xs : List ℕ) → ((z : ℕ) → In z xs → z < m) ⊎ ((y : ℕ) × IsLeastFrom m xs y)
 least_from m [] = inl (λ z i. absurd i)
 least_from m (x ∷ xs) = choose (least_from m xs) (cases_lt x m)
@@ -114,6 +116,7 @@ kth_of_reached_some k m xs some le =
     let kept = In_from_filter good xs best (most_in (filter good xs) (omega arith)) in
     omega (arith, leb-true k (reach best xs) kept.1, reach_falls m best xs le)
 
+-- so is what is at most the K-th largest, where the list has as many as K
 pub kth_of_reached : (k m : ℕ) (xs : List ℕ) → k ≤ length xs → m ≤ kth_of k xs → k ≤ reach m xs
 kth_of_reached k zero xs few le = omega (arith, few, reach-zero xs)
 kth_of_reached k (suc m) xs few le = kth_of_reached_some k (suc m) xs (omega arith) le
@@ -138,6 +141,7 @@ kth_of_in k xs some = (In_from_filter (λ x. leb k (reach x xs)) xs (kth_of k xs
 
 -- ---- a loop over the rows: the greatest that passes, of the entries at a centre from the row i on
 
+-- the greatest of the entries that are left is that of the next row, or of the later ones
 most_left : (good : ℕ → Bool) (e : ℕ) (rows : List (List ℕ)) (i : ℕ) (row : List ℕ) → i < length rows → row ≡ get_or rows i row → most (filter good (column e (drop i rows))) ≡ max (cond (good (at row e)) (at row e) 0) (most (filter good (column e (drop (suc i) rows))))
 most_left good e [] i row lt is = absurd (omega arith)
 most_left good e (r ∷ rows) zero row lt is = one (good (at r e)) (at r e) (filter good (column e rows)) ∙ ap (λ r. max (cond (good (at r e)) (at r e) 0) (most (filter good (column e rows)))) (sym is)

@@ -15,7 +15,7 @@ zeros n = replicate n 0
 
 -- v covers w: no entry of w is greater
 pub record Covers (v w : List ℕ) : Type 0 where
-  pub by : (e : ℕ) → at w e ≤ at v e
+  pub holds : (e : ℕ) → at w e ≤ at v e
 
 -- whether v covers w
 abbrev pub covers : List ℕ → List ℕ → Bool
@@ -105,7 +105,7 @@ pub record IsFirstLack (have need : List ℕ) (lack : Lack) : Type 0 where
 
 -- v is sound for a table that gives some stamps a vector: it covers the vector of each stamp within it
 pub record SoundFor (table : ℕ → ℕ → Option (List ℕ)) (v : List ℕ) : Type 0 where
-  pub by : (e k : ℕ) (w : List ℕ) → 1 ≤ k → k ≤ at v e → table e k ≡ Some w → Covers v w
+  pub holds : (e k : ℕ) (w : List ℕ) → 1 ≤ k → k ≤ at v e → table e k ≡ Some w → Covers v w
 
 -- each row is sound for the table
 abbrev pub AllSound : (ℕ → ℕ → Option (List ℕ)) → List (List ℕ) → Type 0

@@ -4,6 +4,7 @@ ghost use Rattle.vv_core.specs.Vectors.{join_of, meet_of, raised, kth_of, column
 
 use crate::stamp::Stamp;
 use crate::vector::Vector;
+use ids_core::MOST_CENTRES;
 
 /// Whether no entry that is needed is greater than the one that is there.
 pub fn covers_entries(have: &[u64], need: &[u64]) -> bool
@@ -46,7 +47,7 @@ pub fn raise_entry(into: &mut [u64], stamp: &Stamp)
 
 /// Writes at each centre the greatest number that at least k rows reach.
 pub fn kth_entries(into: &mut [u64], rows: &[Vector], k: usize)
-    requires width { length into.old ≤ 8 }
+    requires width { length into.old ≤ MOST_CENTRES }
     requires rows { All (λ row. length row ≡ length into.old) rows.now }
     ensures { into.new ≡ tabulate (length into.old) (λ e. kth_of k (column e rows.now)) }
 {

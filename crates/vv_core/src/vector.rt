@@ -1,42 +1,44 @@
-// A vector of 1 to 8 entries, kept inline.
+// A vector of an entry for each centre, kept inline.
 ghost use Rattle.std.specs.Prelude.{◌≡◌, ◌≤◌, ◌↔◌, ℕ, IsTrue, IsNone, IfSome, All, length};
 ghost use Rattle.vv_core.specs.Vectors.{at, zeros, Covers, covers, join_of, meet_of, raised, within, width_of, kth_largest, lack_of, IsFirstLack};
 
 use crate::entries::{covers_entries, join_entries, kth_entries, meet_entries, raise_entry};
 use crate::stamp::{Lack, Stamp};
+use ids_core::MOST_CENTRES;
 use std::marker::Model;
 
 /// One number for each centre, seen as the list of the numbers. It has 1 to 8 entries, for the centres 1, 2 and
 /// so on. What lies behind them is 0. (Zawirski and others, Middleware 2015: version vectors.)
 #[derive(Clone, Copy)]
 pub struct Vector {
-    entries: [u64; 8],
+    entries: [u64; MOST_CENTRES as usize],
     width: u8,
 }
 
 impl Model for Vector {
-    ghost use Rattle.std.specs.Prelude.{ℕ, List, ◌++◌, ◌-◌, take, length, replicate};
-    ghost use Rattle.vv_core.specs.Padded.{IsPadded, repadded};
+    ghost use Rattle.std.specs.Prelude.{ℕ, List, ◌≤◌, ◌++◌, ◌-◌, take, length, replicate};
+    ghost use Rattle.list_core.specs.Padded.{IsPadded, repadded};
+    ghost use Rattle.ids_core.specs.declared.limits.TheConstants.{MOST_CENTRES};
 
     ghost Value = { List ℕ };
 
     ghost view = { λ v. take v.width v.entries };
 
-    ghost invariant = { λ v. IsPadded v.entries v.width };
+    ghost invariant = { λ v. (1 ≤ v.width) × IsPadded MOST_CENTRES v.entries v.width };
 
-    ghost inverse = { λ l. record { entries = l ++ replicate (8 - length l) 0; width = length l } };
+    ghost inverse = { λ l. record { entries = l ++ replicate (MOST_CENTRES - length l) 0; width = length l } };
 
-    ghost inverse_ok = { λ v h. repadded (λ entries width. record { entries = entries; width = width }) v.entries v.width h };
+    ghost inverse_ok = { λ v h. repadded (λ entries width. record { entries = entries; width = width }) MOST_CENTRES v.entries v.width h.1 };
 }
 
 impl Vector {
     /// The vector of `n` entries that are 0, for `n` in 1 to 8.
     pub fn zero(n: u8) -> Vector
-        requires { (1 ≤ n) × (n ≤ 8) }
+        requires { (1 ≤ n) × (n ≤ MOST_CENTRES) }
         ensures { result ≡ zeros n }
     {
         Vector {
-            entries: [0; 8],
+            entries: [0; MOST_CENTRES as usize],
             width: n,
         }
     }
@@ -44,7 +46,7 @@ impl Vector {
     /// The number of entries.
     pub fn width(&self) -> u8
         ensures width { result ≡ length self.now }
-        ensures range { (1 ≤ result) × (result ≤ 8) }
+        ensures range { (1 ≤ result) × (result ≤ MOST_CENTRES) }
     {
         self.width
     }
@@ -52,7 +54,7 @@ impl Vector {
     /// The entries in the order of the centres.
     pub fn as_slice(&self) -> &[u64]
         ensures value { result.now ≡ self.now }
-        ensures range { (1 ≤ length result.now) × (length result.now ≤ 8) }
+        ensures range { (1 ≤ length result.now) × (length result.now ≤ MOST_CENTRES) }
     {
         &self.entries[..usize::from(self.width)]
     }
@@ -89,7 +91,7 @@ impl Vector {
         ensures entries { result ≡ join_of self.now other.now }
         ensures width { length result ≡ length self.now }
     {
-        let mut entries = [0; 8];
+        let mut entries = [0; MOST_CENTRES as usize];
         join_entries(
             &mut entries[..usize::from(self.width)],
             self.as_slice(),
@@ -107,7 +109,7 @@ impl Vector {
         ensures entries { result ≡ meet_of self.now other.now }
         ensures width { length result ≡ length self.now }
     {
-        let mut entries = [0; 8];
+        let mut entries = [0; MOST_CENTRES as usize];
         meet_entries(
             &mut entries[..usize::from(self.width)],
             self.as_slice(),
@@ -141,7 +143,7 @@ impl Vector {
         ensures width { length result ≡ width_of rows.now }
     {
         let width = rows[0].width();
-        let mut entries = [0; 8];
+        let mut entries = [0; MOST_CENTRES as usize];
         kth_entries(&mut entries[..usize::from(width)], rows, usize::from(k));
         Vector { entries, width }
     }
