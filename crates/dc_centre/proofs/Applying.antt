@@ -1,10 +1,9 @@
 -- What is kept beside an applied list, at first and with one record more.
-use Rattle.std.proofs.Common.{◌≡◌, ◌≢◌, ◌≤◌, ◌<◌, ℕ, suc, ◌+◌, max, Bool, true, false, cond, ◌⊎◌, inl, inr, ⊎_elim, List, [], ◌∷◌, ◌++◌, length, Option, Some, None, refl, sym, ap, ◌∙◌, subst, arith}
-use Rattle.std.specs.Prelude.{nat_lt, filter, flat_map, ◌==◌, ◌&&◌, All}
-use Rattle.std.proofs.lemmas.Bool.{cases_Bool, cases_lt, false≢true, eq-eqb, eqb-true, leb-true, leb-false}
+use Rattle.std.proofs.Common.{◌≡◌, ◌≢◌, ◌≤◌, ◌<◌, ℕ, ◌+◌, max, Bool, true, false, cond, ◌⊎◌, inl, inr, ⊎_elim, List, [], ◌∷◌, ◌++◌, length, Option, Some, None, refl, sym, ap, ◌∙◌, subst, arith}
+use Rattle.std.specs.Prelude.{filter, flat_map, not, IsTrue, ◌↔◌, ◌==◌, ◌&&◌, All}
+use Rattle.std.proofs.lemmas.Bool.{cases_Bool, cases_lt, false≢true, eq-eqb, eqb-true}
 use Rattle.std.proofs.lemmas.Bool.Decides.{Decides-eqb}
 use Rattle.std.proofs.lemmas.List.{map_push}
-use Rattle.std.proofs.lemmas.List.Sums.{sum_by_push}
 use Rattle.std.proofs.lemmas.List.Elements.{All-nil, All-cons, All-append, All-head, All-tail}
 use Rattle.list_core.specs.Members.{In}
 use Rattle.ids_core.specs.declared.ids.Dot.{Dot}
@@ -21,10 +20,11 @@ use Rattle.dup_guard.specs.Notes.{last_at, number_in, stamp_in, number_of, stamp
 use Rattle.tx_core.specs.declared.tx.Record.{Record}
 use Rattle.tx_core.specs.States.{empty_of, fold_of}
 use Rattle.dc_talk.specs.Records.{count, vector, guard, first_stamp, top, has, firsts, inside}
+use Rattle.dc_talk.proofs.Counts.{count_more, guard_more}
 use Rattle.dc_talk.specs.Objects.{ops_of, state_at}
 use Rattle.dc_centre.specs.declared.applied.Held.{Held}
 use Rattle.dc_centre.specs.Dots.{of_client, stamps_of, stamps_at, is_any_within, IsCentreOf}
-use Rattle.dc_centre.specs.Applied.{records_of, dots_of, IsNext, IsStamped, HasFewUpdates, is_fresh, IsGuard, IsDots, IsApplied, fold_within}
+use Rattle.dc_centre.specs.Applied.{records_of, dots_of, IsNext, IsStamped, HasFewUpdates, is_fresh, IsGuard, IsDots, Index, IsApplied, fold_within}
 use Rattle.dc_centre.proofs.Firsts.{new_dot, has_before, has_last, first_had, first_new, first_stamp_range, stamps_here, stamps_else, stamps_range, any_inside, firsts_more}
 
 -- ---- at first
@@ -32,7 +32,7 @@ use Rattle.dc_centre.proofs.Firsts.{new_dot, has_before, has_last, first_had, fi
 zeros_count : (n : ℕ) → zeros n ≡ vector n []
 zeros_count n = is_tabulate (zeros n) n (λ e. count e []) (length-zeros n) (λ e low high. at-zeros n e)
 
-pub applied_none : (n : ℕ) (counts : List ℕ) (lasts : List Last) (dots : List (List (List Stamp))) → (1 ≤ n) × (n ≤ 8) → counts ≡ zeros n → ((client : ℕ) → number_of lasts client ≡ 0) → ((d : Dot) → stamps_at dots d ≡ []) → ((client : ℕ) → length (of_client dots client) ≡ 0) → IsApplied n counts lasts dots 0 [] []
+pub applied_none : (n : ℕ) (counts : List ℕ) (lasts : List Last) (dots : List (List (List Stamp))) → (1 ≤ n) × (n ≤ 8) → counts ≡ zeros n → ((client : ℕ) → number_of lasts client ≡ 0) → ((d : Dot) → stamps_at dots d ≡ []) → ((client : ℕ) → length (of_client dots client) ≡ 0) → IsApplied n (record { counts = counts; lasts = lasts; dots = dots; greatest = 0; held = [] }) []
 applied_none n counts lasts dots width are numbers stamps lengths = record {
   width = width;
   wide = ap (λ (v : List ℕ). length v) are ∙ length-zeros n;
@@ -54,10 +54,7 @@ applied_none n counts lasts dots width are numbers stamps lengths = record {
 pub at-vector : (n e : ℕ) (counts : List ℕ) (A : List Record) → counts ≡ vector n A → 1 ≤ e → e ≤ n → at counts e ≡ count e A
 at-vector n e counts A is low high = ap (λ v. at v e) is ∙ at-tabulate n e (λ e. count e A) low high
 
--- one record more counts for the centre of its stamp
-pub count-more : (e : ℕ) (A : List Record) (r : Record) → count e (A ++ r ∷ []) ≡ count e A + cond (r.stamp.centre == e) 1 0
-count-more e A r = sum_by_push (λ r. cond (r.stamp.centre == e) 1 0) A r
-
+-- the vector with one record more
 pub counted_more : (n : ℕ) (counts : List ℕ) (A : List Record) (r : Record) → counts ≡ vector n A → r.stamp.seq ≡ count r.stamp.centre A + 1 → raised counts r.stamp ≡ vector n (A ++ r ∷ [])
 counted_more n counts A r is seq = ap (λ v. raised v r.stamp) is ∙ (raised-tabulate n (λ e. count e A) r.stamp ∙ same_tabulate n _ (λ e. count e (A ++ r ∷ [])) (λ e low high. one e (cases_Bool (e == r.stamp.centre))))
   where
@@ -66,20 +63,12 @@ counted_more n counts A r is seq = ap (λ v. raised v r.stamp) is ∙ (raised-ta
         let same : e ≡ r.stamp.centre = (Decides-eqb e r.stamp.centre).0 t in
         let here : (r.stamp.centre == e) ≡ true = (Decides-eqb r.stamp.centre e).1 (sym same) in
         let counts : count e A ≡ count r.stamp.centre A = ap (λ e. count e A) same in
-        let more : count e (A ++ r ∷ []) ≡ count e A + 1 = count-more e A r ∙ ap (λ b. count e A + cond b 1 0) here in
+        let more : count e (A ++ r ∷ []) ≡ count e A + 1 = count_more e A r ∙ ap (λ b. count e A + cond b 1 0) here in
         rw t (omega arith)
     one e (inr f) =
         let other : (r.stamp.centre == e) ≡ false = ⊎_elim (λ t. absurd (false≢true (sym f ∙ (Decides-eqb e r.stamp.centre).1 (sym ((Decides-eqb r.stamp.centre e).0 t))))) (λ g. g) (cases_Bool (r.stamp.centre == e)) in
-        let more : count e (A ++ r ∷ []) ≡ count e A + 0 = count-more e A r ∙ ap (λ b. count e A + cond b 1 0) other in
+        let more : count e (A ++ r ∷ []) ≡ count e A + 0 = count_more e A r ∙ ap (λ b. count e A + cond b 1 0) other in
         rw f (omega arith)
-
-pub guard_more : (c : ℕ) (A : List Record) (r : Record) → guard c (A ++ r ∷ []) ≡ max (guard c A) (cond (r.tx.dot.client == c) r.tx.dot.number 0)
-guard_more c [] r = omega arith
-guard_more c (q ∷ A) r =
-    let rest = guard_more c A r in
-    let m = cond (q.tx.dot.client == c) q.tx.dot.number 0 in
-    let l = cond (r.tx.dot.client == c) r.tx.dot.number 0 in
-    omega (arith, rest)
 
 pub guard_same : (c : ℕ) (A : List Record) (r : Record) → r.tx.dot.client ≡ c → guard c (A ++ r ∷ []) ≡ max (guard c A) r.tx.dot.number
 guard_same c A r is = guard_more c A r ∙ ap (λ b. max (guard c A) (cond b r.tx.dot.number 0)) (eq-eqb r.tx.dot.client c is)
@@ -223,7 +212,7 @@ module _ (n : ℕ) (A : List Record) (r : Record) (next : IsNext n A r) (there :
       same (inr f) = rw (f, known_dot fresh is f) refl
 
 count_grows : (e : ℕ) (A : List Record) (r : Record) → count e A ≤ count e (A ++ r ∷ [])
-count_grows e A r = let more = count-more e A r in omega (arith, more)
+count_grows e A r = let more = count_more e A r in omega (arith, more)
 
 -- each stamp up to the counts is there
 placed_more : (n : ℕ) (A : List Record) (r : Record) → IsNext n A r → ((e k : ℕ) → 1 ≤ k → k ≤ count e A → (q : Record) × In q A × (q.stamp ≡ record { centre = e; seq = k })) → (e k : ℕ) → 1 ≤ k → k ≤ count e (A ++ r ∷ []) → (q : Record) × In q (A ++ r ∷ []) × (q.stamp ≡ record { centre = e; seq = k })
@@ -232,14 +221,14 @@ placed_more n A r next placed e k low high = go (cases_lt (count e A) k) (cases_
     go : (count e A < k) ⊎ (k ≤ count e A) → ((r.stamp.centre == e) ≡ true) ⊎ ((r.stamp.centre == e) ≡ false) → (q : Record) × In q (A ++ r ∷ []) × (q.stamp ≡ record { centre = e; seq = k })
     go (inr le) _ = let p = placed e k low le in (p.0, In_left A (r ∷ []) p.0 p.1, p.2)
     go (inl lt) (inl t) =
-        let more : count e (A ++ r ∷ []) ≡ count e A + 1 = count-more e A r ∙ ap (λ b. count e A + cond b 1 0) t in
+        let more : count e (A ++ r ∷ []) ≡ count e A + 1 = count_more e A r ∙ ap (λ b. count e A + cond b 1 0) t in
         let same : r.stamp.centre ≡ e = eqb-true _ _ t in
         let counts : count r.stamp.centre A ≡ count e A = ap (λ e. count e A) same in
         let seq = next.seq in
         let number : r.stamp.seq ≡ k = omega (arith, more, lt, high, counts, seq) in
         (r, In_right A (r ∷ []) r (inl refl), λ i. record { centre = same i; seq = number i })
     go (inl lt) (inr f) =
-        let more : count e (A ++ r ∷ []) ≡ count e A + 0 = count-more e A r ∙ ap (λ b. count e A + cond b 1 0) f in
+        let more : count e (A ++ r ∷ []) ≡ count e A + 0 = count_more e A r ∙ ap (λ b. count e A + cond b 1 0) f in
         absurd (omega (arith, more, lt, high))
 
 -- and no other
@@ -252,22 +241,26 @@ ranged_more n A r next ranged q i = ⊎_elim before (λ here. ⊎_elim last (λ 
     own : (1 ≤ r.stamp.centre) × (r.stamp.centre ≤ n) × (1 ≤ r.stamp.seq) × (r.stamp.seq ≤ count r.stamp.centre (A ++ r ∷ []))
     own =
         let seq = next.seq in
-        let more : count r.stamp.centre (A ++ r ∷ []) ≡ count r.stamp.centre A + 1 = count-more r.stamp.centre A r ∙ ap (λ b. count r.stamp.centre A + cond b 1 0) (eq-eqb r.stamp.centre r.stamp.centre refl) in
+        let more : count r.stamp.centre (A ++ r ∷ []) ≡ count r.stamp.centre A + 1 = count_more r.stamp.centre A r ∙ ap (λ b. count r.stamp.centre A + cond b 1 0) (eq-eqb r.stamp.centre r.stamp.centre refl) in
         (next.centre.0, next.centre.1, omega (arith, seq), omega (arith, seq, more))
 
     last : q ≡ r → (1 ≤ q.stamp.centre) × (q.stamp.centre ≤ n) × (1 ≤ q.stamp.seq) × (q.stamp.seq ≤ count q.stamp.centre (A ++ r ∷ []))
     last same = subst (λ q. (1 ≤ q.stamp.centre) × (q.stamp.centre ≤ n) × (1 ≤ q.stamp.seq) × (q.stamp.seq ≤ count q.stamp.centre (A ++ r ∷ []))) (sym same) own
 
--- all that is kept beside the applied list, with one record more
-pub applied_more : (n : ℕ) (counts : List ℕ) (lasts new_lasts : List Last) (dots new_dots : List (List (List Stamp))) (greatest : ℕ) (held : List Held) (A : List Record) (r : Record) (fresh : Bool) → IsApplied n counts lasts dots greatest held A → IsNext n A r → fresh ≡ is_fresh A r → Noted A r fresh lasts new_lasts → Added r dots new_dots → IsApplied n (raised counts r.stamp) new_lasts new_dots (max r.tx.rank greatest) (held ++ record { item = r; fresh = fresh } ∷ []) (A ++ r ∷ [])
-applied_more n counts lasts new_lasts dots new_dots greatest held A r fresh h next is noted added = record {
+-- what is kept beside the applied list, with a record more
+abbrev pub more_kept : Index → Record → Bool → List Last → List (List (List Stamp)) → Index
+more_kept x r fresh lasts dots = record { counts = raised x.counts r.stamp; lasts = lasts; dots = dots; greatest = max r.tx.rank x.greatest; held = x.held ++ record { item = r; fresh = fresh } ∷ [] }
+
+-- it is what is to be kept then
+pub applied_more : (n : ℕ) (x : Index) (lasts : List Last) (dots : List (List (List Stamp))) (A : List Record) (r : Record) (fresh : Bool) → IsApplied n x A → IsNext n A r → fresh ≡ is_fresh A r → Noted A r fresh x.lasts lasts → Added r x.dots dots → IsApplied n (more_kept x r fresh lasts dots) (A ++ r ∷ [])
+applied_more n x lasts dots A r fresh h next is noted added = record {
   width = h.width;
-  wide = length-raised counts r.stamp ∙ h.wide;
-  counted = counted_more n counts A r h.counted next.seq;
-  guarded = guarded_more n A r next h.there fresh lasts new_lasts is h.guarded noted;
-  dotted = dotted_more n A r next h.there dots new_dots h.dotted added;
+  wide = length-raised x.counts r.stamp ∙ h.wide;
+  counted = counted_more n x.counts A r h.counted next.seq;
+  guarded = guarded_more n A r next h.there fresh x.lasts lasts is h.guarded noted;
+  dotted = dotted_more n A r next h.there x.dots dots h.dotted added;
   ranked = let t = top_more A r in let g = h.ranked in omega (arith, t, g);
-  first = first_more n A r next h.there fresh held is h.first;
+  first = first_more n A r next h.there fresh x.held is h.first;
   there = there_more n A r next h.there;
   stamps = All-append (IsStamped n) A (r ∷ []) h.stamps (All-cons (IsStamped n) r [] (record { low = next.centre.0; high = next.centre.1 }) (All-nil (IsStamped n)));
   updates = All-append HasFewUpdates A (r ∷ []) h.updates (All-cons HasFewUpdates r [] (record { few = next.few }) (All-nil HasFewUpdates));
@@ -304,17 +297,17 @@ each_held P [] all = All-nil (λ h. P h.item)
 each_held P (h ∷ held) all = All-cons (λ h. P h.item) h held (All-head P h.item (records_of held) all) (each_held P held (All-tail P h.item (records_of held) all))
 
 -- a stamp is there exactly where it is within the counts
-pub has_within : (n : ℕ) (counts : List ℕ) (lasts : List Last) (dots : List (List (List Stamp))) (greatest : ℕ) (held : List Held) (A : List Record) (s : Stamp) → IsApplied n counts lasts dots greatest held A → 1 ≤ s.centre → s.centre ≤ n → 1 ≤ s.seq → s.seq ≤ at counts s.centre → (r : Record) × In r A × (r.stamp ≡ s)
-has_within n counts lasts dots greatest held A s h low high one le =
-    let is = at-vector n s.centre counts A h.counted low high in
+pub has_within : (n : ℕ) (x : Index) (A : List Record) (s : Stamp) → IsApplied n x A → 1 ≤ s.centre → s.centre ≤ n → 1 ≤ s.seq → s.seq ≤ at x.counts s.centre → (r : Record) × In r A × (r.stamp ≡ s)
+has_within n x A s h low high one le =
+    let is = at-vector n s.centre x.counts A h.counted low high in
     let p = h.placed s.centre s.seq one (omega (arith, le, is)) in
     (p.0, p.1, p.2)
 
-pub within_has : (n : ℕ) (counts : List ℕ) (lasts : List Last) (dots : List (List (List Stamp))) (greatest : ℕ) (held : List Held) (A : List Record) (s : Stamp) → IsApplied n counts lasts dots greatest held A → (r : Record) × In r A × (r.stamp ≡ s) → (1 ≤ s.centre) × (s.centre ≤ n) × (1 ≤ s.seq) × (s.seq ≤ at counts s.centre)
-within_has n counts lasts dots greatest held A s h there =
+pub within_has : (n : ℕ) (x : Index) (A : List Record) (s : Stamp) → IsApplied n x A → (r : Record) × In r A × (r.stamp ≡ s) → (1 ≤ s.centre) × (s.centre ≤ n) × (1 ≤ s.seq) × (s.seq ≤ at x.counts s.centre)
+within_has n x A s h there =
     let p = h.ranged there.0 there.1 in
     let q : (1 ≤ s.centre) × (s.centre ≤ n) × (1 ≤ s.seq) × (s.seq ≤ count s.centre A) = subst (λ s. (1 ≤ s.centre) × (s.centre ≤ n) × (1 ≤ s.seq) × (s.seq ≤ count s.centre A)) there.2 p in
-    let is = at-vector n s.centre counts A h.counted q.0 q.1 in
+    let is = at-vector n s.centre x.counts A h.counted q.0 q.1 in
     (q.0, q.1, q.2, (let le = q.3 in omega (arith, le, is)))
 
 -- where there is a stamp, there is a number
@@ -327,36 +320,31 @@ stamped_number (Some last) s is = go (cases_Bool (last.number == 0))
     go (inr f) = let apart : last.number ≢ 0 = λ e. false≢true (sym f ∙ eq-eqb last.number 0 e) in omega (arith, apart)
 
 -- the stamp that the filter of duplicates has is of one of the centres
-pub guard_stamp_range : (n : ℕ) (counts : List ℕ) (lasts : List Last) (dots : List (List (List Stamp))) (greatest : ℕ) (held : List Held) (A : List Record) (client : ℕ) (s : Stamp) → IsApplied n counts lasts dots greatest held A → stamp_of lasts client ≡ Some s → IsCentreOf n s
-guard_stamp_range n counts lasts dots greatest held A client s h is =
+pub guard_stamp_range : (n : ℕ) (x : Index) (A : List Record) (client : ℕ) (s : Stamp) → IsApplied n x A → stamp_of x.lasts client ≡ Some s → IsCentreOf n s
+guard_stamp_range n x A client s h is =
     let number = h.guarded.numbers client in
-    let some = stamped_number (last_at lasts client) s is in
+    let some = stamped_number (last_at x.lasts client) s is in
     let low : 1 ≤ guard client A = omega (arith, number, some) in
     first_stamp_range n (record { client = client; number = guard client A }) A s h.stamps (sym (h.guarded.stamps client low) ∙ is)
 
--- where every number is known or the next, a number above the last is the next
-pub fresh_is : (through : ℕ) (A : List Record) (r : Record) → through ≡ guard r.tx.dot.client A → r.tx.dot.number ≤ guard r.tx.dot.client A + 1 → nat_lt through r.tx.dot.number ≡ is_fresh A r
-fresh_is through A r is next = go (cases_Bool (nat_lt through r.tx.dot.number)) (cases_Bool (is_fresh A r))
+-- where every number is known or the next, one that was not seen is the next
+pub fresh_is : (seen : Bool) (last : ℕ) (A : List Record) (r : Record) → (IsTrue seen ↔ (r.tx.dot.number ≤ last)) → last ≡ guard r.tx.dot.client A → r.tx.dot.number ≤ guard r.tx.dot.client A + 1 → not seen ≡ is_fresh A r
+fresh_is true last A r seen is next = go (cases_Bool (is_fresh A r))
   where
-    go : (nat_lt through r.tx.dot.number ≡ true) ⊎ (nat_lt through r.tx.dot.number ≡ false) → (is_fresh A r ≡ true) ⊎ (is_fresh A r ≡ false) → nat_lt through r.tx.dot.number ≡ is_fresh A r
-    go (inl t) (inl u) = t ∙ sym u
-    go (inr f) (inr g) = f ∙ sym g
-    go (inl t) (inr g) =
-        let lt : through < r.tx.dot.number = leb-true (suc through) r.tx.dot.number t in
-        absurd (false≢true (sym g ∙ eq-eqb r.tx.dot.number (guard r.tx.dot.client A + 1) (omega (arith, lt, is, next))))
-    go (inr f) (inl u) =
-        let le = leb-false (suc through) r.tx.dot.number f in
-        let same = eqb-true r.tx.dot.number (guard r.tx.dot.client A + 1) u in
-        absurd (omega (arith, le, same, is))
+    go : (is_fresh A r ≡ true) ⊎ (is_fresh A r ≡ false) → false ≡ is_fresh A r
+    go (inl t) = let same = eqb-true r.tx.dot.number (guard r.tx.dot.client A + 1) t in let le = seen.0 refl in absurd (omega (arith, le, same, is))
+    go (inr f) = sym f
+fresh_is false last A r seen is next = go (cases_lt last r.tx.dot.number)
+  where
+    go : (last < r.tx.dot.number) ⊎ (r.tx.dot.number ≤ last) → true ≡ is_fresh A r
+    go (inl lt) = sym (eq-eqb r.tx.dot.number (guard r.tx.dot.client A + 1) (omega (arith, lt, is, next)))
+    go (inr le) = absurd (false≢true (seen.1 le))
 
 -- all that is kept, once a record was put at its end
-pub applied_pushed : (counts new_counts : List ℕ) (lasts new_lasts : List Last) (dots new_dots : List (List (List Stamp))) (greatest new_greatest : ℕ) (held new_held : List Held) (r : Record) (fresh : Bool) → IsApplied (length counts) counts lasts dots greatest held (records_of held) → IsNext (length counts) (records_of held) r → fresh ≡ is_fresh (records_of held) r → Noted (records_of held) r fresh lasts new_lasts → Added r dots new_dots → new_counts ≡ raised counts r.stamp → new_greatest ≡ max r.tx.rank greatest → new_held ≡ held ++ record { item = r; fresh = fresh } ∷ [] → IsApplied (length new_counts) new_counts new_lasts new_dots new_greatest new_held (records_of new_held)
-applied_pushed counts new_counts lasts new_lasts dots new_dots greatest new_greatest held new_held r fresh h next is noted added counted top pushed =
-    let more : List Held = held ++ record { item = r; fresh = fresh } ∷ [] in
-    let made = applied_more (length counts) counts lasts new_lasts dots new_dots greatest held (records_of held) r fresh h next is noted added in
-    let wide : length (raised counts r.stamp) ≡ length counts = length-raised counts r.stamp in
-    let placed : IsApplied (length counts) (raised counts r.stamp) new_lasts new_dots (max r.tx.rank greatest) more (records_of more) = subst (λ A. IsApplied (length counts) (raised counts r.stamp) new_lasts new_dots (max r.tx.rank greatest) more A) (sym (map_push (λ (h : Held). h.item) held (record { item = r; fresh = fresh }))) made in
-    let sized : IsApplied (length (raised counts r.stamp)) (raised counts r.stamp) new_lasts new_dots (max r.tx.rank greatest) more (records_of more) = subst (λ n. IsApplied n (raised counts r.stamp) new_lasts new_dots (max r.tx.rank greatest) more (records_of more)) (sym wide) placed in
-    subst (λ l. IsApplied (length new_counts) new_counts new_lasts new_dots new_greatest l (records_of l)) (sym pushed)
-    (subst (λ g. IsApplied (length new_counts) new_counts new_lasts new_dots g more (records_of more)) (sym top)
-    (subst (λ v. IsApplied (length v) v new_lasts new_dots (max r.tx.rank greatest) more (records_of more)) (sym counted) sized))
+pub applied_pushed : (x y : Index) (r : Record) (fresh : Bool) → IsApplied (length x.counts) x (records_of x.held) → IsNext (length x.counts) (records_of x.held) r → fresh ≡ is_fresh (records_of x.held) r → Noted (records_of x.held) r fresh x.lasts y.lasts → Added r x.dots y.dots → y ≡ more_kept x r fresh y.lasts y.dots → IsApplied (length y.counts) y (records_of y.held)
+applied_pushed x y r fresh h next is noted added pushed =
+    let more = more_kept x r fresh y.lasts y.dots in
+    let made = applied_more (length x.counts) x y.lasts y.dots (records_of x.held) r fresh h next is noted added in
+    let wide : length (raised x.counts r.stamp) ≡ length x.counts = length-raised x.counts r.stamp in
+    let placed : IsApplied (length x.counts) more (records_of more.held) = subst (λ A. IsApplied (length x.counts) more A) (sym (map_push (λ (h : Held). h.item) x.held (record { item = r; fresh = fresh }))) made in
+    subst (λ (z : Index). IsApplied (length z.counts) z (records_of z.held)) (sym pushed) (subst (λ n. IsApplied n more (records_of more.held)) (sym wide) placed)

@@ -2,4 +2,3 @@ pub mod Firsts
 pub mod Applying
 pub mod Records
 pub mod Standing
-pub mod Desks

@@ -1,6 +1,7 @@
 -- What a centre has of its applied list, and which record can be applied next.
 use Rattle.std.specs.Prelude.{◌≡◌, ◌≤◌, ℕ, ◌+◌, Bool, true, ◌&&◌, ◌==◌, List, map, filter, flat_map, length, All}
 use Rattle.list_core.specs.Members.{In}
+use Rattle.ids_core.specs.declared.limits.TheConstants.{MOST_CLIENTS, MOST_UPDATES}
 use Rattle.ids_core.specs.declared.ids.Dot.{Dot}
 use Rattle.ids_core.specs.declared.object.ObjectId.{ObjectId}
 use Rattle.vv_core.specs.declared.stamp.Stamp.{Stamp}
@@ -32,10 +33,10 @@ dots_of A = map (λ r. r.tx.dot) A
 pub record IsNext (n : ℕ) (A : List Record) (r : Record) : Type 0 where
   pub centre : (1 ≤ r.stamp.centre) × (r.stamp.centre ≤ n)
   pub seq : r.stamp.seq ≡ count r.stamp.centre A + 1
-  pub client : (1 ≤ r.tx.dot.client) × (r.tx.dot.client ≤ 1024)
+  pub client : (1 ≤ r.tx.dot.client) × (r.tx.dot.client ≤ MOST_CLIENTS)
   pub low : 1 ≤ r.tx.dot.number
   pub next : r.tx.dot.number ≤ guard r.tx.dot.client A + 1
-  pub few : length r.tx.updates ≤ 256
+  pub few : length r.tx.updates ≤ MOST_UPDATES
 
 -- the record's stamp is of one of n centres
 abbrev pub IsStamped : ℕ → Record → Type 0
@@ -43,7 +44,7 @@ IsStamped n r = IsCentreOf n r.stamp
 
 -- the record has at most as many updates as a transaction may have
 pub record HasFewUpdates (r : Record) : Type 0 where
-  pub few : length r.tx.updates ≤ 256
+  pub few : length r.tx.updates ≤ MOST_UPDATES
 
 -- whether the record is of a new transaction, after the records A
 abbrev pub is_fresh : List Record → Record → Bool
@@ -59,15 +60,25 @@ pub record IsDots (A : List Record) (dots : List (List (List Stamp))) : Type 0 w
   pub stamps : (d : Dot) → stamps_at dots d ≡ stamps_of d A
   pub counts : (client : ℕ) → length (of_client dots client) ≡ guard client A
 
--- what is held, with all that is kept beside it
-pub record IsApplied (n : ℕ) (counts : List ℕ) (lasts : List Last) (dots : List (List (List Stamp))) (greatest : ℕ) (held : List Held) (A : List Record) : Type 0 where
+-- what is kept of an applied list so that it is not searched: how many records there are of each
+-- centre, the last number of each client with the stamp of its first record, the stamps of each dot, the
+-- greatest rank, and the records, each with whether its transaction was new
+pub record Index : Type 0 where
+  pub counts : List ℕ
+  pub lasts : List Last
+  pub dots : List (List (List Stamp))
+  pub greatest : ℕ
+  pub held : List Held
+
+-- all that is kept is as it is after the records A of n centres
+pub record IsApplied (n : ℕ) (x : Index) (A : List Record) : Type 0 where
   pub width : (1 ≤ n) × (n ≤ 8)
-  pub wide : length counts ≡ n
-  pub counted : counts ≡ vector n A
-  pub guarded : IsGuard A lasts
-  pub dotted : IsDots A dots
-  pub ranked : greatest ≡ top A
-  pub first : records_of (filter (λ h. h.fresh) held) ≡ firsts A
+  pub wide : length x.counts ≡ n
+  pub counted : x.counts ≡ vector n A
+  pub guarded : IsGuard A x.lasts
+  pub dotted : IsDots A x.dots
+  pub ranked : x.greatest ≡ top A
+  pub first : records_of (filter (λ h. h.fresh) x.held) ≡ firsts A
   pub there : (d : Dot) → 1 ≤ d.number → d.number ≤ guard d.client A → has d (dots_of A) ≡ true
   pub stamps : All (IsStamped n) A
   pub updates : All HasFewUpdates A

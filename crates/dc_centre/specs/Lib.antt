@@ -1,5 +1,4 @@
 pub mod Dots
 pub mod Applied
 pub mod Centre
-pub mod Machines
 pub mod Desk

@@ -48,7 +48,7 @@ impl Model for Applied {
 
     ghost view = { λ a. record { n = length a.vector; records = records_of a.records.items } };
 
-    ghost invariant = { λ a. IsApplied (length a.vector) a.vector a.guard a.dots a.top a.records.items (records_of a.records.items) };
+    ghost invariant = { λ a. IsApplied (length a.vector) (record { counts = a.vector; lasts = a.guard; dots = a.dots; greatest = a.top; held = a.records.items }) (records_of a.records.items) };
 }
 
 impl Applied {
@@ -149,7 +149,7 @@ impl Applied {
         let stamp = item.stamp;
         let dot = item.tx.dot;
         let rank = item.tx.rank;
-        let fresh = self.guard.through(dot.client) < dot.number;
+        let fresh = !self.guard.seen(&dot);
         self.records.reserve(1)?;
         self.dots.add(alloc, &dot, &stamp)?;
         self.records.push_reserved(Held { item, fresh });

@@ -17,8 +17,8 @@ use vv_core::{Lack, Stamp, Vector};
 impl Centre {
     /// The answer to a hello, in two copies.
     pub(crate) fn welcome(&self, client: u32, need: &Vector) -> (Say, Say)
-        requires { length need.now ≡ self.now.n }
-        ensures answer { result.0 ≡ hello_answer self.now.n self.now.records client need.now }
+        requires { length need.now ≡ self.now.settings.n }
+        ensures answer { result.0 ≡ hello_answer self.now.settings.n self.now.records client need.now }
         ensures copy { result.1 ≡ result.0 }
     {
         match Vector::first_lack(&self.applied.vector(), need) {
@@ -33,15 +33,15 @@ impl Centre {
     // What at least k centres are known to have, and this centre has.
     fn stable(&self) -> Vector
         ensures entries { result ≡ stable_over self.now }
-        ensures width { length result ≡ self.now.n }
+        ensures width { length result ≡ self.now.settings.n }
     {
         self.told.stable(&self.applied.vector())
     }
 
     /// The answer to a refresh, in two copies.
     pub(crate) fn snap(&self, client: u32, at: &Vector) -> (Say, Say)
-        requires { length at.now ≡ self.now.n }
-        ensures answer { result.0 ≡ refresh_answer self.now.n (stable_over self.now) self.now.records client at.now }
+        requires { length at.now ≡ self.now.settings.n }
+        ensures answer { result.0 ≡ refresh_answer self.now.settings.n (stable_over self.now) self.now.records client at.now }
         ensures copy { result.1 ≡ result.0 }
     {
         match Vector::first_lack(&self.applied.vector(), at) {
@@ -65,8 +65,8 @@ impl Centre {
         object: &ObjectId,
         at: &Vector,
     ) -> Result<(Say, Say), NoMemory>
-        requires { length at.now ≡ self.now.n }
-        ensures answer { IfOk result (λ says. says.0 ≡ fetch_answer self.now.n self.now.records object.now at.now) }
+        requires { length at.now ≡ self.now.settings.n }
+        ensures answer { IfOk result (λ says. says.0 ≡ fetch_answer self.now.settings.n self.now.records object.now at.now) }
         ensures copy { IfOk result (λ says. says.1 ≡ says.0) }
     {
         if let Some(lack) = Vector::first_lack(&self.applied.vector(), at) {
@@ -79,17 +79,17 @@ impl Centre {
 
     // How many transactions it has stamped.
     fn stamped(&self) -> u64
-        ensures count { result ≡ count self.now.me self.now.records }
-        ensures most { result ≤ self.now.limit }
+        ensures count { result ≡ count self.now.settings.me self.now.records }
+        ensures most { result ≤ self.now.settings.limit }
     {
         self.applied.count(self.settings.me)
     }
 
     // Stamps a transaction that can be stamped; the memory is taken before anything changes.
     fn stamp(&mut self, alloc: Global, tx: &Tx) -> Result<Stamp, NoMemory>
-        requires fit { IsFit self.old.n tx.now }
+        requires fit { IsFit self.old.settings.n tx.now }
         requires next { tx.now.dot.number ≡ guard tx.now.dot.client self.old.records + 1 }
-        requires room { count self.old.me self.old.records < self.old.limit }
+        requires room { count self.old.settings.me self.old.records < self.old.settings.limit }
         ensures stamp { IfOk result (λ stamp. stamp ≡ next_stamp self.old) }
         ensures ok { OnOk result (self.new ≡ with_record self.old tx.now) }
         ensures err { OnErr result (self.new ≡ self.old) }
@@ -112,8 +112,8 @@ impl Centre {
 
     /// The answer to a commit that fits, in two copies.
     pub(crate) fn commit(&mut self, alloc: Global, tx: &Tx) -> Result<(Say, Say), NoMemory>
-        requires fit { IsFit self.old.n tx.now }
-        ensures answer { IfOk result (λ says. says.0 ≡ commit_answer self.old.me self.old.n self.old.limit self.old.records tx.now) }
+        requires fit { IsFit self.old.settings.n tx.now }
+        ensures answer { IfOk result (λ says. says.0 ≡ commit_answer self.old.settings self.old.records tx.now) }
         ensures copy { IfOk result (λ says. says.1 ≡ says.0) }
         ensures goes { IfOk result (λ says. Goes self.old self.new (Commit tx.now) says.0) }
         ensures err { OnErr result (self.new ≡ self.old) }

@@ -3,11 +3,10 @@ ghost use Rattle.std.specs.Prelude.{◌≡◌, ◌&&◌, not, ◌≤◌, ◌↔�
 ghost use Rattle.list_core.specs.Members.{In};
 ghost use Rattle.tx_core.specs.declared.tx.Record.{Record};
 ghost use Rattle.dc_talk.specs.Answers.{answer, fits, is_switch};
-ghost use Rattle.dc_talk.specs.declared.trail.Entry.{Entry};
+ghost use Rattle.dc_talk.specs.Entries.{Entry};
 
 use crate::applied::Applied;
-use crate::settings::Settings;
-use dc_talk::{Ask, Say};
+use dc_talk::{Ask, Say, Settings};
 use hist_lock::Machine;
 use ids_core::NoMemory;
 use k_stable::Told;
@@ -29,17 +28,17 @@ pub struct Centre {
 }
 
 impl Model for Centre {
-    ghost use Rattle.dc_centre.specs.Centre.{Holds, IsCentre};
+    ghost use Rattle.dc_centre.specs.Centre.{CentreView, IsCentre};
 
-    ghost Value = { Holds };
+    ghost Value = { CentreView };
 
-    ghost view = { λ c. record { me = c.settings.me; n = c.settings.n; k = c.settings.k; limit = c.settings.limit; records = c.applied.records; told = c.told; down = c.stopped } };
+    ghost view = { λ c. record { settings = c.settings; records = c.applied.records; told = c.told; down = c.stopped } };
 
     ghost invariant = { λ c. IsCentre c.settings c.applied c.own.items c.told };
 }
 
 impl Centre {
-    ghost use Rattle.dc_centre.specs.Centre.{StandsFor, Goes, settings_of, row_over, up_over};
+    ghost use Rattle.dc_centre.specs.Centre.{StandsFor, Goes, row_over, up_over};
 
     /// Centre `me` among `n`, with nothing applied. Updates are stable once `k` centres know them, and
     /// it stamps at most `limit` transactions.
@@ -48,7 +47,7 @@ impl Centre {
         requires width { n ≤ 8 }
         requires known { (1 ≤ k) × (k ≤ n) }
         requires most { (1 ≤ limit) × (limit ≤ 1000000) }
-        ensures settings { IfOk result (λ centre. settings_of centre ≡ record { me = me; n = n; k = k; limit = limit }) }
+        ensures settings { IfOk result (λ centre. centre.settings ≡ record { me = me; n = n; k = k; limit = limit }) }
         ensures stands { IfOk result (λ centre. StandsFor centre []) }
     {
         Ok(Centre {
@@ -72,10 +71,10 @@ impl Centre {
     /// entry. Memory is taken before anything changes. Only a fetch and a refresh take time in the
     /// number of records that are here: one pass.
     pub fn step(&mut self, alloc: Global, ask: &Ask) -> Result<(Say, Say), NoMemory>
-        ensures answer { IfOk result (λ says. (trail : List Entry) → StandsFor self.old trail → says.0 ≡ answer self.old.me self.old.n self.old.k self.old.limit trail ask.now) }
+        ensures answer { IfOk result (λ says. (trail : List Entry) → StandsFor self.old trail → says.0 ≡ answer self.old.settings trail ask.now) }
         ensures copy { IfOk result (λ says. says.1 ≡ says.0) }
         ensures stands { IfOk result (λ says. (trail : List Entry) (caller : ℕ) → StandsFor self.old trail → StandsFor self.new (trail ++ record { caller = caller; ask = ask.now; say = says.0 } ∷ [])) }
-        ensures settings { settings_of self.new ≡ settings_of self.old }
+        ensures settings { self.new.settings ≡ self.old.settings }
         ensures err { OnErr result (self.new ≡ self.old) }
     {
         if !ask.fits(self.settings.n) {
@@ -96,11 +95,11 @@ impl Centre {
 
     // The answer of a running centre to an ask that fits, in two copies.
     fn reply(&mut self, alloc: Global, ask: &Ask) -> Result<(Say, Say), NoMemory>
-        requires { fits self.old.n ask.now ≡ true }
+        requires { fits self.old.settings.n ask.now ≡ true }
         ensures answer { IfOk result (λ says. says.0 ≡ row_over self.old ask.now) }
         ensures copy { IfOk result (λ says. says.1 ≡ says.0) }
         ensures goes { IfOk result (λ says. Goes self.old self.new ask.now says.0) }
-        ensures settings { settings_of self.new ≡ settings_of self.old }
+        ensures settings { self.new.settings ≡ self.old.settings }
         ensures err { OnErr result (self.new ≡ self.old) }
     {
         match ask {
@@ -132,14 +131,14 @@ impl Machine for Centre {
 
     type Settings = Settings;
 
-    ghost use Rattle.dc_centre.specs.Centre.{settings_of};
-    ghost use Rattle.dc_centre.specs.Machines.{reply_after, StandsForLog};
+    ghost use Rattle.dc_talk.specs.Answers.{answer};
+    ghost use Rattle.dc_centre.specs.Centre.{CentreView, StandsFor};
 
-    ghost settings = { settings_of };
+    ghost settings = { λ (c : CentreView). c.settings };
 
-    ghost reply = { reply_after };
+    ghost reply = { answer };
 
-    ghost stands = { StandsForLog };
+    ghost stands = { StandsFor };
 
     fn step(&mut self, ask: &Ask) -> Result<(Say, Say), NoMemory> {
         let alloc = *self.own.allocator();

@@ -1,9 +1,10 @@
 // A centre beside its trail.
-ghost use Rattle.std.specs.Prelude.{◌≡◌, ◌≤◌, [], ◌∷◌, ◌++◌, IfOk, OnErr, OnOk};
+ghost use Rattle.std.specs.Prelude.{◌≡◌, ◌≤◌, [], ◌∷◌, ◌++◌, IfOk, OnErr};
 ghost use Rattle.dc_talk.specs.Answers.{answer, History};
 
 use crate::centre::Centre;
-use dc_talk::{Ask, Say, Trail};
+use dc_talk::{Ask, Say, Settings};
+use hist_lock::{Kept, Trail};
 use ids_core::NoMemory;
 use std::alloc::Global;
 use std::marker::Model;
@@ -12,58 +13,57 @@ use std::marker::Model;
 /// the trail is a history of the one-thread centre with the same settings.
 #[derive(Drop)]
 pub struct Desk {
-    centre: Centre,
-    trail: Trail,
+    kept: Kept<Centre>,
 }
 
 impl Model for Desk {
-    ghost use Rattle.dc_centre.specs.Desk.{Keeps, IsDesk};
-    ghost use Rattle.std.specs.Coded.{codes};
-    ghost use Rattle.obj_set.specs.Sets.{set_code};
-    ghost use Rattle.obj_map.specs.Maps.{map_code};
+    ghost use Rattle.hist_lock.specs.History.{IsKept};
+    ghost use Rattle.dc_talk.specs.Answers.{answer};
+    ghost use Rattle.dc_centre.specs.Centre.{CentreView, StandsFor};
+    ghost use Rattle.dc_centre.specs.Desk.{DeskView};
+    ghost use Rattle.tx_core.specs.States.{state_codes};
 
-    ghost Value = { Keeps };
+    ghost Value = { DeskView };
 
-    ghost coded = { Prim.hlevel (codes, set_code, map_code) };
+    ghost coded = { Prim.hlevel state_codes };
 
-    ghost view = { λ d. record { me = d.centre.me; n = d.centre.n; k = d.centre.k; limit = d.centre.limit; entries = d.trail.entries } };
+    ghost view = { λ d. record { settings = d.kept.machine.settings; entries = d.kept.trail.entries } };
 
-    ghost invariant = { λ d. IsDesk d.centre d.trail.entries };
+    ghost invariant = { λ d. IsKept answer StandsFor (λ (c : CentreView). c.settings) d.kept.machine d.kept.trail.entries };
 }
 
 impl Desk {
-    /// Centre `me` among `n` with an empty trail: see `Centre::new`.
-    pub fn new(alloc: Global, me: u8, n: u8, k: u8, limit: u64) -> Result<Desk, NoMemory>
-        requires centre { (1 ≤ me) × (me ≤ n) }
-        requires width { n ≤ 8 }
-        requires known { (1 ≤ k) × (k ≤ n) }
-        requires most { (1 ≤ limit) × (limit ≤ 1000000) }
-        ensures { IfOk result (λ desk. desk ≡ record { me = me; n = n; k = k; limit = limit; entries = [] }) }
+    /// A centre with an empty trail: see `Centre::new`.
+    pub fn new(alloc: Global, settings: Settings) -> Result<Desk, NoMemory>
+        requires centre { (1 ≤ settings.me) × (settings.me ≤ settings.n) }
+        requires width { settings.n ≤ 8 }
+        requires known { (1 ≤ settings.k) × (settings.k ≤ settings.n) }
+        requires most { (1 ≤ settings.limit) × (settings.limit ≤ 1000000) }
+        ensures { IfOk result (λ desk. desk ≡ record { settings = settings; entries = [] }) }
     {
+        let Settings { me, n, k, limit } = settings;
+        let centre = Centre::new(alloc, me, n, k, limit)?;
         Ok(Desk {
-            centre: Centre::new(alloc, me, n, k, limit)?,
-            trail: Trail::new(alloc),
+            kept: Kept::new(alloc, centre),
         })
     }
 
     /// Has the centre answer an ask of a caller, and puts the entry at the end of the trail. Where
     /// memory is refused there is no entry, and nothing changed.
-    pub fn ask(&mut self, alloc: Global, caller: u32, ask: Ask) -> Result<Say, NoMemory>
-        ensures say { IfOk result (λ say. say ≡ answer self.old.me self.old.n self.old.k self.old.limit self.old.entries ask) }
-        ensures entry { IfOk result (λ say. self.new ≡ record self.old { entries = self.old.entries ++ record { caller = caller; ask = ask; say = say } ∷ [] }) }
+    pub fn ask(&mut self, caller: u32, ask: &Ask) -> Result<Say, NoMemory>
+        ensures say { IfOk result (λ say. say ≡ answer self.old.settings self.old.entries ask.now) }
+        ensures entry { IfOk result (λ say. self.new ≡ record self.old { entries = self.old.entries ++ record { caller = caller; ask = ask.now; say = say } ∷ [] }) }
         ensures err { OnErr result (self.new ≡ self.old) }
     {
-        self.trail.room()?;
-        let (kept, say) = self.centre.step(alloc, &ask)?;
-        self.trail.push(caller, ask, kept)?;
+        let say = self.kept.answer(caller, ask)?;
         Ok(say)
     }
 
     /// The trail, a history of the one-thread centre.
-    pub fn into_trail(self) -> Trail
+    pub fn into_trail(self) -> Trail<Centre>
         ensures trail { result.entries ≡ self.entries }
-        ensures history { History self.me self.n self.k self.limit result.entries }
+        ensures history { History self.settings result.entries }
     {
-        self.trail
+        self.kept.trail
     }
 }

@@ -6,9 +6,7 @@ mod asks;
 mod centre;
 mod desk;
 mod dots;
-mod mail;
-mod settings;
+mod peers;
 
 pub use centre::Centre;
 pub use desk::Desk;
-pub use settings::Settings;

@@ -15,19 +15,16 @@ use Rattle.dc_talk.specs.declared.ask.Ask.{Ask}
 use Rattle.dc_talk.specs.declared.ask.Ask.TheVariants.{Hello, Refresh, Fetch, Commit, Send, Deliver, Report, Learn, Stop, Start}
 use Rattle.dc_talk.specs.declared.say.Say.{Say}
 use Rattle.dc_talk.specs.declared.say.Say.TheVariants.{Misfit, Down, Lacks, Welcome, Snap, Object, Known, OutOfOrder, Full, Stamped, Records, Old, Gap, Waits, Orphan, Applied, Vector, Learned, Stopped, Started}
-use Rattle.dc_talk.specs.declared.trail.Entry.{Entry}
+use Rattle.dc_talk.specs.declared.settings.Settings.{Settings}
+use Rattle.dc_talk.specs.Entries.{Entry}
 use Rattle.dc_talk.specs.Records.{count, vector, guard}
 use Rattle.dc_talk.specs.Trails.{applied, stopped}
-use Rattle.dc_talk.specs.Answers.{fits, lacking, waiting, commit_answer, deliver_answer, is_switch, up_answer, row, answer}
+use Rattle.dc_talk.specs.Answers.{fits, lacking, commit_answer, deliver_answer, is_switch, row, answer}
 
 -- ---- refusals for what is lacking
 
--- the refusal for the first lack, where there is one
-abbrev refusal : (ℕ → ℕ → ℕ → Say) → List ℕ → List ℕ → Option Say
-refusal refuse have need = option_map (λ (lack : Lack). refuse lack.centre lack.need lack.have) (lack_of have need)
-
 -- what holds of each such refusal, holds of this one
-pub lack_holds : (P : Say → Type 0) (refuse : ℕ → ℕ → ℕ → Say) → ((centre need have : ℕ) → P (refuse centre need have)) → (have need : List ℕ) (say : Say) → refusal refuse have need ≡ Some say → P say
+pub lack_holds : (P : Say → Type 0) (refuse : ℕ → ℕ → ℕ → Say) → ((centre need have : ℕ) → P (refuse centre need have)) → (have need : List ℕ) (say : Say) → lacking refuse have need ≡ Some say → P say
 lack_holds P refuse each have need say is = go (lack_of have need) is
   where
     go : (o : Option Lack) → option_map (λ (lack : Lack). refuse lack.centre lack.need lack.have) o ≡ Some say → P say
@@ -35,7 +32,7 @@ lack_holds P refuse each have need say is = go (lack_of have need) is
     go (Some lack) is = subst P (same_Some (refuse lack.centre lack.need lack.have) say is) (each lack.centre lack.need lack.have)
 
 -- where there is none, all is covered
-pub lack_none : (refuse : ℕ → ℕ → ℕ → Say) (have need : List ℕ) → refusal refuse have need ≡ None → Covers have need
+pub lack_none : (refuse : ℕ → ℕ → ℕ → Say) (have need : List ℕ) → lacking refuse have need ≡ None → Covers have need
 lack_none refuse have need is = covers-true have need (lack_of-none have need (go (lack_of have need) is))
   where
     go : (o : Option Lack) → option_map (λ (lack : Lack). refuse lack.centre lack.need lack.have) o ≡ None → o ≡ None
@@ -43,40 +40,40 @@ lack_none refuse have need is = covers-true have need (lack_of-none have need (g
     go (Some lack) is = absurd (none-some _ (sym is))
 
 -- where all is covered there is none, and everything holds of it
-pub lack_fails : (P : Say → Type 0) (refuse : ℕ → ℕ → ℕ → Say) (have need : List ℕ) → Covers have need → (say : Say) → refusal refuse have need ≡ Some say → P say
+pub lack_fails : (P : Say → Type 0) (refuse : ℕ → ℕ → ℕ → Say) (have need : List ℕ) → Covers have need → (say : Say) → lacking refuse have need ≡ Some say → P say
 lack_fails P refuse have need le say is = absurd (none-some say (sym (ap (option_map (λ (lack : Lack). refuse lack.centre lack.need lack.have)) (lack_of_covered have need (covers_from have need le))) ∙ is))
 
 -- ---- the answers of a running centre
 
 -- the refusals of a commit, in the order in which they are tried
-abbrev pub commit_choices : ℕ → ℕ → ℕ → List Record → Tx → List (Option Say)
-commit_choices me n limit A tx =
+abbrev pub commit_choices : Settings → List Record → Tx → List (Option Say)
+commit_choices s A tx =
     when (nat_le tx.dot.number (guard tx.dot.client A)) (Known (guard tx.dot.client A))
     ∷ when (nat_le (guard tx.dot.client A + 2) tx.dot.number) (OutOfOrder (guard tx.dot.client A))
-    ∷ lacking (vector n A) tx.snap
-    ∷ when (nat_le limit (count me A)) (Full limit)
+    ∷ lacking Lacks (vector s.n A) tx.snap
+    ∷ when (nat_le s.limit (count s.me A)) (Full s.limit)
     ∷ []
 
 -- what holds of each of them, and of a stamp, holds of the answer to a commit
-pub commit_holds : (P : Say → Type 0) (me n limit : ℕ) (A : List Record) (tx : Tx) → EachChoice P (commit_choices me n limit A tx) (Stamped (record { centre = me; seq = count me A + 1 })) → P (commit_answer me n limit A tx)
-commit_holds P me n limit A tx each = first_of_holds P (commit_choices me n limit A tx) (Stamped (record { centre = me; seq = count me A + 1 })) each
+pub commit_holds : (P : Say → Type 0) (s : Settings) (A : List Record) (tx : Tx) → EachChoice P (commit_choices s A tx) (Stamped (record { centre = s.me; seq = count s.me A + 1 })) → P (commit_answer s A tx)
+commit_holds P s A tx each = first_of_holds P (commit_choices s A tx) (Stamped (record { centre = s.me; seq = count s.me A + 1 })) each
 
 -- the refusals of a delivery, in the order in which they are tried
-abbrev pub deliver_choices : ℕ → ℕ → List Record → Record → List (Option Say)
-deliver_choices me n A item =
+abbrev pub deliver_choices : Settings → List Record → Record → List (Option Say)
+deliver_choices s A item =
     when (nat_le item.stamp.seq (count item.stamp.centre A)) (Old (count item.stamp.centre A))
-    ∷ when (nat_le (count item.stamp.centre A + 2) item.stamp.seq || (item.stamp.centre == me)) (Gap (count item.stamp.centre A))
-    ∷ waiting (vector n A) item.deps
+    ∷ when (nat_le (count item.stamp.centre A + 2) item.stamp.seq || (item.stamp.centre == s.me)) (Gap (count item.stamp.centre A))
+    ∷ lacking Waits (vector s.n A) item.deps
     ∷ when (nat_le (guard item.tx.dot.client A + 2) item.tx.dot.number) (Orphan item.tx.dot.number (guard item.tx.dot.client A))
     ∷ []
 
 -- what holds of each of them, and of a record that is applied, holds of the answer to a delivery
-pub deliver_holds : (P : Say → Type 0) (me n : ℕ) (A : List Record) (item : Record) → EachChoice P (deliver_choices me n A item) (Applied (item.tx.dot.number == guard item.tx.dot.client A + 1)) → P (deliver_answer me n A item)
-deliver_holds P me n A item each = first_of_holds P (deliver_choices me n A item) (Applied (item.tx.dot.number == guard item.tx.dot.client A + 1)) each
+pub deliver_holds : (P : Say → Type 0) (s : Settings) (A : List Record) (item : Record) → EachChoice P (deliver_choices s A item) (Applied (item.tx.dot.number == guard item.tx.dot.client A + 1)) → P (deliver_answer s A item)
+deliver_holds P s A item each = first_of_holds P (deliver_choices s A item) (Applied (item.tx.dot.number == guard item.tx.dot.client A + 1)) each
 
 -- what holds of a refusal for what is lacking, and of the last resort where nothing is, holds of the first of the two
-pub unless_lacking : (P : Say → Type 0) (have need : List ℕ) (last : Say) → ((centre n h : ℕ) → P (Lacks centre n h)) → (Covers have need → P last) → P (first_of (lacking have need ∷ []) last)
-unless_lacking P have need last lacks covered = first_of_holds P (lacking have need ∷ []) last (lack_holds P Lacks lacks have need, λ none. covered (lack_none Lacks have need none))
+pub unless_lacking : (P : Say → Type 0) (have need : List ℕ) (last : Say) → ((centre n h : ℕ) → P (Lacks centre n h)) → (Covers have need → P last) → P (first_of (lacking Lacks have need ∷ []) last)
+unless_lacking P have need last lacks covered = first_of_holds P (lacking Lacks have need ∷ []) last (lack_holds P Lacks lacks have need, λ none. covered (lack_none Lacks have need none))
 
 -- the answers that a running centre may give to an ask that fits
 abbrev pub may_answer : Ask → Say → Bool
@@ -104,52 +101,52 @@ may_answer Start Started = true
 may_answer _ _ = false
 
 -- it gives one of these
-pub row_answers : (me n k limit : ℕ) (trail : List Entry) (ask : Ask) → may_answer ask (row me n k limit trail ask) ≡ true
-row_answers me n k limit trail (Hello client need) = unless_lacking (λ say. may_answer (Hello client need) say ≡ true) (vector n (applied n trail)) need _ (λ c n h. refl) (λ covered. refl)
-row_answers me n k limit trail (Refresh client here) = unless_lacking (λ say. may_answer (Refresh client here) say ≡ true) (vector n (applied n trail)) here _ (λ c n h. refl) (λ covered. refl)
-row_answers me n k limit trail (Fetch object here) = unless_lacking (λ say. may_answer (Fetch object here) say ≡ true) (vector n (applied n trail)) here _ (λ c n h. refl) (λ covered. refl)
-row_answers me n k limit trail (Commit tx) = commit_holds (λ say. may_answer (Commit tx) say ≡ true) me n limit (applied n trail) tx
-    (when_holds _ _ _ (λ t. refl), λ z. (when_holds _ _ _ (λ t. refl), λ z. (lack_holds _ Lacks (λ c n h. refl) (vector n (applied n trail)) tx.snap, λ z. (when_holds _ _ _ (λ t. refl), λ z. refl))))
-row_answers me n k limit trail (Send after most) = refl
-row_answers me n k limit trail (Deliver item) = deliver_holds (λ say. may_answer (Deliver item) say ≡ true) me n (applied n trail) item
-    (when_holds _ _ _ (λ t. refl), λ z. (when_holds _ _ _ (λ t. refl), λ z. (lack_holds _ Waits (λ c n h. refl) (vector n (applied n trail)) item.deps, λ z. (when_holds _ _ _ (λ t. refl), λ z. refl))))
-row_answers me n k limit trail Report = refl
-row_answers me n k limit trail (Learn from news) = refl
-row_answers me n k limit trail Stop = refl
-row_answers me n k limit trail Start = refl
+pub row_answers : (s : Settings) (trail : List Entry) (ask : Ask) → may_answer ask (row s trail ask) ≡ true
+row_answers s trail (Hello client need) = unless_lacking (λ say. may_answer (Hello client need) say ≡ true) (vector s.n (applied s.n trail)) need _ (λ c m h. refl) (λ covered. refl)
+row_answers s trail (Refresh client here) = unless_lacking (λ say. may_answer (Refresh client here) say ≡ true) (vector s.n (applied s.n trail)) here _ (λ c m h. refl) (λ covered. refl)
+row_answers s trail (Fetch object here) = unless_lacking (λ say. may_answer (Fetch object here) say ≡ true) (vector s.n (applied s.n trail)) here _ (λ c m h. refl) (λ covered. refl)
+row_answers s trail (Commit tx) = commit_holds (λ say. may_answer (Commit tx) say ≡ true) s (applied s.n trail) tx
+    (when_holds _ _ _ (λ t. refl), λ z. (when_holds _ _ _ (λ t. refl), λ z. (lack_holds _ Lacks (λ c m h. refl) (vector s.n (applied s.n trail)) tx.snap, λ z. (when_holds _ _ _ (λ t. refl), λ z. refl))))
+row_answers s trail (Send after most) = refl
+row_answers s trail (Deliver item) = deliver_holds (λ say. may_answer (Deliver item) say ≡ true) s (applied s.n trail) item
+    (when_holds _ _ _ (λ t. refl), λ z. (when_holds _ _ _ (λ t. refl), λ z. (lack_holds _ Waits (λ c m h. refl) (vector s.n (applied s.n trail)) item.deps, λ z. (when_holds _ _ _ (λ t. refl), λ z. refl))))
+row_answers s trail Report = refl
+row_answers s trail (Learn from news) = refl
+row_answers s trail Stop = refl
+row_answers s trail Start = refl
 
 -- ---- the answer
 
 -- the answer to an ask that fits is that of a running centre, or of a stopped one
-pub answer_holds : (P : Say → Type 0) (me n k limit : ℕ) (trail : List Entry) (ask : Ask) → fits n ask ≡ true → P Down → P (row me n k limit trail ask) → P (answer me n k limit trail ask)
+pub answer_holds : (P : Say → Type 0) (s : Settings) (trail : List Entry) (ask : Ask) → fits s.n ask ≡ true → P Down → P (row s trail ask) → P (answer s trail ask)
 unfolding answer
-answer_holds P me n k limit trail ask fit down up = subst (λ t. P (cond t (up_answer me n k limit trail ask) Misfit)) (sym fit) (go (stopped trail && not (is_switch ask)))
+answer_holds P s trail ask fit down up = subst (λ t. P (cond t (cond (stopped trail && not (is_switch ask)) Down (row s trail ask)) Misfit)) (sym fit) (go (stopped trail && not (is_switch ask)))
   where
-    go : (t : Bool) → P (cond t Down (row me n k limit trail ask))
+    go : (t : Bool) → P (cond t Down (row s trail ask))
     go true = down
     go false = up
 
 -- an answer other than a misfit or a refusal of a stopped centre is that of a running one, to an ask that fits
-pub fitting : (me n k limit : ℕ) (trail : List Entry) (ask : Ask) (say : Say) → say ≡ answer me n k limit trail ask → (say ≡ Misfit → ⊥) → (say ≡ Down → ⊥) → (fits n ask ≡ true) × (say ≡ row me n k limit trail ask)
+pub fitting : (s : Settings) (trail : List Entry) (ask : Ask) (say : Say) → say ≡ answer s trail ask → (say ≡ Misfit → ⊥) → (say ≡ Down → ⊥) → (fits s.n ask ≡ true) × (say ≡ row s trail ask)
 unfolding answer
-fitting me n k limit trail ask say is fits_not down_not = go (fits n ask) refl is
+fitting s trail ask say is fits_not down_not = go (fits s.n ask) refl is
   where
-    up : (b : Bool) → say ≡ cond b Down (row me n k limit trail ask) → say ≡ row me n k limit trail ask
+    up : (b : Bool) → say ≡ cond b Down (row s trail ask) → say ≡ row s trail ask
     up true is = absurd (down_not is)
     up false is = is
 
-    go : (b : Bool) → fits n ask ≡ b → say ≡ cond b (up_answer me n k limit trail ask) Misfit → (fits n ask ≡ true) × (say ≡ row me n k limit trail ask)
+    go : (b : Bool) → fits s.n ask ≡ b → say ≡ cond b (cond (stopped trail && not (is_switch ask)) Down (row s trail ask)) Misfit → (fits s.n ask ≡ true) × (say ≡ row s trail ask)
     go true fit is = (fit, up (stopped trail && not (is_switch ask)) is)
     go false fit is = absurd (fits_not is)
 
 -- so it is one that a running centre may give
-pub answers_it : (me n k limit : ℕ) (trail : List Entry) (ask : Ask) (say : Say) → say ≡ answer me n k limit trail ask → (say ≡ Misfit → ⊥) → (say ≡ Down → ⊥) → may_answer ask say ≡ true
-answers_it me n k limit trail ask say is fits_not down_not = ap (may_answer ask) (fitting me n k limit trail ask say is fits_not down_not).1 ∙ row_answers me n k limit trail ask
+pub answers_it : (s : Settings) (trail : List Entry) (ask : Ask) (say : Say) → say ≡ answer s trail ask → (say ≡ Misfit → ⊥) → (say ≡ Down → ⊥) → may_answer ask say ≡ true
+answers_it s trail ask say is fits_not down_not = ap (may_answer ask) (fitting s trail ask say is fits_not down_not).1 ∙ row_answers s trail ask
 
 -- an ask that fits is not answered by a misfit
-pub no_misfit : (me n k limit : ℕ) (trail : List Entry) (ask : Ask) → fits n ask ≡ true → answer me n k limit trail ask ≡ Misfit → ⊥
-no_misfit me n k limit trail ask fit = answer_holds (λ say. say ≡ Misfit → ⊥) me n k limit trail ask fit (λ e. cc)
-    (λ e. false≢true (sym (none ask) ∙ (ap (may_answer ask) (sym e) ∙ row_answers me n k limit trail ask)))
+pub no_misfit : (s : Settings) (trail : List Entry) (ask : Ask) → fits s.n ask ≡ true → answer s trail ask ≡ Misfit → ⊥
+no_misfit s trail ask fit = answer_holds (λ say. say ≡ Misfit → ⊥) s trail ask fit (λ e. cc)
+    (λ e. false≢true (sym (none ask) ∙ (ap (may_answer ask) (sym e) ∙ row_answers s trail ask)))
   where
     none : (ask : Ask) → may_answer ask Misfit ≡ false
     none (Hello client need) = refl

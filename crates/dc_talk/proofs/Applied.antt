@@ -18,9 +18,10 @@ use Rattle.dc_talk.specs.declared.ask.Ask.{Ask}
 use Rattle.dc_talk.specs.declared.ask.Ask.TheVariants.{Commit, Deliver}
 use Rattle.dc_talk.specs.declared.say.Say.{Say}
 use Rattle.dc_talk.specs.declared.say.Say.TheVariants.{Stamped, Applied}
-use Rattle.dc_talk.specs.declared.trail.Entry.{Entry}
+use Rattle.dc_talk.specs.declared.settings.Settings.{Settings}
+use Rattle.dc_talk.specs.Entries.{Entry}
 use Rattle.dc_talk.specs.Records.{count, guard, first_stamp, joined, deps_of}
-use Rattle.dc_talk.specs.Trails.{committed_in, stamp_in, delivered_in, is_applied, stamped, received, grown, applied}
+use Rattle.dc_talk.specs.Trails.{grown, applied}
 use Rattle.dc_talk.specs.Answers.{answer, History}
 use Rattle.dc_talk.specs.Laws.{IsCentreHistory, IsInOrder}
 use Rattle.dc_talk.proofs.Counts.{stamp_counted}
@@ -35,18 +36,18 @@ abbrev pub new_record : ℕ → List Record → Tx → Stamp → Record
 new_record n A tx stamp = record { stamp = stamp; deps = deps_of n A tx; tx = tx }
 
 -- what holds of no record, and still holds with one more that was stamped or came, holds of the applied list at each moment
-pub by_records : (me n k limit : ℕ) (trail : List Entry) (Q : List Record → Type 0) → History me n k limit trail → Q []
-    → ((p : ℕ) (entry : Entry) (tx : Tx) (stamp : Stamp) → slice_get trail p ≡ Some entry → entry.ask ≡ Commit tx → StampedBy me n limit (applied n (take p trail)) tx stamp → Q (applied n (take p trail)) → Q (applied n (take p trail) ++ new_record n (applied n (take p trail)) tx stamp ∷ []))
-    → ((p : ℕ) (entry : Entry) (item : Record) (fresh : Bool) → slice_get trail p ≡ Some entry → entry.ask ≡ Deliver item → AppliedBy me n (applied n (take p trail)) item fresh → Q (applied n (take p trail)) → Q (applied n (take p trail) ++ item ∷ []))
-    → (p : ℕ) → Q (applied n (take p trail))
-by_records me n k limit trail Q history start made came = by_moments (λ X. Q (applied n X)) trail start step
+pub by_records : (s : Settings) (trail : List Entry) (Q : List Record → Type 0) → History s trail → Q []
+    → ((p : ℕ) (entry : Entry) (tx : Tx) (stamp : Stamp) → slice_get trail p ≡ Some entry → entry.ask ≡ Commit tx → StampedBy s (applied s.n (take p trail)) tx stamp → Q (applied s.n (take p trail)) → Q (applied s.n (take p trail) ++ new_record s.n (applied s.n (take p trail)) tx stamp ∷ []))
+    → ((p : ℕ) (entry : Entry) (item : Record) (fresh : Bool) → slice_get trail p ≡ Some entry → entry.ask ≡ Deliver item → AppliedBy s (applied s.n (take p trail)) item fresh → Q (applied s.n (take p trail)) → Q (applied s.n (take p trail) ++ item ∷ []))
+    → (p : ℕ) → Q (applied s.n (take p trail))
+by_records s trail Q history start made came = by_moments (λ X. Q (applied s.n X)) trail start step
   where
-    step : (p : ℕ) (entry : Entry) → slice_get trail p ≡ Some entry → Q (applied n (take p trail)) → Q (applied n (take p trail ++ entry ∷ []))
-    step p entry there h = subst Q (sym (fold_push (grown n) [] (take p trail) entry)) (go entry.ask refl entry.say refl)
+    step : (p : ℕ) (entry : Entry) → slice_get trail p ≡ Some entry → Q (applied s.n (take p trail)) → Q (applied s.n (take p trail ++ entry ∷ []))
+    step p entry there h = subst Q (sym (fold_push (λ A entry. grown s.n A entry.ask entry.say) [] (take p trail) entry)) (go entry.ask refl entry.say refl)
       where
-        go : (ask : Ask) → entry.ask ≡ ask → (say : Say) → entry.say ≡ say → Q (received (stamped n (applied n (take p trail)) (committed_in ask) (stamp_in say)) (delivered_in ask) (is_applied say))
-        go (Commit tx) asks (Stamped stamp) says = made p entry tx stamp there asks (stamped_by me n k limit (take p trail) tx stamp (sym says ∙ (history.by p entry there ∙ ap (answer me n k limit (take p trail)) asks))) h
-        go (Deliver item) asks (Applied fresh) says = came p entry item fresh there asks (applied_by me n k limit (take p trail) item fresh (sym says ∙ (history.by p entry there ∙ ap (answer me n k limit (take p trail)) asks))) h
+        go : (ask : Ask) → entry.ask ≡ ask → (say : Say) → entry.say ≡ say → Q (grown s.n (applied s.n (take p trail)) ask say)
+        go (Commit tx) asks (Stamped stamp) says = made p entry tx stamp there asks (stamped_by s (take p trail) tx stamp (sym says ∙ (history.holds p entry there ∙ ap (answer s (take p trail)) asks))) h
+        go (Deliver item) asks (Applied fresh) says = came p entry item fresh there asks (applied_by s (take p trail) item fresh (sym says ∙ (history.holds p entry there ∙ ap (answer s (take p trail)) asks))) h
         go _ asks _ says = h
 
 -- centre me stamped the record for a commit that stands in its trail
@@ -66,22 +67,22 @@ pub record WasDelivered (me : ℕ) (trail : List Entry) (r : Record) : Type 0 wh
   pub other : r.stamp.centre ≡ me → ⊥
 
 -- each record of an applied list was stamped by its centre or delivered to it
-pub came_by : (me n k limit : ℕ) (trail : List Entry) → History me n k limit trail → (p : ℕ) (r : Record) → In r (applied n (take p trail)) → WasStamped me trail r ⊎ WasDelivered me trail r
-came_by me n k limit trail history = by_records me n k limit trail (λ A. (r : Record) → In r A → WasStamped me trail r ⊎ WasDelivered me trail r) history (λ r i. absurd i)
-    (λ p entry tx stamp there asks by rest r i. ⊎_elim (rest r) (λ same. subst (λ r. WasStamped me trail r ⊎ WasDelivered me trail r) (sym same) (inl (record { place = p; entry = entry; there = there; asks = asks; own = ap (λ (s : Stamp). s.centre) by.is }))) (In_more (applied n (take p trail)) (new_record n (applied n (take p trail)) tx stamp) r i))
-    (λ p entry item fresh there asks by rest r i. ⊎_elim (rest r) (λ same. subst (λ r. WasStamped me trail r ⊎ WasDelivered me trail r) (sym same) (inr (record { place = p; entry = entry; there = there; asks = asks; other = by.other }))) (In_more (applied n (take p trail)) item r i))
+pub came_by : (s : Settings) (trail : List Entry) → History s trail → (p : ℕ) (r : Record) → In r (applied s.n (take p trail)) → WasStamped s.me trail r ⊎ WasDelivered s.me trail r
+came_by s trail history = by_records s trail (λ A. (r : Record) → In r A → WasStamped s.me trail r ⊎ WasDelivered s.me trail r) history (λ r i. absurd i)
+    (λ p entry tx stamp there asks by rest r i. ⊎_elim (rest r) (λ same. subst (λ r. WasStamped s.me trail r ⊎ WasDelivered s.me trail r) (sym same) (inl (record { place = p; entry = entry; there = there; asks = asks; own = ap (λ (s : Stamp). s.centre) by.is }))) (In_more (applied s.n (take p trail)) (new_record s.n (applied s.n (take p trail)) tx stamp) r i))
+    (λ p entry item fresh there asks by rest r i. ⊎_elim (rest r) (λ same. subst (λ r. WasStamped s.me trail r ⊎ WasDelivered s.me trail r) (sym same) (inr (record { place = p; entry = entry; there = there; asks = asks; other = by.other }))) (In_more (applied s.n (take p trail)) item r i))
 
 -- ---- each record is in order
 
-module _ (me n k limit : ℕ) (trail : List Entry) (history : IsCentreHistory me n k limit trail) where
+module _ (s : Settings) (trail : List Entry) (history : IsCentreHistory s trail) where
   -- a record that came
-  came : (A : List Record) (item : Record) (fresh : Bool) → Each (IsInOrder me n) A → AppliedBy me n A item fresh → IsInOrder me n A item
+  came : (A : List Record) (item : Record) (fresh : Bool) → Each (IsInOrder s) A → AppliedBy s A item fresh → IsInOrder s A item
   came A item fresh each by = record {
     centre = by.fit.centre;
     number = by.number;
     few = by.fit.seq.1;
     width = by.fit.width;
-    waited = λ e. let over = by.covered.by e in let counts = at-tabulate_le n e (λ e. count e A) in omega (arith, over, counts);
+    waited = λ e. let over = by.covered.holds e in let counts = at-tabulate_le s.n e (λ e. count e A) in omega (arith, over, counts);
     fit = by.fit.fit;
     next = by.next;
     made = λ same. absurd (by.other same);
@@ -89,45 +90,45 @@ module _ (me n k limit : ℕ) (trail : List Entry) (history : IsCentreHistory me
 
   -- the dependency vector of a transaction: within the counts, over the snapshot, and over the first stamp of the one before
   record IsDeps (A : List Record) (tx : Tx) (deps : List ℕ) : Type 0 where
-    width : length deps ≡ n
+    width : length deps ≡ s.n
     waited : (e : ℕ) → at deps e ≤ count e A
     snap : Covers deps tx.snap
-    before : 2 ≤ tx.dot.number → (s : Stamp) × (first_stamp (record { client = tx.dot.client; number = tx.dot.number - 1 }) A ≡ Some s) × (s.seq ≤ at deps s.centre)
+    before : 2 ≤ tx.dot.number → (first : Stamp) × (first_stamp (record { client = tx.dot.client; number = tx.dot.number - 1 }) A ≡ Some first) × (first.seq ≤ at deps first.centre)
 
   -- the snapshot lies within the counts
-  snap_counted : (A : List Record) (tx : Tx) (stamp : Stamp) → StampedBy me n limit A tx stamp → (e : ℕ) → at tx.snap e ≤ count e A
-  snap_counted A tx stamp by e = let over = by.covered.by e in let counts = at-tabulate_le n e (λ e. count e A) in omega (arith, over, counts)
+  snap_counted : (A : List Record) (tx : Tx) (stamp : Stamp) → StampedBy s A tx stamp → (e : ℕ) → at tx.snap e ≤ count e A
+  snap_counted A tx stamp by e = let over = by.covered.holds e in let counts = at-tabulate_le s.n e (λ e. count e A) in omega (arith, over, counts)
 
   -- with the first stamp of a transaction that is there
-  with_first : (A : List Record) (tx : Tx) (stamp s : Stamp) (r : Record) → Each (IsInOrder me n) A → StampedBy me n limit A tx stamp → In r A → r.stamp ≡ s → first_stamp (record { client = tx.dot.client; number = tx.dot.number - 1 }) A ≡ Some s → IsDeps A tx (join_of tx.snap (only n s))
-  with_first A tx stamp s r each by there same is = record {
-    width = let wide = length-join_of tx.snap (only n s) in let one = length-only n s in let snap = by.fit.width in omega (arith, wide, one, snap);
-    waited = λ e. let both = at-join_of tx.snap (only n s) e in let snap = snap_counted A tx stamp by e in let one = only_counted e in omega (arith, both, snap, one);
-    snap = record { by = λ e. let both = at-join_of tx.snap (only n s) e in omega (arith, both) };
-    before = λ two. (s, is, (let both = at-join_of tx.snap (only n s) s.centre in let one = at-only_same n s low high in omega (arith, both, one)));
+  with_first : (A : List Record) (tx : Tx) (stamp one : Stamp) (r : Record) → Each (IsInOrder s) A → StampedBy s A tx stamp → In r A → r.stamp ≡ one → first_stamp (record { client = tx.dot.client; number = tx.dot.number - 1 }) A ≡ Some one → IsDeps A tx (join_of tx.snap (only s.n one))
+  with_first A tx stamp one r each by there same is = record {
+    width = let wide = length-join_of tx.snap (only s.n one) in let single = length-only s.n one in let snap = by.fit.width in omega (arith, wide, single, snap);
+    waited = λ e. let both = at-join_of tx.snap (only s.n one) e in let snap = snap_counted A tx stamp by e in let single = only_counted e in omega (arith, both, snap, single);
+    snap = record { holds = λ e. let both = at-join_of tx.snap (only s.n one) e in omega (arith, both) };
+    before = λ two. (one, is, (let both = at-join_of tx.snap (only s.n one) one.centre in let single = at-only_same s.n one low high in omega (arith, both, single)));
   }
     where
-      place : IsInOrder me n (take (In_get A r there).0 A) r
-      place = each.by (In_get A r there).0 r (In_get A r there).1
+      place : IsInOrder s (take (In_get A r there).0 A) r
+      place = each.holds (In_get A r there).0 r (In_get A r there).1
 
-      low : 1 ≤ s.centre
-      low = subst (λ s. 1 ≤ s.centre) same place.centre.0
+      low : 1 ≤ one.centre
+      low = subst (λ (at : Stamp). 1 ≤ at.centre) same place.centre.0
 
-      high : s.centre ≤ n
-      high = subst (λ s. s.centre ≤ n) same place.centre.1
+      high : one.centre ≤ s.n
+      high = subst (λ (at : Stamp). at.centre ≤ s.n) same place.centre.1
 
-      counted : s.seq ≤ count s.centre A
-      counted = subst (λ s. s.seq ≤ count s.centre A) same (stamp_counted me n A r each there)
+      counted : one.seq ≤ count one.centre A
+      counted = subst (λ (at : Stamp). at.seq ≤ count at.centre A) same (stamp_counted s A r each there)
 
-      only_counted : (e : ℕ) → at (only n s) e ≤ count e A
-      only_counted e = go (cases_Bool (e == s.centre))
+      only_counted : (e : ℕ) → at (only s.n one) e ≤ count e A
+      only_counted e = go (cases_Bool (e == one.centre))
         where
-          go : ((e == s.centre) ≡ true) ⊎ ((e == s.centre) ≡ false) → at (only n s) e ≤ count e A
-          go (inl t) = subst (λ e. at (only n s) e ≤ count e A) (sym (eqb-true _ _ t)) (let one = at-only_same n s low high in omega (arith, one, counted))
-          go (inr f) = let none = at-only_other n e s (λ same. false≢true (sym f ∙ eq-eqb e s.centre same)) in omega (arith, none)
+          go : ((e == one.centre) ≡ true) ⊎ ((e == one.centre) ≡ false) → at (only s.n one) e ≤ count e A
+          go (inl t) = subst (λ e. at (only s.n one) e ≤ count e A) (sym (eqb-true _ _ t)) (let single = at-only_same s.n one low high in omega (arith, single, counted))
+          go (inr f) = let none = at-only_other s.n e one (λ same. false≢true (sym f ∙ eq-eqb e one.centre same)) in omega (arith, none)
 
   -- the dependency vector that a centre gives
-  deps_are : (A : List Record) (tx : Tx) (stamp : Stamp) → Each (IsInOrder me n) A → StampedBy me n limit A tx stamp → IsDeps A tx (deps_of n A tx)
+  deps_are : (A : List Record) (tx : Tx) (stamp : Stamp) → Each (IsInOrder s) A → StampedBy s A tx stamp → IsDeps A tx (deps_of s.n A tx)
   deps_are A tx stamp each by = go (cases_Bool (nat_le 2 tx.dot.number))
     where
       last : Dot
@@ -139,33 +140,33 @@ module _ (me n k limit : ℕ) (trail : List Entry) (history : IsCentreHistory me
       same_number : guard tx.dot.client A ≡ tx.dot.number - 1
       same_number = let number = by.number in omega (arith, number)
 
-      first : 2 ≤ tx.dot.number → (s : Stamp) × (first_stamp previous A ≡ Some s)
+      first : 2 ≤ tx.dot.number → (first : Stamp) × (first_stamp previous A ≡ Some first)
       first two = first_there tx.dot.client (tx.dot.number - 1) A (omega (arith, two)) (sym same_number)
 
-      go : (nat_le 2 tx.dot.number ≡ true) ⊎ (nat_le 2 tx.dot.number ≡ false) → IsDeps A tx (deps_of n A tx)
+      go : (nat_le 2 tx.dot.number ≡ true) ⊎ (nat_le 2 tx.dot.number ≡ false) → IsDeps A tx (deps_of s.n A tx)
       go (inl t) =
           let f = first (leb-true 2 tx.dot.number t) in
           let r = first_stamp_is previous A f.0 f.1 in
           let known : first_stamp last A ≡ Some f.0 = ap (λ m. first_stamp (record { client = tx.dot.client; number = m }) A) same_number ∙ f.1 in
-          let is : deps_of n A tx ≡ join_of tx.snap (only n f.0) = ap (λ b. cond b (joined n tx.snap (first_stamp last A)) tx.snap) t ∙ ap (joined n tx.snap) known in
+          let is : deps_of s.n A tx ≡ join_of tx.snap (only s.n f.0) = ap (λ b. cond b (joined s.n tx.snap (first_stamp last A)) tx.snap) t ∙ ap (joined s.n tx.snap) known in
           subst (λ d. IsDeps A tx d) (sym is) (with_first A tx stamp f.0 r.0 each by r.1 r.2 f.1)
       go (inr f) =
-          let is : deps_of n A tx ≡ tx.snap = ap (λ b. cond b (joined n tx.snap (first_stamp last A)) tx.snap) f in
+          let is : deps_of s.n A tx ≡ tx.snap = ap (λ b. cond b (joined s.n tx.snap (first_stamp last A)) tx.snap) f in
           let one = leb-false 2 tx.dot.number f in
           subst (λ d. IsDeps A tx d) (sym is) (record {
             width = by.fit.width;
             waited = snap_counted A tx stamp by;
-            snap = record { by = λ e. omega arith };
+            snap = record { holds = λ e. omega arith };
             before = λ two. absurd (omega (arith, one, two));
           })
 
   -- a record that was stamped
-  made : (A : List Record) (tx : Tx) (stamp : Stamp) → Each (IsInOrder me n) A → StampedBy me n limit A tx stamp → IsInOrder me n A (new_record n A tx stamp)
+  made : (A : List Record) (tx : Tx) (stamp : Stamp) → Each (IsInOrder s) A → StampedBy s A tx stamp → IsInOrder s A (new_record s.n A tx stamp)
   made A tx stamp each by =
       let d = deps_are A tx stamp each by in
-      let centre : stamp.centre ≡ me = ap (λ (s : Stamp). s.centre) by.is in
-      let seq : stamp.seq ≡ count me A + 1 = ap (λ (s : Stamp). s.seq) by.is in
-      let counts : count stamp.centre A ≡ count me A = ap (λ e. count e A) centre in
+      let centre : stamp.centre ≡ s.me = ap (λ (at : Stamp). at.centre) by.is in
+      let seq : stamp.seq ≡ count s.me A + 1 = ap (λ (at : Stamp). at.seq) by.is in
+      let counts : count stamp.centre A ≡ count s.me A = ap (λ e. count e A) centre in
       let room = by.room in
       let number = by.number in
       let low = history.centre.0 in
@@ -182,11 +183,11 @@ module _ (me n k limit : ℕ) (trail : List Entry) (history : IsCentreHistory me
       }
 
   -- each record of the applied list is in order, at each moment
-  pub in_order_at : (p : ℕ) → Each (IsInOrder me n) (applied n (take p trail))
-  in_order_at = by_records me n k limit trail (λ A. Each (IsInOrder me n) A) history.history (each_none (IsInOrder me n))
-      (λ p entry tx stamp there asks by each. each_more (IsInOrder me n) (applied n (take p trail)) (new_record n (applied n (take p trail)) tx stamp) each (made (applied n (take p trail)) tx stamp each by))
-      (λ p entry item fresh there asks by each. each_more (IsInOrder me n) (applied n (take p trail)) item each (came (applied n (take p trail)) item fresh each by))
+  pub in_order_at : (p : ℕ) → Each (IsInOrder s) (applied s.n (take p trail))
+  in_order_at = by_records s trail (λ A. Each (IsInOrder s) A) history.history (each_none (IsInOrder s))
+      (λ p entry tx stamp there asks by each. each_more (IsInOrder s) (applied s.n (take p trail)) (new_record s.n (applied s.n (take p trail)) tx stamp) each (made (applied s.n (take p trail)) tx stamp each by))
+      (λ p entry item fresh there asks by each. each_more (IsInOrder s) (applied s.n (take p trail)) item each (came (applied s.n (take p trail)) item fresh each by))
 
   -- and in the end
-  pub in_order : Each (IsInOrder me n) (applied n trail)
-  in_order = by_prefixes (λ X. Each (IsInOrder me n) (applied n X)) trail in_order_at
+  pub in_order : Each (IsInOrder s) (applied s.n trail)
+  in_order = by_prefixes (λ X. Each (IsInOrder s) (applied s.n X)) trail in_order_at

@@ -13,7 +13,8 @@ use Rattle.tx_core.proofs.Fits.{fault_of-none}
 use Rattle.dc_talk.specs.declared.ask.Ask.{Ask}
 use Rattle.dc_talk.specs.declared.ask.Ask.TheVariants.{Hello, Refresh, Fetch, Commit}
 use Rattle.dc_talk.specs.declared.say.Say.TheVariants.{Lacks, Welcome, Snap, Object, Known, Stamped}
-use Rattle.dc_talk.specs.declared.trail.Entry.{Entry}
+use Rattle.dc_talk.specs.declared.settings.Settings.{Settings}
+use Rattle.dc_talk.specs.Entries.{Entry}
 use Rattle.dc_talk.specs.Records.{count, vector, guard, top, inside, mine}
 use Rattle.dc_talk.specs.Objects.{state_at}
 use Rattle.dc_talk.specs.Trails.{applied, stable}
@@ -23,25 +24,25 @@ use Rattle.dc_talk.proofs.Answers.{lack_holds, lack_none, unless_lacking, commit
 -- ---- a commit
 
 -- a commit that is stamped after the records A
-pub record StampedBy (me n limit : ℕ) (A : List Record) (tx : Tx) (stamp : Stamp) : Type 0 where
-  pub is : stamp ≡ record { centre = me; seq = count me A + 1 }
-  pub fit : IsFit n tx
+pub record StampedBy (s : Settings) (A : List Record) (tx : Tx) (stamp : Stamp) : Type 0 where
+  pub is : stamp ≡ record { centre = s.me; seq = count s.me A + 1 }
+  pub fit : IsFit s.n tx
   pub number : tx.dot.number ≡ guard tx.dot.client A + 1
-  pub covered : Covers (vector n A) tx.snap
-  pub room : count me A < limit
+  pub covered : Covers (vector s.n A) tx.snap
+  pub room : count s.me A < s.limit
 
 -- equal answers have equal stamps
 same_stamp : (s t : Stamp) → Stamped s ≡ Stamped t → s ≡ t
 same_stamp s t same = cc
 
 -- a stamp comes where no refusal does
-stamped_row : (me n limit : ℕ) (A : List Record) (tx : Tx) (stamp : Stamp) → fits n (Commit tx) ≡ true → Stamped stamp ≡ commit_answer me n limit A tx → StampedBy me n limit A tx stamp
-stamped_row me n limit A tx stamp fit = commit_holds (λ say. Stamped stamp ≡ say → StampedBy me n limit A tx stamp) me n limit A tx (
+stamped_row : (s : Settings) (A : List Record) (tx : Tx) (stamp : Stamp) → fits s.n (Commit tx) ≡ true → Stamped stamp ≡ commit_answer s A tx → StampedBy s A tx stamp
+stamped_row s A tx stamp fit = commit_holds (λ say. Stamped stamp ≡ say → StampedBy s A tx stamp) s A tx (
   when_holds _ _ _ (λ t e. absurd (cc)),
   λ known. (
     when_holds _ _ _ (λ t e. absurd (cc)),
     λ out. (
-      lack_holds _ Lacks (λ c m h e. absurd (cc)) (vector n A) tx.snap,
+      lack_holds _ Lacks (λ c m h e. absurd (cc)) (vector s.n A) tx.snap,
       λ covered. (
         when_holds _ _ _ (λ t e. absurd (cc)),
         λ full e.
@@ -49,10 +50,10 @@ stamped_row me n limit A tx stamp fit = commit_holds (λ say. Stamped stamp ≡ 
             let high = leb-false (guard tx.dot.client A + 2) tx.dot.number (when_none _ _ out) in
             record {
               is = same_stamp stamp _ e;
-              fit = fault_of-none n tx (is_none_true (fault_of n tx) fit);
+              fit = fault_of-none s.n tx (is_none_true (fault_of s.n tx) fit);
               number = omega (arith, low, high);
-              covered = lack_none Lacks (vector n A) tx.snap covered;
-              room = leb-false limit (count me A) (when_none _ _ full);
+              covered = lack_none Lacks (vector s.n A) tx.snap covered;
+              room = leb-false s.limit (count s.me A) (when_none _ _ full);
             },
       ),
     ),
@@ -60,10 +61,10 @@ stamped_row me n limit A tx stamp fit = commit_holds (λ say. Stamped stamp ≡ 
 )
 
 -- what is stamped, by the answer
-pub stamped_by : (me n k limit : ℕ) (trail : List Entry) (tx : Tx) (stamp : Stamp) → Stamped stamp ≡ answer me n k limit trail (Commit tx) → StampedBy me n limit (applied n trail) tx stamp
-stamped_by me n k limit trail tx stamp is =
-    let fit = fitting me n k limit trail (Commit tx) (Stamped stamp) is (λ e. cc) (λ e. cc) in
-    stamped_row me n limit (applied n trail) tx stamp fit.0 fit.1
+pub stamped_by : (s : Settings) (trail : List Entry) (tx : Tx) (stamp : Stamp) → Stamped stamp ≡ answer s trail (Commit tx) → StampedBy s (applied s.n trail) tx stamp
+stamped_by s trail tx stamp is =
+    let fit = fitting s trail (Commit tx) (Stamped stamp) is (λ e. cc) (λ e. cc) in
+    stamped_row s (applied s.n trail) tx stamp fit.0 fit.1
 
 -- a commit that is known after the records A
 pub record KnownBy (n : ℕ) (A : List Record) (tx : Tx) (through : ℕ) : Type 0 where
@@ -75,20 +76,20 @@ same_known : (m o : ℕ) → Known m ≡ Known o → m ≡ o
 same_known m o same = cc
 
 -- a commit is known where its number is no greater than one that is there
-known_row : (me n limit : ℕ) (A : List Record) (tx : Tx) (through : ℕ) → Known through ≡ commit_answer me n limit A tx → KnownBy n A tx through
-known_row me n limit A tx through = commit_holds (λ say. Known through ≡ say → KnownBy n A tx through) me n limit A tx (
+known_row : (s : Settings) (A : List Record) (tx : Tx) (through : ℕ) → Known through ≡ commit_answer s A tx → KnownBy s.n A tx through
+known_row s A tx through = commit_holds (λ say. Known through ≡ say → KnownBy s.n A tx through) s A tx (
   when_holds _ _ _ (λ t e.
       let same = same_known through (guard tx.dot.client A) e in
       record { is = same; low = omega (arith, same, leb-true tx.dot.number (guard tx.dot.client A) t) }),
   λ known. (
     when_holds _ _ _ (λ t e. absurd (cc)),
-    λ out. (lack_holds _ Lacks (λ c m h e. absurd (cc)) (vector n A) tx.snap, λ covered. (when_holds _ _ _ (λ t e. absurd (cc)), λ full e. absurd (cc))),
+    λ out. (lack_holds _ Lacks (λ c m h e. absurd (cc)) (vector s.n A) tx.snap, λ covered. (when_holds _ _ _ (λ t e. absurd (cc)), λ full e. absurd (cc))),
   ),
 )
 
 -- what is known, by the answer
-pub known_by : (me n k limit : ℕ) (trail : List Entry) (tx : Tx) (through : ℕ) → Known through ≡ answer me n k limit trail (Commit tx) → KnownBy n (applied n trail) tx through
-known_by me n k limit trail tx through is = known_row me n limit (applied n trail) tx through (fitting me n k limit trail (Commit tx) (Known through) is (λ e. cc) (λ e. cc)).1
+pub known_by : (s : Settings) (trail : List Entry) (tx : Tx) (through : ℕ) → Known through ≡ answer s trail (Commit tx) → KnownBy s.n (applied s.n trail) tx through
+known_by s trail tx through is = known_row s (applied s.n trail) tx through (fitting s trail (Commit tx) (Known through) is (λ e. cc) (λ e. cc)).1
 
 -- ---- a refresh
 
@@ -104,41 +105,41 @@ snap_asked (Refresh client here) w own_number top_rank is = record { client = cl
 snap_asked _ w own_number top_rank is = absurd (false≢true is)
 
 -- so what is answered with a snapshot is a refresh
-pub refresh_by : (me n k limit : ℕ) (trail : List Entry) (ask : Ask) (w : List ℕ) (own_number top_rank : ℕ) → Snap w own_number top_rank ≡ answer me n k limit trail ask → IsRefresh ask
-refresh_by me n k limit trail ask w own_number top_rank is = snap_asked ask w own_number top_rank (answers_it me n k limit trail ask (Snap w own_number top_rank) is (λ e. cc) (λ e. cc))
+pub refresh_by : (s : Settings) (trail : List Entry) (ask : Ask) (w : List ℕ) (own_number top_rank : ℕ) → Snap w own_number top_rank ≡ answer s trail ask → IsRefresh ask
+refresh_by s trail ask w own_number top_rank is = snap_asked ask w own_number top_rank (answers_it s trail ask (Snap w own_number top_rank) is (λ e. cc) (λ e. cc))
 
 -- a snapshot at vector w for a refresh at `here`, after a trail
-pub record SnapBy (me n k : ℕ) (trail : List Entry) (client : ℕ) (here w : List ℕ) (own_number top_rank : ℕ) : Type 0 where
-  pub width : length here ≡ n
-  pub covered : Covers (vector n (applied n trail)) here
-  pub vector_is : w ≡ join_of here (stable me n k trail)
-  pub mine_is : own_number ≡ mine client (inside (applied n trail) w)
-  pub top_is : top_rank ≡ top (applied n trail)
+pub record SnapBy (s : Settings) (trail : List Entry) (client : ℕ) (here w : List ℕ) (own_number top_rank : ℕ) : Type 0 where
+  pub width : length here ≡ s.n
+  pub covered : Covers (vector s.n (applied s.n trail)) here
+  pub vector_is : w ≡ join_of here (stable s trail)
+  pub mine_is : own_number ≡ mine client (inside (applied s.n trail) w)
+  pub top_is : top_rank ≡ top (applied s.n trail)
 
 -- equal snapshots have equal parts
 same_snap : (v w : List ℕ) (m o t u : ℕ) → Snap v m t ≡ Snap w o u → (v ≡ w) × (m ≡ o) × (t ≡ u)
 same_snap v w m o t u same = (cc, cc, cc)
 
 -- a snapshot, by the answer
-pub snap_by : (me n k limit : ℕ) (trail : List Entry) (client : ℕ) (here w : List ℕ) (own_number top_rank : ℕ) → Snap w own_number top_rank ≡ answer me n k limit trail (Refresh client here) → SnapBy me n k trail client here w own_number top_rank
-snap_by me n k limit trail client here w own_number top_rank is = unless_lacking (λ say. Snap w own_number top_rank ≡ say → SnapBy me n k trail client here w own_number top_rank) (vector n A) here (snap_at A client (join_of here (stable me n k trail)))
+pub snap_by : (s : Settings) (trail : List Entry) (client : ℕ) (here w : List ℕ) (own_number top_rank : ℕ) → Snap w own_number top_rank ≡ answer s trail (Refresh client here) → SnapBy s trail client here w own_number top_rank
+snap_by s trail client here w own_number top_rank is = unless_lacking (λ say. Snap w own_number top_rank ≡ say → SnapBy s trail client here w own_number top_rank) (vector s.n A) here (snap_at A client (join_of here (stable s trail)))
     (λ c m h e. absurd (cc))
     (λ covered e.
-    let s = same_snap w (join_of here (stable me n k trail)) own_number (mine client (inside A (join_of here (stable me n k trail)))) top_rank (top A) e in
+    let same = same_snap w (join_of here (stable s trail)) own_number (mine client (inside A (join_of here (stable s trail)))) top_rank (top A) e in
     record {
-      width = eqb-true (length here) n (and_parts _ _ fit.0).1;
+      width = eqb-true (length here) s.n (and_parts _ _ fit.0).1;
       covered = covered;
-      vector_is = s.0;
-      mine_is = s.1 ∙ ap (λ v. mine client (inside A v)) (sym s.0);
-      top_is = s.2;
+      vector_is = same.0;
+      mine_is = same.1 ∙ ap (λ v. mine client (inside A v)) (sym same.0);
+      top_is = same.2;
     })
     fit.1
   where
     A : List Record
-    A = applied n trail
+    A = applied s.n trail
 
-    fit : (fits n (Refresh client here) ≡ true) × (Snap w own_number top_rank ≡ Rattle.dc_talk.specs.Answers.row me n k limit trail (Refresh client here))
-    fit = fitting me n k limit trail (Refresh client here) (Snap w own_number top_rank) is (λ e. cc) (λ e. cc)
+    fit : (fits s.n (Refresh client here) ≡ true) × (Snap w own_number top_rank ≡ Rattle.dc_talk.specs.Answers.row s trail (Refresh client here))
+    fit = fitting s trail (Refresh client here) (Snap w own_number top_rank) is (λ e. cc) (λ e. cc)
 
 -- ---- a fetch
 
@@ -153,13 +154,13 @@ same_state : (s t : State) → Object s ≡ Object t → s ≡ t
 same_state s t same = cc
 
 -- a state, by the answer
-pub object_by : (me n k limit : ℕ) (trail : List Entry) (o : ObjectId) (here : List ℕ) (state : State) → Object state ≡ answer me n k limit trail (Fetch o here) → ObjectBy n (applied n trail) o here state
-object_by me n k limit trail o here state is =
-    let A = applied n trail in
-    let fit = fitting me n k limit trail (Fetch o here) (Object state) is (λ e. cc) (λ e. cc) in
-    unless_lacking (λ say. Object state ≡ say → ObjectBy n A o here state) (vector n A) here (Object (state_at o A here))
+pub object_by : (s : Settings) (trail : List Entry) (o : ObjectId) (here : List ℕ) (state : State) → Object state ≡ answer s trail (Fetch o here) → ObjectBy s.n (applied s.n trail) o here state
+object_by s trail o here state is =
+    let A = applied s.n trail in
+    let fit = fitting s trail (Fetch o here) (Object state) is (λ e. cc) (λ e. cc) in
+    unless_lacking (λ say. Object state ≡ say → ObjectBy s.n A o here state) (vector s.n A) here (Object (state_at o A here))
     (λ c m h e. absurd (cc))
-    (λ covered e. record { width = eqb-true (length here) n fit.0; covered = covered; is = same_state state (state_at o A here) e })
+    (λ covered e. record { width = eqb-true (length here) s.n fit.0; covered = covered; is = same_state state (state_at o A here) e })
     fit.1
 
 -- ---- a hello
@@ -175,11 +176,11 @@ same_through : (m o : ℕ) → Welcome m ≡ Welcome o → m ≡ o
 same_through m o same = cc
 
 -- a welcome, by the answer
-pub welcome_by : (me n k limit : ℕ) (trail : List Entry) (client : ℕ) (need : List ℕ) (through : ℕ) → Welcome through ≡ answer me n k limit trail (Hello client need) → WelcomeBy n client (applied n trail) need through
-welcome_by me n k limit trail client need through is =
-    let A = applied n trail in
-    let fit = fitting me n k limit trail (Hello client need) (Welcome through) is (λ e. cc) (λ e. cc) in
-    unless_lacking (λ say. Welcome through ≡ say → WelcomeBy n client A need through) (vector n A) need (Welcome (guard client A))
+pub welcome_by : (s : Settings) (trail : List Entry) (client : ℕ) (need : List ℕ) (through : ℕ) → Welcome through ≡ answer s trail (Hello client need) → WelcomeBy s.n client (applied s.n trail) need through
+welcome_by s trail client need through is =
+    let A = applied s.n trail in
+    let fit = fitting s trail (Hello client need) (Welcome through) is (λ e. cc) (λ e. cc) in
+    unless_lacking (λ say. Welcome through ≡ say → WelcomeBy s.n client A need through) (vector s.n A) need (Welcome (guard client A))
     (λ c m h e. absurd (cc))
-    (λ covered e. record { width = eqb-true (length need) n (and_parts _ _ fit.0).1; covered = covered; is = same_through through (guard client A) e })
+    (λ covered e. record { width = eqb-true (length need) s.n (and_parts _ _ fit.0).1; covered = covered; is = same_through through (guard client A) e })
     fit.1

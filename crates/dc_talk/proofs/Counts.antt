@@ -13,6 +13,7 @@ use Rattle.vv_core.proofs.Covering.{Covers-tabulate}
 use Rattle.vv_core.proofs.Entrywise.{at-tabulate_le, length-tabulate}
 use Rattle.vv_core.proofs.Reaching.{count_by-cons}
 use Rattle.tx_core.specs.declared.tx.Record.{Record}
+use Rattle.dc_talk.specs.declared.settings.Settings.{Settings}
 use Rattle.dc_talk.specs.Records.{count, vector, guard, top, own}
 use Rattle.dc_talk.specs.Laws.{HasNumber, IsInOrder}
 
@@ -40,10 +41,10 @@ pub own_length : (e : ℕ) (A : List Record) → length (own e A) ≡ count e A
 own_length e A = length-filter (λ (r : Record). r.stamp.centre == e) A
 
 -- a stamp that is there is within the counts
-pub stamp_counted : (me n : ℕ) (A : List Record) (r : Record) → Each (IsInOrder me n) A → In r A → r.stamp.seq ≤ count r.stamp.centre A
-stamp_counted me n A r each i =
+pub stamp_counted : (g : Settings) (A : List Record) (r : Record) → Each (IsInOrder g) A → In r A → r.stamp.seq ≤ count r.stamp.centre A
+stamp_counted g A r each i =
     let place = In_get A r i in
-    let number = (each.by place.0 r place.1).number in
+    let number = (each.holds place.0 r place.1).number in
     let longer : take (suc place.0) A ≡ take place.0 A ++ r ∷ [] = take_one_more A place.0 r place.1 in
     let below = count_take r.stamp.centre (suc place.0) A in
     let here : cond (r.stamp.centre == r.stamp.centre) 1 0 ≡ suc zero = ap (λ b. cond b 1 0) (eq-eqb r.stamp.centre r.stamp.centre refl) in

@@ -10,33 +10,34 @@ use Rattle.dc_talk.specs.declared.ask.Ask.{Ask}
 use Rattle.dc_talk.specs.declared.ask.Ask.TheVariants.{Commit, Deliver}
 use Rattle.dc_talk.specs.declared.say.Say.{Say}
 use Rattle.dc_talk.specs.declared.say.Say.TheVariants.{Stamped, Applied}
-use Rattle.dc_talk.specs.declared.trail.Entry.{Entry}
+use Rattle.dc_talk.specs.Entries.{Entry}
 use Rattle.dc_talk.specs.Records.{vector, guard, deps_of}
-use Rattle.dc_talk.specs.Trails.{committed_in, stamp_in, delivered_in, is_applied, stamped, received, grown, applied}
+use Rattle.dc_talk.specs.Trails.{grown, applied}
 use Rattle.dc_talk.proofs.Counts.{vector_front, guard_front}
 
 -- one entry puts at most one record behind the others
-grown_more : (n : ℕ) (A : List Record) (entry : Entry) → (Z : List Record) × (grown n A entry ≡ A ++ Z)
-grown_more n A entry = go entry.ask entry.say
-  where
-    go : (ask : Ask) (say : Say) → (Z : List Record) × (received (stamped n A (committed_in ask) (stamp_in say)) (delivered_in ask) (is_applied say) ≡ A ++ Z)
-    go (Commit tx) (Stamped stamp) = (record { stamp = stamp; deps = deps_of n A tx; tx = tx } ∷ [], refl)
-    go (Deliver item) (Applied fresh) = (item ∷ [], refl)
-    go _ _ = ([], sym (append-nil A))
+grown_more : (n : ℕ) (A : List Record) (ask : Ask) (say : Say) → (Z : List Record) × (grown n A ask say ≡ A ++ Z)
+grown_more n A (Commit tx) (Stamped stamp) = (record { stamp = stamp; deps = deps_of n A tx; tx = tx } ∷ [], refl)
+grown_more n A (Deliver item) (Applied fresh) = (item ∷ [], refl)
+grown_more n A _ _ = ([], sym (append-nil A))
+
+-- the applied list after one more entry
+abbrev step : ℕ → List Record → Entry → List Record
+step n A entry = grown n A entry.ask entry.say
 
 -- so do several
-grown_by : (n : ℕ) (A : List Record) (trail : List Entry) → (Z : List Record) × (fold (grown n) A trail ≡ A ++ Z)
+grown_by : (n : ℕ) (A : List Record) (trail : List Entry) → (Z : List Record) × (fold (step n) A trail ≡ A ++ Z)
 grown_by n A [] = ([], sym (append-nil A))
 grown_by n A (entry ∷ trail) =
-    let first = grown_more n A entry in
-    let rest = grown_by n (grown n A entry) trail in
+    let first = grown_more n A entry.ask entry.say in
+    let rest = grown_by n (step n A entry) trail in
     (first.0 ++ rest.0, rest.1 ∙ (ap (λ l. l ++ rest.0) first.1 ∙ append_assoc A first.0 rest.0))
 
 -- the applied list of a trail begins with that of a prefix
 pub applied_front : (n : ℕ) (trail : List Entry) (p : ℕ) → (Z : List Record) × (applied n trail ≡ applied n (take p trail) ++ Z)
 applied_front n trail p =
     let rest = grown_by n (applied n (take p trail)) (drop p trail) in
-    (rest.0, ap (applied n) (sym (take-append-drop p trail)) ∙ (fold-append (grown n) [] (take p trail) (drop p trail) ∙ rest.1))
+    (rest.0, ap (applied n) (sym (take-append-drop p trail)) ∙ (fold-append (step n) [] (take p trail) (drop p trail) ∙ rest.1))
 
 -- that of a longer prefix with that of a shorter one
 pub applied_grows : (n : ℕ) (trail : List Entry) (p q : ℕ) → p ≤ q → (Z : List Record) × (applied n (take q trail) ≡ applied n (take p trail) ++ Z)

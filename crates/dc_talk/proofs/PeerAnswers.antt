@@ -12,7 +12,8 @@ use Rattle.tx_core.proofs.Fits.{fault_of-none, none-fault_of}
 use Rattle.dc_talk.specs.declared.ask.Ask.{Ask}
 use Rattle.dc_talk.specs.declared.ask.Ask.TheVariants.{Send, Deliver, Report}
 use Rattle.dc_talk.specs.declared.say.Say.TheVariants.{Records, Waits, Orphan, Applied, Vector}
-use Rattle.dc_talk.specs.declared.trail.Entry.{Entry}
+use Rattle.dc_talk.specs.declared.settings.Settings.{Settings}
+use Rattle.dc_talk.specs.Entries.{Entry}
 use Rattle.dc_talk.specs.Records.{count, vector, guard, own}
 use Rattle.dc_talk.specs.Trails.{applied}
 use Rattle.dc_talk.specs.Answers.{fits, are_modest, is_fit_item, deliver_answer, answer}
@@ -36,17 +37,17 @@ same_list : (x y : List Record) → Records x ≡ Records y → x ≡ y
 same_list x y same = cc
 
 -- the records of a send are own records of the centre
-pub records_by : (me n k limit : ℕ) (trail : List Entry) (after most : ℕ) (list : List Record) → Records list ≡ answer me n k limit trail (Send after most) → list ≡ take most (drop after (own me (applied n trail)))
-records_by me n k limit trail after most list is = same_list list (take most (drop after (own me (applied n trail)))) (fitting me n k limit trail (Send after most) (Records list) is (λ e. cc) (λ e. cc)).1
+pub records_by : (s : Settings) (trail : List Entry) (after most : ℕ) (list : List Record) → Records list ≡ answer s trail (Send after most) → list ≡ take most (drop after (own s.me (applied s.n trail)))
+records_by s trail after most list is = same_list list (take most (drop after (own s.me (applied s.n trail)))) (fitting s trail (Send after most) (Records list) is (λ e. cc) (λ e. cc)).1
 
 -- so each record that is sent is an own record of the centre
-pub sent_by : (me n k limit : ℕ) (trail : List Entry) (ask : Ask) (list : List Record) (r : Record) → Records list ≡ answer me n k limit trail ask → In r list → In r (own me (applied n trail))
-sent_by me n k limit trail ask list r is i = from_send (records_asked ask list (answers_it me n k limit trail ask (Records list) is (λ e. cc) (λ e. cc)))
+pub sent_by : (s : Settings) (trail : List Entry) (ask : Ask) (list : List Record) (r : Record) → Records list ≡ answer s trail ask → In r list → In r (own s.me (applied s.n trail))
+sent_by s trail ask list r is i = from_send (records_asked ask list (answers_it s trail ask (Records list) is (λ e. cc) (λ e. cc)))
   where
-    from_send : IsSend ask → In r (own me (applied n trail))
-    from_send s =
-        let list_is = records_by me n k limit trail s.after s.most list (subst (λ ask. Records list ≡ answer me n k limit trail ask) s.is is) in
-        In_drop s.after (own me (applied n trail)) r (In_take s.most (drop s.after (own me (applied n trail))) r (subst (λ l. In r l) list_is i))
+    from_send : IsSend ask → In r (own s.me (applied s.n trail))
+    from_send send =
+        let list_is = records_by s trail send.after send.most list (subst (λ ask. Records list ≡ answer s trail ask) send.is is) in
+        In_drop send.after (own s.me (applied s.n trail)) r (In_take send.most (drop send.after (own s.me (applied s.n trail))) r (subst (λ l. In r l) list_is i))
 
 -- ---- a report
 
@@ -60,11 +61,11 @@ same_vector : (v w : List ℕ) → Vector v ≡ Vector w → v ≡ w
 same_vector v w same = cc
 
 -- a vector that is answered is the centre's
-pub vector_by : (me n k limit : ℕ) (trail : List Entry) (ask : Ask) (v : List ℕ) → Vector v ≡ answer me n k limit trail ask → v ≡ vector n (applied n trail)
-vector_by me n k limit trail ask v is = from_report (vector_asked ask v (answers_it me n k limit trail ask (Vector v) is (λ e. cc) (λ e. cc)))
+pub vector_by : (s : Settings) (trail : List Entry) (ask : Ask) (v : List ℕ) → Vector v ≡ answer s trail ask → v ≡ vector s.n (applied s.n trail)
+vector_by s trail ask v is = from_report (vector_asked ask v (answers_it s trail ask (Vector v) is (λ e. cc) (λ e. cc)))
   where
-    from_report : ask ≡ Report → v ≡ vector n (applied n trail)
-    from_report asks = same_vector v (vector n (applied n trail)) (fitting me n k limit trail Report (Vector v) (subst (λ ask. Vector v ≡ answer me n k limit trail ask) asks is) (λ e. cc) (λ e. cc)).1
+    from_report : ask ≡ Report → v ≡ vector s.n (applied s.n trail)
+    from_report asks = same_vector v (vector s.n (applied s.n trail)) (fitting s trail Report (Vector v) (subst (λ ask. Vector v ≡ answer s trail ask) asks is) (λ e. cc) (λ e. cc)).1
 
 -- ---- a delivery
 
@@ -123,8 +124,8 @@ orphan_asked (Deliver item) number have is = record { item = item; is = refl }
 orphan_asked _ number have is = absurd (false≢true is)
 
 -- so what is answered with an orphan is a delivery
-pub delivery_by : (me n k limit : ℕ) (trail : List Entry) (ask : Ask) (number have : ℕ) → Orphan number have ≡ answer me n k limit trail ask → IsDelivery ask
-delivery_by me n k limit trail ask number have is = orphan_asked ask number have (answers_it me n k limit trail ask (Orphan number have) is (λ e. cc) (λ e. cc))
+pub delivery_by : (s : Settings) (trail : List Entry) (ask : Ask) (number have : ℕ) → Orphan number have ≡ answer s trail ask → IsDelivery ask
+delivery_by s trail ask number have is = orphan_asked ask number have (answers_it s trail ask (Orphan number have) is (λ e. cc) (λ e. cc))
 
 -- a delivered record that is an orphan after the records A: what it depends on is there, but not the
 -- transaction before it
@@ -133,30 +134,30 @@ pub record OrphanBy (n : ℕ) (A : List Record) (item : Record) : Type 0 where
   pub far : guard item.tx.dot.client A + 2 ≤ item.tx.dot.number
 
 -- an orphan, by the answer
-pub orphan_by : (me n k limit : ℕ) (trail : List Entry) (item : Record) (number have : ℕ) → Orphan number have ≡ answer me n k limit trail (Deliver item) → OrphanBy n (applied n trail) item
-orphan_by me n k limit trail item number have is = deliver_holds (λ say. Orphan number have ≡ say → OrphanBy n (applied n trail) item) me n (applied n trail) item (
+pub orphan_by : (s : Settings) (trail : List Entry) (item : Record) (number have : ℕ) → Orphan number have ≡ answer s trail (Deliver item) → OrphanBy s.n (applied s.n trail) item
+orphan_by s trail item number have is = deliver_holds (λ say. Orphan number have ≡ say → OrphanBy s.n (applied s.n trail) item) s (applied s.n trail) item (
   when_holds _ _ _ (λ t e. absurd (cc)),
   λ old. (
     when_holds _ _ _ (λ t e. absurd (cc)),
     λ gap. (
-      lack_holds _ Waits (λ c m h e. absurd (cc)) (vector n (applied n trail)) item.deps,
+      lack_holds _ Waits (λ c m h e. absurd (cc)) (vector s.n (applied s.n trail)) item.deps,
       λ waits. (
         when_holds _ _ _ (λ t e. record {
-          covered = lack_none Waits (vector n (applied n trail)) item.deps waits;
-          far = leb-true (guard item.tx.dot.client (applied n trail) + 2) item.tx.dot.number t;
+          covered = lack_none Waits (vector s.n (applied s.n trail)) item.deps waits;
+          far = leb-true (guard item.tx.dot.client (applied s.n trail) + 2) item.tx.dot.number t;
         }),
         λ orphan e. absurd (cc),
       ),
     ),
   ),
-) (fitting me n k limit trail (Deliver item) (Orphan number have) is (λ e. cc) (λ e. cc)).1
+) (fitting s trail (Deliver item) (Orphan number have) is (λ e. cc) (λ e. cc)).1
 
 -- a delivered record that is applied after the records A
-pub record AppliedBy (me n : ℕ) (A : List Record) (item : Record) (fresh : Bool) : Type 0 where
-  pub fit : IsFitItem n item
+pub record AppliedBy (s : Settings) (A : List Record) (item : Record) (fresh : Bool) : Type 0 where
+  pub fit : IsFitItem s.n item
   pub number : item.stamp.seq ≡ count item.stamp.centre A + 1
-  pub other : item.stamp.centre ≡ me → ⊥
-  pub covered : Covers (vector n A) item.deps
+  pub other : item.stamp.centre ≡ s.me → ⊥
+  pub covered : Covers (vector s.n A) item.deps
   pub next : item.tx.dot.number ≤ guard item.tx.dot.client A + 1
   pub is : fresh ≡ (item.tx.dot.number == guard item.tx.dot.client A + 1)
 
@@ -165,13 +166,13 @@ same_fresh : (a b : Bool) → Applied a ≡ Applied b → a ≡ b
 same_fresh a b same = cc
 
 -- a record is applied where no refusal comes
-applied_row : (me n : ℕ) (A : List Record) (item : Record) (fresh : Bool) → fits n (Deliver item) ≡ true → Applied fresh ≡ deliver_answer me n A item → AppliedBy me n A item fresh
-applied_row me n A item fresh fit = deliver_holds (λ say. Applied fresh ≡ say → AppliedBy me n A item fresh) me n A item (
+applied_row : (s : Settings) (A : List Record) (item : Record) (fresh : Bool) → fits s.n (Deliver item) ≡ true → Applied fresh ≡ deliver_answer s A item → AppliedBy s A item fresh
+applied_row s A item fresh fit = deliver_holds (λ say. Applied fresh ≡ say → AppliedBy s A item fresh) s A item (
   when_holds _ _ _ (λ t e. absurd (cc)),
   λ old. (
     when_holds _ _ _ (λ t e. absurd (cc)),
     λ gap. (
-      lack_holds _ Waits (λ c m h e. absurd (cc)) (vector n A) item.deps,
+      lack_holds _ Waits (λ c m h e. absurd (cc)) (vector s.n A) item.deps,
       λ waits. (
         when_holds _ _ _ (λ t e. absurd (cc)),
         λ orphan e.
@@ -180,10 +181,10 @@ applied_row me n A item fresh fit = deliver_holds (λ say. Applied fresh ≡ say
             let high = leb-false (count item.stamp.centre A + 2) item.stamp.seq far.0 in
             let next = leb-false (guard item.tx.dot.client A + 2) item.tx.dot.number (when_none _ _ orphan) in
             record {
-              fit = item_fits n item fit;
+              fit = item_fits s.n item fit;
               number = omega (arith, low, high);
-              other = λ same. false≢true (sym far.1 ∙ eq-eqb item.stamp.centre me same);
-              covered = lack_none Waits (vector n A) item.deps waits;
+              other = λ same. false≢true (sym far.1 ∙ eq-eqb item.stamp.centre s.me same);
+              covered = lack_none Waits (vector s.n A) item.deps waits;
               next = omega (arith, next);
               is = same_fresh fresh _ e;
             },
@@ -193,7 +194,7 @@ applied_row me n A item fresh fit = deliver_holds (λ say. Applied fresh ≡ say
 )
 
 -- what is applied, by the answer
-pub applied_by : (me n k limit : ℕ) (trail : List Entry) (item : Record) (fresh : Bool) → Applied fresh ≡ answer me n k limit trail (Deliver item) → AppliedBy me n (applied n trail) item fresh
-applied_by me n k limit trail item fresh is =
-    let fit = fitting me n k limit trail (Deliver item) (Applied fresh) is (λ e. cc) (λ e. cc) in
-    applied_row me n (applied n trail) item fresh fit.0 fit.1
+pub applied_by : (s : Settings) (trail : List Entry) (item : Record) (fresh : Bool) → Applied fresh ≡ answer s trail (Deliver item) → AppliedBy s (applied s.n trail) item fresh
+applied_by s trail item fresh is =
+    let fit = fitting s trail (Deliver item) (Applied fresh) is (λ e. cc) (λ e. cc) in
+    applied_row s (applied s.n trail) item fresh fit.0 fit.1

@@ -14,6 +14,7 @@ use Rattle.list_core.proofs.Moments.{each_take, by_steps}
 use Rattle.vv_core.specs.declared.stamp.Stamp.{Stamp}
 use Rattle.vv_core.specs.Vectors.{at}
 use Rattle.tx_core.specs.declared.tx.Record.{Record}
+use Rattle.dc_talk.specs.declared.settings.Settings.{Settings}
 use Rattle.dc_talk.specs.Records.{count, guard, own}
 use Rattle.dc_talk.specs.Laws.{HasStamp, HasNumber, IsInOrder, HasNoGaps, HasDependencies, HasNumbersBelow, HasStampsInOrder}
 use Rattle.dc_talk.proofs.Counts.{count_more, guard_more, own_length, stamp_counted}
@@ -21,8 +22,8 @@ use Rattle.dc_talk.proofs.Counts.{count_more, guard_more, own_length, stamp_coun
 -- ---- stamps
 
 -- each number within the counts of a centre is there
-pub have_stamp : (me n : ℕ) (A : List Record) → Each (IsInOrder me n) A → (e k : ℕ) → 1 ≤ k → k ≤ count e A → HasStamp A e k
-have_stamp me n A each = by_steps (λ X. (e k : ℕ) → 1 ≤ k → k ≤ count e X → HasStamp X e k) A (λ e k low high. absurd (omega (arith, low, high))) step
+pub have_stamp : (g : Settings) (A : List Record) → Each (IsInOrder g) A → (e k : ℕ) → 1 ≤ k → k ≤ count e A → HasStamp A e k
+have_stamp g A each = by_steps (λ X. (e k : ℕ) → 1 ≤ k → k ≤ count e X → HasStamp X e k) A (λ e k low high. absurd (omega (arith, low, high))) step
   where
     step : (p : ℕ) (r : Record) → slice_get A p ≡ Some r → ((e k : ℕ) → 1 ≤ k → k ≤ count e (take p A) → HasStamp (take p A) e k) → (e k : ℕ) → 1 ≤ k → k ≤ count e (take p A ++ r ∷ []) → HasStamp (take p A ++ r ∷ []) e k
     step p r there rest e k low high = go (cases_lt (count e (take p A)) k) (cases_Bool (r.stamp.centre == e))
@@ -31,61 +32,61 @@ have_stamp me n A each = by_steps (λ X. (e k : ℕ) → 1 ≤ k → k ≤ count
         X = take p A
 
         go : (count e X < k) ⊎ (k ≤ count e X) → ((r.stamp.centre == e) ≡ true) ⊎ ((r.stamp.centre == e) ≡ false) → HasStamp (X ++ r ∷ []) e k
-        go (inr le) _ = let h = rest e k low le in record { item = h.item; there = In_left X (r ∷ []) h.item h.there; is = h.is }
+        go (inr le) _ = let h = rest e k low le in record { item = h.item; there = In_left X (r ∷ []) h.item h.there; stamp_is = h.stamp_is }
         go (inl lt) (inl t) =
             let more : count e (X ++ r ∷ []) ≡ count e X + 1 = count_more e X r ∙ ap (λ b. count e X + cond b 1 0) t in
             let same : r.stamp.centre ≡ e = eqb-true _ _ t in
             let counts : count r.stamp.centre X ≡ count e X = ap (λ e. count e X) same in
-            let number = (each.by p r there).number in
+            let number = (each.holds p r there).number in
             let seq : r.stamp.seq ≡ k = omega (arith, more, lt, high, counts, number) in
-            record { item = r; there = In_right X (r ∷ []) r (inl refl); is = λ i. record { centre = same i; seq = seq i } }
+            record { item = r; there = In_right X (r ∷ []) r (inl refl); stamp_is = λ i. record { centre = same i; seq = seq i } }
         go (inl lt) (inr f) =
             let more : count e (X ++ r ∷ []) ≡ count e X + 0 = count_more e X r ∙ ap (λ b. count e X + cond b 1 0) f in
             absurd (omega (arith, more, lt, high))
 
 -- so no count is above 1,000,000
-pub count_few : (me n : ℕ) (A : List Record) → Each (IsInOrder me n) A → (e : ℕ) → count e A ≤ 1000000
-count_few me n A each e = go (count e A) refl
+pub count_few : (g : Settings) (A : List Record) → Each (IsInOrder g) A → (e : ℕ) → count e A ≤ 1000000
+count_few g A each e = go (count e A) refl
   where
     go : (c : ℕ) → count e A ≡ c → count e A ≤ 1000000
     go zero is = omega (arith, is)
     go (suc c) is =
-        let h = have_stamp me n A each e (suc c) (omega arith) (omega (arith, is)) in
+        let h = have_stamp g A each e (suc c) (omega arith) (omega (arith, is)) in
         let g = In_get A h.item h.there in
-        omega (arith, is, (each.by g.0 h.item g.1).few, ap (λ (s : Stamp). s.seq) h.is)
+        omega (arith, is, (each.holds g.0 h.item g.1).few, ap (λ (s : Stamp). s.seq) h.stamp_is)
 
 -- a later record of the same centre has a greater number
-later_seq : (me n : ℕ) (A : List Record) → Each (IsInOrder me n) A → (q p : ℕ) (r s : Record) → slice_get A q ≡ Some r → slice_get A p ≡ Some s → r.stamp ≡ s.stamp → q < p → ⊥
-later_seq me n A each q p r s first second same lt =
-    let counted = stamp_counted me n (take p A) r (each_take (IsInOrder me n) A p each) (get_In_take p A q r lt first) in
-    let number = (each.by p s second).number in
+later_seq : (g : Settings) (A : List Record) → Each (IsInOrder g) A → (q p : ℕ) (r s : Record) → slice_get A q ≡ Some r → slice_get A p ≡ Some s → r.stamp ≡ s.stamp → q < p → ⊥
+later_seq g A each q p r s first second same lt =
+    let counted = stamp_counted g (take p A) r (each_take (IsInOrder g) A p each) (get_In_take p A q r lt first) in
+    let number = (each.holds p s second).number in
     let seq : r.stamp.seq ≡ s.stamp.seq = ap (λ (t : Stamp). t.seq) same in
     let counts : count r.stamp.centre (take p A) ≡ count s.stamp.centre (take p A) = ap (λ (t : Stamp). count t.centre (take p A)) same in
     omega (arith, counted, number, seq, counts)
 
 -- two places with one stamp are one
-pub one_place : (me n : ℕ) (A : List Record) → Each (IsInOrder me n) A → (q p : ℕ) (r s : Record) → slice_get A q ≡ Some r → slice_get A p ≡ Some s → r.stamp ≡ s.stamp → q ≡ p
-one_place me n A each q p r s first second same =
+pub one_place : (g : Settings) (A : List Record) → Each (IsInOrder g) A → (q p : ℕ) (r s : Record) → slice_get A q ≡ Some r → slice_get A p ≡ Some s → r.stamp ≡ s.stamp → q ≡ p
+one_place g A each q p r s first second same =
     ⊎_elim
-    (λ lt. absurd (later_seq me n A each q p r s first second same lt))
+    (λ lt. absurd (later_seq g A each q p r s first second same lt))
     (λ le. ⊎_elim
-    (λ lt. absurd (later_seq me n A each p q s r second first (sym same) lt))
+    (λ lt. absurd (later_seq g A each p q s r second first (sym same) lt))
     (λ ge. omega (arith, le, ge))
     (cases_lt p q))
     (cases_lt q p)
 
 -- so two records with one stamp are one
-pub one_record : (me n : ℕ) (A : List Record) → Each (IsInOrder me n) A → (r s : Record) → In r A → In s A → r.stamp ≡ s.stamp → r ≡ s
-one_record me n A each r s i j same =
+pub one_record : (g : Settings) (A : List Record) → Each (IsInOrder g) A → (r s : Record) → In r A → In s A → r.stamp ≡ s.stamp → r ≡ s
+one_record g A each r s i j same =
     let q = In_get A r i in
     let p = In_get A s j in
-    same_Some r s (sym q.1 ∙ (ap (slice_get A) (one_place me n A each q.0 p.0 r s q.1 p.1 same) ∙ p.1))
+    same_Some r s (sym q.1 ∙ (ap (slice_get A) (one_place g A each q.0 p.0 r s q.1 p.1 same) ∙ p.1))
 
 -- ---- the numbers of a client
 
 -- each number up to a client's greatest is there
-pub have_number : (me n : ℕ) (A : List Record) → Each (IsInOrder me n) A → (c d : ℕ) → 1 ≤ d → d ≤ guard c A → HasNumber A c d
-have_number me n A each = by_steps (λ X. (c d : ℕ) → 1 ≤ d → d ≤ guard c X → HasNumber X c d) A (λ c d low high. absurd (omega (arith, low, high))) step
+pub have_number : (g : Settings) (A : List Record) → Each (IsInOrder g) A → (c d : ℕ) → 1 ≤ d → d ≤ guard c A → HasNumber A c d
+have_number g A each = by_steps (λ X. (c d : ℕ) → 1 ≤ d → d ≤ guard c X → HasNumber X c d) A (λ c d low high. absurd (omega (arith, low, high))) step
   where
     step : (p : ℕ) (r : Record) → slice_get A p ≡ Some r → ((c d : ℕ) → 1 ≤ d → d ≤ guard c (take p A) → HasNumber (take p A) c d) → (c d : ℕ) → 1 ≤ d → d ≤ guard c (take p A ++ r ∷ []) → HasNumber (take p A ++ r ∷ []) c d
     step p r there rest c d low high = go (cases_lt (guard c (take p A)) d) (cases_Bool (r.tx.dot.client == c))
@@ -99,7 +100,7 @@ have_number me n A each = by_steps (λ X. (c d : ℕ) → 1 ≤ d → d ≤ guar
             let more : guard c (X ++ r ∷ []) ≡ max (guard c X) r.tx.dot.number = guard_more c X r ∙ ap (λ b. max (guard c X) (cond b r.tx.dot.number 0)) t in
             let same : r.tx.dot.client ≡ c = eqb-true _ _ t in
             let greatest : guard r.tx.dot.client X ≡ guard c X = ap (λ c. guard c X) same in
-            let next = (each.by p r there).next in
+            let next = (each.holds p r there).next in
             record { item = r; there = In_right X (r ∷ []) r (inl refl); client_is = same; number_is = omega (arith, more, lt, high, greatest, next) }
         go (inl lt) (inr f) =
             let more : guard c (X ++ r ∷ []) ≡ max (guard c X) 0 = guard_more c X r ∙ ap (λ b. max (guard c X) (cond b r.tx.dot.number 0)) f in
@@ -108,8 +109,8 @@ have_number me n A each = by_steps (λ X. (c d : ℕ) → 1 ≤ d → d ≤ guar
 -- ---- own records
 
 -- the record of centre e at a place is there, with the stamp of its number
-pub own_at : (me n e : ℕ) (A : List Record) → Each (IsInOrder me n) A → (j : ℕ) (r : Record) → slice_get (own e A) j ≡ Some r → In r A × (r.stamp ≡ record { centre = e; seq = j + 1 })
-own_at me n e A each = by_steps (λ X. (j : ℕ) (r : Record) → slice_get (own e X) j ≡ Some r → In r X × (r.stamp ≡ record { centre = e; seq = j + 1 })) A (λ j r there. absurd (none-some r there)) step
+pub own_at : (g : Settings) (e : ℕ) (A : List Record) → Each (IsInOrder g) A → (j : ℕ) (r : Record) → slice_get (own e A) j ≡ Some r → In r A × (r.stamp ≡ record { centre = e; seq = j + 1 })
+own_at g e A each = by_steps (λ X. (j : ℕ) (r : Record) → slice_get (own e X) j ≡ Some r → In r X × (r.stamp ≡ record { centre = e; seq = j + 1 })) A (λ j r there. absurd (none-some r there)) step
   where
     step : (p : ℕ) (s : Record) → slice_get A p ≡ Some s → ((j : ℕ) (r : Record) → slice_get (own e (take p A)) j ≡ Some r → In r (take p A) × (r.stamp ≡ record { centre = e; seq = j + 1 })) → (j : ℕ) (r : Record) → slice_get (own e (take p A ++ s ∷ [])) j ≡ Some r → In r (take p A ++ s ∷ []) × (r.stamp ≡ record { centre = e; seq = j + 1 })
     step p s placed rest j r there = go (cases_Bool (s.stamp.centre == e))
@@ -131,7 +132,7 @@ own_at me n e A each = by_steps (λ X. (j : ℕ) (r : Record) → slice_get (own
                 let counts : count s.stamp.centre X ≡ count e X = ap (λ c. count c X) same in
                 let long = own_length e X in
                 let place = l.1 in
-                let number = (each.by p s placed).number in
+                let number = (each.holds p s placed).number in
                 let seq : s.stamp.seq ≡ j + 1 = omega (arith, counts, long, place, number) in
                 subst (λ r. In r (X ++ s ∷ []) × (r.stamp ≡ record { centre = e; seq = j + 1 })) l.0 (In_right X (s ∷ []) s (inl refl), λ i. record { centre = same i; seq = seq i })
         go (inr f) =
@@ -139,33 +140,33 @@ own_at me n e A each = by_steps (λ X. (j : ℕ) (r : Record) → slice_get (own
             before (subst (λ l. slice_get l j ≡ Some r) (list ∙ append-nil (own e X)) there)
 
 -- and a record with the stamp of a number is the own record of that number
-pub own_there : (me n : ℕ) (A : List Record) → Each (IsInOrder me n) A → (k : ℕ) (r : Record) → 1 ≤ k → In r A → r.stamp ≡ record { centre = me; seq = k } → slice_get (own me A) (k - 1) ≡ Some r
-own_there me n A each k r low i is =
-    let counted = stamp_counted me n A r each i in
+pub own_there : (g : Settings) (A : List Record) → Each (IsInOrder g) A → (k : ℕ) (r : Record) → 1 ≤ k → In r A → r.stamp ≡ record { centre = g.me; seq = k } → slice_get (own g.me A) (k - 1) ≡ Some r
+own_there g A each k r low i is =
+    let counted = stamp_counted g A r each i in
     let seq : r.stamp.seq ≡ k = ap (λ (s : Stamp). s.seq) is in
-    let counts : count r.stamp.centre A ≡ count me A = ap (λ (s : Stamp). count s.centre A) is in
-    let long = own_length me A in
-    let s = get_within (own me A) (k - 1) (omega (arith, low, counted, seq, counts, long)) in
-    let h = own_at me n me A each (k - 1) s.0 s.1 in
+    let counts : count r.stamp.centre A ≡ count g.me A = ap (λ (s : Stamp). count s.centre A) is in
+    let long = own_length g.me A in
+    let s = get_within (own g.me A) (k - 1) (omega (arith, low, counted, seq, counts, long)) in
+    let h = own_at g g.me A each (k - 1) s.0 s.1 in
     let back : k - 1 + 1 ≡ k = omega (arith, low) in
-    let stamp : s.0.stamp ≡ r.stamp = h.1 ∙ ((λ i. record { centre = me; seq = back i }) ∙ sym is) in
-    s.1 ∙ ap Some (one_record me n A each s.0 r h.0 i stamp)
+    let stamp : s.0.stamp ≡ r.stamp = h.1 ∙ ((λ i. record { centre = g.me; seq = back i }) ∙ sym is) in
+    s.1 ∙ ap Some (one_record g A each s.0 r h.0 i stamp)
 
 -- ---- what the law of histories says
 
-module _ (me n : ℕ) (A : List Record) (each : Each (IsInOrder me n) A) where
+module _ (g : Settings) (A : List Record) (each : Each (IsInOrder g) A) where
   -- records of one origin come without a gap
   pub no_gaps : HasNoGaps A
-  no_gaps = record { all = have_stamp me n A each; once = one_record me n A each }
+  no_gaps = record { all = have_stamp g A each; once = one_record g A each }
 
   -- what a record depends on is there before it
   pub dependencies : HasDependencies A
-  dependencies = record { by = λ p r there e k low high. have_stamp me n (take p A) (each_take (IsInOrder me n) A p each) e k low (omega (arith, high, (each.by p r there).waited e)) }
+  dependencies = record { holds = λ p r there e k low high. have_stamp g (take p A) (each_take (IsInOrder g) A p each) e k low (omega (arith, high, (each.holds p r there).waited e)) }
 
   -- a client's numbers come without a gap
   pub numbers_below : HasNumbersBelow A
-  numbers_below = have_number me n A each
+  numbers_below = have_number g A each
 
   -- the k-th record of a centre has its stamp k
   pub stamps_in_order : HasStampsInOrder A
-  stamps_in_order e k r there = (own_at me n e A each k r there).1
+  stamps_in_order e k r there = (own_at g e A each k r there).1

@@ -1,8 +1,9 @@
 -- How each call of a session ends, and what it changes.
-use Rattle.std.specs.Prelude.{◌≡◌, ℕ, ◌+◌, ◌^◌, Bool, true, not, cond, nat_le, nat_lt, unsigned_abs, length, List, [], ◌∷◌, ◌++◌, Option, Some, None, is_some, is_none}
+use Rattle.std.specs.Prelude.{◌≡◌, ℕ, ◌+◌, Bool, true, not, cond, nat_le, nat_lt, length, List, [], ◌∷◌, ◌++◌, Option, Some, None, is_some, is_none}
 use Rattle.std.specs.Option.{option_map}
 use Rattle.list_core.specs.Choices.{when, first_of}
 use Rattle.ids_core.specs.declared.ids.OpId.{OpId}
+use Rattle.ids_core.specs.declared.limits.TheConstants.{MOST_UPDATES, MOST_TAGS, MOST_PENDING, MOST_NUMBER}
 use Rattle.ids_core.specs.declared.object.ObjectId.{ObjectId}
 use Rattle.ids_core.specs.declared.object.Sort.{Sort}
 use Rattle.ids_core.specs.declared.object.Sort.TheVariants as sort
@@ -11,45 +12,30 @@ use Rattle.tx_core.specs.declared.op.Op.{Op}
 use Rattle.tx_core.specs.declared.op.Op.TheVariants.{Inc as IncOp, Write as WriteOp, Add as AddOp, Remove as RemoveOp, Put as PutOp, Erase as EraseOp}
 use Rattle.tx_core.specs.declared.tx.Update.{Update}
 use Rattle.tx_core.specs.declared.state.State.{State}
+use Rattle.tx_core.specs.Checks.{is_small_delta}
 use Rattle.tx_core.specs.States.{value_of, tags_of}
-use Rattle.dc_talk.specs.declared.session.Change.{Change}
-use Rattle.dc_talk.specs.declared.session.Change.TheVariants.{Inc, Write, Add, Remove, Put, Erase}
-use Rattle.dc_talk.specs.declared.session.Call.{Call}
-use Rattle.dc_talk.specs.declared.session.Call.TheVariants.{Begin, Change as ChangeCall, Read, Commit, Abort}
-use Rattle.dc_talk.specs.declared.session.Refusal.TheVariants.{AlreadyOpen, ClockFull, NotOpen, WrongKind, DeltaTooLarge, TooManyUpdates, NeedsFetch, TooManyTags, PendingFull}
-use Rattle.dc_talk.specs.declared.session.Cached.{Cached}
-use Rattle.dc_talk.specs.declared.session.Outcome.{Outcome}
-use Rattle.dc_talk.specs.declared.session.Outcome.TheVariants.{Fine, Got, Number, Nothing, Refused}
+use Rattle.dc_talk.specs.declared.calls.Change.{Change}
+use Rattle.dc_talk.specs.declared.calls.Change.TheVariants.{Inc, Write, Add, Remove, Put, Erase}
+use Rattle.dc_talk.specs.declared.calls.Call.{Call}
+use Rattle.dc_talk.specs.declared.calls.Call.TheVariants.{Begin, Change as ChangeCall, Read, Commit, Abort}
+use Rattle.dc_talk.specs.declared.calls.Refusal.TheVariants.{AlreadyOpen, ClockFull, NotOpen, WrongKind, DeltaTooLarge, TooManyUpdates, NeedsFetch, TooManyTags, PendingFull}
+use Rattle.dc_talk.specs.declared.calls.Cached.{Cached}
+use Rattle.dc_talk.specs.declared.calls.Outcome.{Outcome}
+use Rattle.dc_talk.specs.declared.calls.Outcome.TheVariants.{Fine, Got, Number, Nothing, Refused}
 use Rattle.dc_talk.specs.Clients.{Client, next_tx, cached, promoted, draft_updates, view}
-
--- the greatest rank and commit number
-abbrev pub most_rank : ℕ
-most_rank = 2 ^ 62
-
--- the most updates of one transaction
-abbrev pub most_updates : ℕ
-most_updates = 256
-
--- the most commits that may be pending
-abbrev pub most_pending : ℕ
-most_pending = 1024
 
 -- how a begin ends
 abbrev pub begin_outcome : Client → Outcome
-begin_outcome s = first_of (when (is_some s.draft) (Refused AlreadyOpen) ∷ when (nat_le most_rank s.clock) (Refused ClockFull) ∷ []) Fine
-
--- the most live identifiers that a change may be over
-abbrev pub most_tags : ℕ
-most_tags = 4096
+begin_outcome s = first_of (when (is_some s.draft) (Refused AlreadyOpen) ∷ when (nat_le MOST_NUMBER s.clock) (Refused ClockFull) ∷ []) Fine
 
 -- the kind of objects that a change is of
-abbrev pub kind_of : Change → Sort
-kind_of (Inc delta) = sort.Counter
-kind_of (Write word) = sort.Register
-kind_of (Add word) = sort.Set
-kind_of (Remove word) = sort.Set
-kind_of (Put key word) = sort.Map
-kind_of (Erase key) = sort.Map
+abbrev pub sort_of_change : Change → Sort
+sort_of_change (Inc delta) = sort.Counter
+sort_of_change (Write word) = sort.Register
+sort_of_change (Add word) = sort.Set
+sort_of_change (Remove word) = sort.Set
+sort_of_change (Put key word) = sort.Map
+sort_of_change (Erase key) = sort.Map
 
 -- the word or key whose live identifiers a change is over, where it has one
 abbrev pub named : Change → Option (List ℕ)
@@ -69,9 +55,9 @@ op_of (Remove word) over = RemoveOp word over
 op_of (Put key word) over = PutOp key word over
 op_of (Erase key) over = EraseOp key over
 
--- the delta of a change lies in ±10^12
+-- the delta of a change is as far from 0 as one may be, or less
 abbrev pub is_modest : Change → Bool
-is_modest (Inc delta) = nat_le (unsigned_abs delta) 1000000000000
+is_modest (Inc delta) = is_small_delta delta
 is_modest _ = true
 
 -- what the client has of an object, where its cache has the state at the snapshot
@@ -91,15 +77,15 @@ over s o change = tags_in (named change) (viewed s o)
 abbrev pub look_up_outcome : ObjectId → Option (List ℕ) → Option State → Outcome
 look_up_outcome o None state = Fine
 look_up_outcome o (Some name) None = Refused (NeedsFetch o)
-look_up_outcome o (Some name) (Some state) = cond (nat_lt most_tags (length (tags_of state name))) (Refused (TooManyTags (length (tags_of state name)))) Fine
+look_up_outcome o (Some name) (Some state) = cond (nat_lt MOST_TAGS (length (tags_of state name))) (Refused (TooManyTags (length (tags_of state name)))) Fine
 
 -- how a change ends
 abbrev pub change_outcome : Client → ObjectId → Change → Outcome
 change_outcome s o change = first_of (
     when (is_none s.draft) (Refused NotOpen)
-    ∷ when (not (same_sort (kind_of change) o.sort)) (Refused WrongKind)
+    ∷ when (not (same_sort (sort_of_change change) o.sort)) (Refused WrongKind)
     ∷ when (not (is_modest change)) (Refused DeltaTooLarge)
-    ∷ when (nat_le most_updates (length (draft_updates s))) (Refused (TooManyUpdates most_updates))
+    ∷ when (nat_le MOST_UPDATES (length (draft_updates s))) (Refused (TooManyUpdates MOST_UPDATES))
     ∷ []) (look_up_outcome o (named change) (viewed s o))
 
 -- the cache after a change, which looks its object up where it has to know its state
@@ -115,7 +101,7 @@ read_outcome s o (Some state) = Got (value_of (view s o state))
 abbrev pub commit_outcome : Client → Option (List Update) → Outcome
 commit_outcome s None = Refused NotOpen
 commit_outcome s (Some []) = Nothing
-commit_outcome s (Some (u ∷ us)) = cond (nat_le most_pending (length s.pending)) (Refused (PendingFull most_pending)) (Number (s.own + 1))
+commit_outcome s (Some (u ∷ us)) = cond (nat_le MOST_PENDING (length s.pending)) (Refused (PendingFull MOST_PENDING)) (Number (s.own + 1))
 
 -- how an abort ends
 abbrev pub abort_outcome : Client → Outcome

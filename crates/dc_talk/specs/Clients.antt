@@ -10,8 +10,8 @@ use lib.Pointwise.{pointwise}
 use Rattle.tx_core.specs.declared.tx.Update.{Update}
 use Rattle.tx_core.specs.declared.tx.Tx.{Tx}
 use Rattle.tx_core.specs.declared.state.State.{State}
-use Rattle.dc_talk.specs.declared.session.Link.{Link}
-use Rattle.dc_talk.specs.declared.session.Cached.{Cached}
+use Rattle.dc_talk.specs.declared.calls.Connection.{Connection}
+use Rattle.dc_talk.specs.declared.calls.Cached.{Cached}
 use Rattle.tx_core.specs.States.{fold_of}
 use Rattle.dc_talk.specs.Objects.{ops_from, ops_of}
 
@@ -26,7 +26,7 @@ pub record Client : Type 0 where
   pub mine : ℕ
   pub clock : ℕ
   pub pending : List Tx
-  pub link : Option Link
+  pub link : Option Connection
   pub draft : Option (List Update)
   pub cache : List Cached
   pub capacity : ℕ
@@ -44,7 +44,7 @@ abbrev pub next_tx : Client → List Update → Tx
 next_tx s updates = record { dot = next_dot s; rank = s.clock + 1; snap = s.vector; updates = updates }
 
 -- the greatest own number that is known to be at the connected centre or within the snapshot
-abbrev pub settled : Client → Link → ℕ
+abbrev pub settled : Client → Connection → ℕ
 settled s link = max link.sent s.mine
 
 -- whether two vectors are equal

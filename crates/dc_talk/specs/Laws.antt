@@ -2,25 +2,27 @@
 use Rattle.std.specs.Prelude.{◌≡◌, ◌≤◌, ℕ, ◌+◌, ◌-◌, List, Some, length, slice_get}
 use Rattle.list_core.specs.Members.{In}
 use Rattle.list_core.specs.Moments.{Each}
+use Rattle.ids_core.specs.declared.limits.TheConstants.{MOST_RECORDS}
 use Rattle.vv_core.specs.declared.stamp.Stamp.{Stamp}
 use Rattle.vv_core.specs.Vectors.{at, Covers}
 use Rattle.tx_core.specs.declared.tx.Record.{Record}
 use Rattle.tx_core.specs.Checks.{IsFit}
-use Rattle.dc_talk.specs.declared.trail.Entry.{Entry}
+use Rattle.dc_talk.specs.declared.settings.Settings.{Settings}
+use Rattle.dc_talk.specs.Entries.{Entry}
 use Rattle.dc_talk.specs.Records.{count, guard, own, first_stamp}
 use Rattle.dc_talk.specs.Answers.{History}
 
--- a history of centre me among n, which stamps at most a limit of transactions
-pub record IsCentreHistory (me n k limit : ℕ) (trail : List Entry) : Type 0 where
-  pub centre : (1 ≤ me) × (me ≤ n)
-  pub few : limit ≤ 1000000
-  pub history : History me n k limit trail
+-- a history of a centre that is one of the centres, and that stamps no more transactions than it may
+pub record IsCentreHistory (s : Settings) (trail : List Entry) : Type 0 where
+  pub centre : (1 ≤ s.me) × (s.me ≤ s.n)
+  pub few : s.limit ≤ MOST_RECORDS
+  pub history : History s trail
 
 -- a record with the stamp k of centre e is one of them
 pub record HasStamp (A : List Record) (e k : ℕ) : Type 0 where
   pub item : Record
   pub there : In item A
-  pub is : item.stamp ≡ record { centre = e; seq = k }
+  pub stamp_is : item.stamp ≡ record { centre = e; seq = k }
 
 -- a record of the client's transaction with this number is one of them
 pub record HasNumber (A : List Record) (client number : ℕ) : Type 0 where
@@ -36,18 +38,18 @@ pub record IsStampedAfter (X : List Record) (r : Record) : Type 0 where
   pub fresh : r.tx.dot.number ≡ guard r.tx.dot.client X + 1
   pub before : 2 ≤ r.tx.dot.number → (s : Stamp) × (first_stamp (record { client = r.tx.dot.client; number = r.tx.dot.number - 1 }) X ≡ Some s) × (s.seq ≤ at r.deps s.centre)
 
--- what holds of a record r that centre me among n applies after those of X: it has the next stamp of its
+-- what holds of a record r that a centre applies after those of X: it has the next stamp of its
 -- centre, what it depends on is there, and its transaction is fit, and is its client's next or one that
 -- is there
-pub record IsInOrder (me n : ℕ) (X : List Record) (r : Record) : Type 0 where
-  pub centre : (1 ≤ r.stamp.centre) × (r.stamp.centre ≤ n)
+pub record IsInOrder (s : Settings) (X : List Record) (r : Record) : Type 0 where
+  pub centre : (1 ≤ r.stamp.centre) × (r.stamp.centre ≤ s.n)
   pub number : r.stamp.seq ≡ count r.stamp.centre X + 1
-  pub few : r.stamp.seq ≤ 1000000
-  pub width : length r.deps ≡ n
+  pub few : r.stamp.seq ≤ MOST_RECORDS
+  pub width : length r.deps ≡ s.n
   pub waited : (e : ℕ) → at r.deps e ≤ count e X
-  pub fit : IsFit n r.tx
+  pub fit : IsFit s.n r.tx
   pub next : r.tx.dot.number ≤ guard r.tx.dot.client X + 1
-  pub made : r.stamp.centre ≡ me → IsStampedAfter X r
+  pub made : r.stamp.centre ≡ s.me → IsStampedAfter X r
 
 -- records of one origin come without a gap: each number up to their count is that of a record, and of no
 -- other one

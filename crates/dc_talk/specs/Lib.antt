@@ -1,5 +1,6 @@
 pub mod Records
 pub mod Objects
+pub mod Entries
 pub mod Trails
 pub mod Answers
 pub mod Logs

@@ -1,6 +1,7 @@
 -- The conduct of a session: what it hears, what it asks, and which logs are its own.
 use Rattle.std.specs.Prelude.{◌≡◌, ℕ, ◌-◌, Bool, false, ◌&&◌, ◌⊎◌, cond, max, min, nat_le, ◌==◌, length, drop, fold, List, [], ◌∷◌, ◌++◌, Option, Some, None, is_none, slice_get}
 use Rattle.list_core.specs.Moments.{Each}
+use Rattle.ids_core.specs.declared.limits.TheConstants.{MOST_NUMBER}
 use Rattle.ids_core.specs.declared.object.ObjectId.{ObjectId}
 use Rattle.ids_core.specs.Ids.{same_sort}
 use Rattle.vv_core.specs.Vectors.{covers}
@@ -10,24 +11,24 @@ use Rattle.dc_talk.specs.declared.ask.Ask.{Ask}
 use Rattle.dc_talk.specs.declared.ask.Ask.TheVariants.{Hello, Refresh, Fetch, Commit}
 use Rattle.dc_talk.specs.declared.say.Say.{Say}
 use Rattle.dc_talk.specs.declared.say.Say.TheVariants.{Welcome, Snap, Object, Known, Stamped}
-use Rattle.dc_talk.specs.declared.session.Call.TheVariants.{Commit as CommitCall}
-use Rattle.dc_talk.specs.declared.session.Outcome.TheVariants.{Number}
-use Rattle.dc_talk.specs.declared.session.Link.{Link}
+use Rattle.dc_talk.specs.declared.calls.Call.TheVariants.{Commit as CommitCall}
+use Rattle.dc_talk.specs.declared.calls.Outcome.TheVariants.{Number}
+use Rattle.dc_talk.specs.declared.calls.Connection.{Connection}
 use Rattle.dc_talk.specs.declared.log.Fate.{Fate}
 use Rattle.dc_talk.specs.declared.log.Fate.TheVariants.{Heard, Unheard}
 use Rattle.dc_talk.specs.declared.log.Deed.{Deed}
 use Rattle.dc_talk.specs.declared.log.Deed.TheVariants.{Did, Asked, Told}
 use Rattle.dc_talk.specs.declared.log.Note.{Note}
 use Rattle.dc_talk.specs.Clients.{Client, new_client, next_tx, settled, same_vector, kept, draft_updates}
-use Rattle.dc_talk.specs.Calls.{most_rank, outcome_of, did}
+use Rattle.dc_talk.specs.Calls.{outcome_of, did}
 
 -- whether the client is connected to the centre
-abbrev pub is_linked : ℕ → Option Link → Bool
+abbrev pub is_linked : ℕ → Option Connection → Bool
 is_linked i None = false
 is_linked i (Some link) = link.centre == i
 
 -- the link once the centre is known to have the client's commits up to a number, of as many as own
-abbrev pub sent_through : ℕ → ℕ → Option Link → Option Link
+abbrev pub sent_through : ℕ → ℕ → Option Connection → Option Connection
 sent_through number own None = None
 sent_through number own (Some link) = Some (record link { sent = min (max link.sent number) own })
 
@@ -36,7 +37,7 @@ sent_through number own (Some link) = Some (record link { sent = min (max link.s
 abbrev pub can_follow : Client → List ℕ → ℕ → ℕ → Bool
 can_follow s vector mine top =
     is_none s.draft && (length vector == length s.vector) && covers vector s.vector
-    && nat_le top most_rank && nat_le s.mine mine && nat_le mine s.own
+    && nat_le top MOST_NUMBER && nat_le s.mine mine && nat_le mine s.own
 
 -- whether the client takes an answer of centre i
 abbrev pub takes : Client → ℕ → Ask → Say → Bool
@@ -97,19 +98,19 @@ abbrev pub fetch_of : Client → ObjectId → Ask
 fetch_of s o = Fetch o s.vector
 
 -- the first commit that is not known to be at the connected centre or within the snapshot
-abbrev pub next_commit : Client → Link → Option Tx
+abbrev pub next_commit : Client → Connection → Option Tx
 next_commit s link = slice_get s.pending (settled s link - s.mine)
 
 -- the client is connected to the centre
 pub record IsLinked (s : Client) (i : ℕ) : Type 0 where
-  pub link : Link
-  pub is : s.link ≡ Some link
+  pub link : Connection
+  pub linked : s.link ≡ Some link
   pub centre : link.centre ≡ i
 
 -- the transaction is the next one that the client sends to the centre
 pub record Sends (s : Client) (i : ℕ) (tx : Tx) : Type 0 where
-  pub link : Link
-  pub is : s.link ≡ Some link
+  pub link : Connection
+  pub linked : s.link ≡ Some link
   pub centre : link.centre ≡ i
   pub next : next_commit s link ≡ Some tx
 

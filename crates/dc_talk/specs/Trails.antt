@@ -2,36 +2,20 @@
 -- centres told it.
 use Rattle.std.specs.Prelude.{ℕ, Bool, true, false, cond, ◌==◌, List, [], ◌∷◌, ◌++◌, map, fold, Option, Some, None}
 use Rattle.std.specs.Option.{unwrap_or}
-use Rattle.vv_core.specs.declared.stamp.Stamp.{Stamp}
 use Rattle.vv_core.specs.Vectors.{zeros, centres, join_of, meet_of, kth_largest}
-use Rattle.tx_core.specs.declared.tx.Tx.{Tx}
 use Rattle.tx_core.specs.declared.tx.Record.{Record}
 use Rattle.dc_talk.specs.declared.ask.Ask.{Ask}
 use Rattle.dc_talk.specs.declared.ask.Ask.TheVariants.{Commit, Deliver, Learn, Stop, Start}
 use Rattle.dc_talk.specs.declared.say.Say.{Say}
 use Rattle.dc_talk.specs.declared.say.Say.TheVariants.{Stamped, Applied, Learned, Stopped, Started}
-use Rattle.dc_talk.specs.declared.trail.Entry.{Entry}
+use Rattle.dc_talk.specs.declared.settings.Settings.{Settings}
+use Rattle.dc_talk.specs.Entries.{Entry}
 use Rattle.dc_talk.specs.Records.{vector, deps_of}
-
--- the transaction of a commit
-abbrev pub committed_in : Ask → Option Tx
-committed_in (Commit tx) = Some tx
-committed_in _ = None
-
--- the stamp that an answer gives
-abbrev pub stamp_in : Say → Option Stamp
-stamp_in (Stamped stamp) = Some stamp
-stamp_in _ = None
 
 -- the record of a delivery
 abbrev pub delivered_in : Ask → Option Record
 delivered_in (Deliver item) = Some item
 delivered_in _ = None
-
--- whether an answer says that a record was applied
-abbrev pub is_applied : Say → Bool
-is_applied (Applied fresh) = true
-is_applied _ = false
 
 -- the vector that an ask taught, with the centre that it is of
 abbrev pub taught_in : Ask → Say → Option (ℕ × List ℕ)
@@ -44,24 +28,17 @@ switched_in Stop Stopped = Some true
 switched_in Start Started = Some false
 switched_in _ _ = None
 
--- the records after a transaction got a stamp
-abbrev pub stamped : ℕ → List Record → Option Tx → Option Stamp → List Record
-stamped n A (Some tx) (Some stamp) = A ++ record { stamp = stamp; deps = deps_of n A tx; tx = tx } ∷ []
-stamped n A _ _ = A
-
--- the records after one was delivered, where it was applied
-abbrev pub received : List Record → Option Record → Bool → List Record
-received A (Some item) true = A ++ item ∷ []
-received A _ _ = A
-
--- the applied list after one more entry
-abbrev pub grown : ℕ → List Record → Entry → List Record
-grown n A entry = received (stamped n A (committed_in entry.ask) (stamp_in entry.say)) (delivered_in entry.ask) (is_applied entry.say)
+-- the records A after one more ask that was answered so: with that of a transaction that got a stamp, or
+-- with one that was delivered and applied
+abbrev pub grown : ℕ → List Record → Ask → Say → List Record
+grown n A (Commit tx) (Stamped stamp) = A ++ record { stamp = stamp; deps = deps_of n A tx; tx = tx } ∷ []
+grown n A (Deliver item) (Applied fresh) = A ++ item ∷ []
+grown n A _ _ = A
 
 -- the applied list of a trail: the records that its centre stamped and those that were delivered and
 -- applied, in order
 abbrev pub applied : ℕ → List Entry → List Record
-applied n trail = fold (grown n) [] trail
+applied n trail = fold (λ A entry. grown n A entry.ask entry.say) [] trail
 
 -- whether the centre is stopped: whether the last stop or start was a stop
 abbrev pub stopped : List Entry → Bool
@@ -76,10 +53,10 @@ taught j row (Some news) = cond (news.0 == j) (join_of row news.1) row
 abbrev pub told : ℕ → ℕ → List Entry → List ℕ
 told n j trail = fold (λ row entry. taught j row (taught_in entry.ask entry.say)) (zeros n) trail
 
--- what centre me knows each centre to have: its own vector, and the told rows of the others
-abbrev pub rows : ℕ → ℕ → List Entry → List (List ℕ)
-rows me n trail = map (λ j. cond (j == me) (vector n (applied n trail)) (told n j trail)) (centres n)
+-- what a centre knows each centre to have: its own vector, and the told rows of the others
+abbrev pub rows : Settings → List Entry → List (List ℕ)
+rows s trail = map (λ j. cond (j == s.me) (vector s.n (applied s.n trail)) (told s.n j trail)) (centres s.n)
 
 -- the stable vector: what at least k centres are known to have, and this centre has
-abbrev pub stable : ℕ → ℕ → ℕ → List Entry → List ℕ
-stable me n k trail = meet_of (kth_largest k (rows me n trail)) (vector n (applied n trail))
+abbrev pub stable : Settings → List Entry → List ℕ
+stable s trail = meet_of (kth_largest s.k (rows s trail)) (vector s.n (applied s.n trail))

@@ -1,14 +1,15 @@
 // What is asked of a centre.
 ghost use Rattle.std.specs.Prelude.{◌≡◌, ◌≤◌, IfOk};
-ghost use Rattle.dc_talk.specs.Answers.{is_client_number, are_modest, is_fit_item};
+ghost use Rattle.tx_core.specs.Checks.{is_within};
+ghost use Rattle.dc_talk.specs.Answers.{are_modest, is_fit_item};
 
-use ids_core::{NoMemory, ObjectId};
+use ids_core::{MOST_CLIENTS, MOST_RECORDS, NoMemory, ObjectId};
 use std::alloc::AllocError;
 use tx_core::{Record, Tx};
 use vv_core::Vector;
 
-// The most records that a centre stamps.
-const MOST_RECORDS: u64 = 1_000_000;
+/// How many records a send asks for at most.
+pub const MOST_SENT: u32 = 1_024;
 
 /// One ask of a centre (Middleware 2015, sections 4 and 5). Clients are numbered from 1 to 1,024.
 #[derive(Drop)]
@@ -93,7 +94,7 @@ impl Ask {
             Ask::Refresh { client, at } => is_client(*client) && at.width() == n,
             Ask::Fetch { object: _, at } => at.width() == n,
             Ask::Commit { tx } => tx.check(n).is_ok(),
-            Ask::Send { after: _, most } => (1..=1024).contains(most),
+            Ask::Send { after: _, most } => (1..=MOST_SENT).contains(most),
             Ask::Deliver { item } => is_fit_item(item, n),
             Ask::Report | Ask::Stop | Ask::Start => true,
             Ask::Learn { from, vector } => {
@@ -105,9 +106,9 @@ impl Ask {
 
 // Whether clients have this number.
 fn is_client(client: u32) -> bool
-    ensures { result ≡ is_client_number client }
+    ensures { result ≡ is_within 1 MOST_CLIENTS client }
 {
-    (1..=1024).contains(&client)
+    (1..=MOST_CLIENTS).contains(&client)
 }
 
 // Whether a record can be delivered to a centre among `n`.

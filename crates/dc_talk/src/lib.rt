@@ -3,21 +3,21 @@
 #![tactic(auto)]
 
 mod ask;
+mod calls;
+mod entry;
 mod fold;
 mod laws;
 mod line;
 mod log;
-mod records;
 mod say;
-mod session;
-mod trail;
+mod settings;
 
-pub use ask::Ask;
+pub use ask::{Ask, MOST_SENT};
+pub use calls::{Cached, Call, Change, Connection, Outcome, Refusal};
+pub use entry::Entry;
 pub use fold::fold_updates;
 pub use laws::law_history;
 pub use line::{Line, Miss, PushEnd, StepWord};
 pub use log::{Deed, Fate, Log, Note};
-pub use records::Records;
-pub use say::Say;
-pub use session::{Cached, Call, Change, Link, Outcome, Refusal};
-pub use trail::{Entry, Trail};
+pub use say::{Records, Say};
+pub use settings::Settings;

@@ -2,9 +2,9 @@
 ghost use Rattle.std.specs.Prelude.{◌≡◌, ◌≤◌, [], ◌∷◌, ◌++◌, OnOk, OnErr, IsOk};
 
 use crate::ask::Ask;
+use crate::calls::{Call, Outcome};
 use crate::line::Line;
 use crate::say::Say;
-use crate::session::{Call, Outcome};
 use ids_core::NoMemory;
 use std::alloc::Global;
 use std::marker::Model;
@@ -54,13 +54,11 @@ pub struct Log {
 impl Model for Log {
     ghost use Rattle.std.specs.Prelude.{◌-◌, vec_len, vec_capacity};
     ghost use Rattle.dc_talk.specs.Logs.{Logged};
-    ghost use Rattle.std.specs.Coded.{codes};
-    ghost use Rattle.obj_set.specs.Sets.{set_code};
-    ghost use Rattle.obj_map.specs.Maps.{map_code};
+    ghost use Rattle.tx_core.specs.States.{state_codes};
 
     ghost Value = { Logged };
 
-    ghost coded = { Prim.hlevel (codes, set_code, map_code) };
+    ghost coded = { Prim.hlevel state_codes };
 
     ghost view = { λ l. record { actor = l.actor; section = l.section; step = l.step; notes = l.notes.items } };
 }

@@ -1,11 +1,14 @@
 // What a centre answers.
 ghost use Rattle.std.specs.Prelude.{◌≡◌, IfOk};
 
-use crate::records::Records;
 use ids_core::NoMemory;
+use list_core::List;
 use std::alloc::AllocError;
-use tx_core::State;
+use tx_core::{Record, State};
 use vv_core::{Stamp, Vector};
+
+/// Records in their order, seen as their list.
+pub type Records = List<Record>;
 
 /// One answer of a centre. Centres are numbered from 1.
 #[derive(Drop)]

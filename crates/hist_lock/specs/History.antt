@@ -4,7 +4,7 @@ use Rattle.list_core.specs.Moments.{Each}
 use Rattle.hist_lock.specs.declared.machine.Entry.{Entry}
 
 -- what contracts see of a trail: its entries, and for how many more there is room
-pub record Told (A Y : Type 0) : Type 0 where
+pub record TrailView (A Y : Type 0) : Type 0 where
   pub entries : List (Entry A Y)
   pub spare : ℕ
 

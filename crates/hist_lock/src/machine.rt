@@ -62,9 +62,9 @@ pub struct Trail<M: Machine> {
 
 impl<M: Machine> Model for Trail<M> {
     ghost use Rattle.std.specs.Prelude.{◌-◌, length, vec_capacity};
-    ghost use Rattle.hist_lock.specs.History.{Told};
+    ghost use Rattle.hist_lock.specs.History.{TrailView};
 
-    ghost Value = { Told M.Ask M.Say };
+    ghost Value = { TrailView M.Ask M.Say };
 
     ghost view = { λ t. record { entries = t.items.items; spare = vec_capacity t.items - length t.items.items } };
 }
@@ -84,6 +84,13 @@ impl<M: Machine> Trail<M> {
         ensures { result ≡ length self.now.entries }
     {
         self.items.len()
+    }
+
+    /// The entries in order.
+    pub fn as_slice(&self) -> &[Entry<M::Ask, M::Say>]
+        ensures { result.now ≡ self.now.entries }
+    {
+        self.items.as_slice()
     }
 
     /// The entry at a place counted from 0: its caller, ask and reply. None exactly where the trail ends before it.

@@ -1,7 +1,7 @@
 // A session: which changes it refuses, and how a commit goes out and comes back. What the steps of a
 // script show of a session is among the examples.
 use client_session::{Heard, Session};
-use dc_talk::{Ask, Change, Refusal, Say};
+use dc_talk::{Ask, Call, Change, Outcome, Refusal, Say};
 use ids_core::{Dot, Name, NoMemory, ObjectId, OpId, Sort, Tags};
 use samples::{counter, mark, single};
 use std::alloc::Global;
@@ -140,4 +140,29 @@ fn a_commit_reaches_the_centre_and_comes_back(rt: HostRuntime) -> Result<(), Fai
     let mut session = Session::new(rt.alloc(), 1, 1, 2)?;
     assert_eq!(rt; session.client(), 1);
     send_and_see(&rt, rt.alloc(), &mut session)
+}
+
+// Has a session make calls, of which the last two are refused.
+fn make_calls(rt: &impl Abort, alloc: Global, session: &mut Session) -> Result<(), Fail> {
+    let object = counter("a")?;
+    let change = Change::Inc { delta: 5 };
+    assert!(rt; matches!(session.call(alloc, &Call::Begin)?, Outcome::Fine));
+    assert!(rt;
+        matches!(
+            session.call(alloc, &Call::Change { object, change })?,
+            Outcome::Fine
+        )
+    );
+    assert!(rt; matches!(session.call(alloc, &Call::Commit)?, Outcome::Number(1)));
+    let ended = session.call(alloc, &Call::Read { object })?;
+    assert!(rt; matches!(ended, Outcome::Refused(Refusal::NeedsFetch { .. })));
+    let ended = session.call(alloc, &Call::Abort)?;
+    assert!(rt; matches!(ended, Outcome::Refused(Refusal::NotOpen)));
+    Ok(())
+}
+
+#[test]
+fn each_call_says_how_it_ended(rt: HostRuntime) -> Result<(), Fail> {
+    let mut session = Session::new(rt.alloc(), 1, 1, 2)?;
+    make_calls(&rt, rt.alloc(), &mut session)
 }

@@ -1,7 +1,7 @@
 // A centre alone, and a centre beside its trail.
 use crate::told::{is_told, number_said};
 use dc_centre::{Centre, Desk};
-use dc_talk::{Ask, Entry, Say};
+use dc_talk::{Ask, Entry, Say, Settings};
 use hist_lock::Kept;
 use ids_core::{Dot, NoMemory, ObjectId};
 use samples::{counter, inc_tx, pair, single};
@@ -94,11 +94,21 @@ fn a_snapshot_shows_what_is_in_it(rt: HostRuntime) -> Result<(), Fail> {
     stamp_and_ask(&rt, rt.alloc(), &mut centre)
 }
 
+// The settings of one centre that stamps one transaction.
+fn only_centre() -> Settings {
+    Settings {
+        me: 1,
+        n: 1,
+        k: 1,
+        limit: 1,
+    }
+}
+
 // Has callers 2 and 5 ask for a newer snapshot, the latter of one that does not fit.
-fn refresh(alloc: Global, desk: &mut Desk) -> Result<(), NoMemory> {
+fn refresh(desk: &mut Desk) -> Result<(), NoMemory> {
     let client = 1;
     for (caller, at) in [(2, single(0)), (5, pair(0, 0))] {
-        desk.ask(alloc, caller, Ask::Refresh { client, at })?;
+        desk.ask(caller, &Ask::Refresh { client, at })?;
     }
     Ok(())
 }
@@ -116,8 +126,8 @@ fn are_two(entries: &[Entry]) -> bool {
 
 #[test]
 fn the_trail_has_each_ask_with_its_answer(rt: HostRuntime) -> Result<(), Fail> {
-    let mut desk = Desk::new(rt.alloc(), 1, 1, 1, 1)?;
-    refresh(rt.alloc(), &mut desk)?;
+    let mut desk = Desk::new(rt.alloc(), only_centre())?;
+    refresh(&mut desk)?;
     assert!(rt; are_two(desk.into_trail().as_slice()));
     Ok(())
 }

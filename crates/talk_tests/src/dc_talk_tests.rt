@@ -1,5 +1,7 @@
 // Asks and trails.
-use dc_talk::{Ask, Say, Trail, law_history};
+use dc_centre::Centre;
+use dc_talk::{Ask, Say, law_history};
+use hist_lock::Trail;
 use ids_core::NoMemory;
 use samples::{pair, single};
 use std::test::Fail;
@@ -18,16 +20,16 @@ fn asks_fit_or_do_not(rt: HostRuntime) {
 }
 
 // Puts the hello of a client, as of a caller, at the end.
-fn note(trail: &mut Trail, caller: u32, client: u32) -> Result<(), NoMemory> {
+fn note(trail: &mut Trail<Centre>, caller: u32, client: u32) -> Result<(), NoMemory> {
     trail.room()?;
     let need = single(0);
     trail.push(caller, Ask::Hello { client, need }, Say::Misfit)
 }
 
 // Whether the entry at a place is of that caller.
-fn is_by(trail: &Trail, at: usize, caller: u32) -> bool {
+fn is_by(trail: &Trail<Centre>, at: usize, caller: u32) -> bool {
     match trail.get(at) {
-        Some(entry) => entry.caller == caller,
+        Some((by, _, _)) => by == caller,
         None => false,
     }
 }

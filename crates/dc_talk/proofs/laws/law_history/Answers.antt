@@ -7,13 +7,13 @@ pub returns-clause-order : goal.returns-clause-order
 returns-clause-order c = in_order
 
 pub returns-clause-origins : goal.returns-clause-origins
-returns-clause-origins c me n k limit trail history = no_gaps me n (applied n trail) (in_order me n k limit trail history)
+returns-clause-origins c s trail history = no_gaps s (applied s.n trail) (in_order s trail history)
 
 pub returns-clause-dependencies : goal.returns-clause-dependencies
-returns-clause-dependencies c me n k limit trail history = dependencies me n (applied n trail) (in_order me n k limit trail history)
+returns-clause-dependencies c s trail history = dependencies s (applied s.n trail) (in_order s trail history)
 
 pub returns-clause-numbers : goal.returns-clause-numbers
-returns-clause-numbers c me n k limit trail history = numbers_below me n (applied n trail) (in_order me n k limit trail history)
+returns-clause-numbers c s trail history = numbers_below s (applied s.n trail) (in_order s trail history)
 
 pub returns-clause-stamps : goal.returns-clause-stamps
-returns-clause-stamps c me n k limit trail history = stamps_in_order me n (applied n trail) (in_order me n k limit trail history)
+returns-clause-stamps c s trail history = stamps_in_order s (applied s.n trail) (in_order s trail history)

@@ -12,9 +12,9 @@ returns c =
       λ t.
           let p = c.is_counted.ensures.0 t in
           subst (λ (h : Have). (r : Record) × In r h.records × (r.stamp ≡ c.args.stamp.now)) c.self.view_is
-          (has_within (length s.vector) s.vector s.guard s.dots s.top s.records.items A c.args.stamp.now c.self.invariant p.0 p.1 p.2 p.3),
+          (has_within (length s.vector) (record { counts = s.vector; lasts = s.guard; dots = s.dots; greatest = s.top; held = s.records.items }) A c.args.stamp.now c.self.invariant p.0 p.1 p.2 p.3),
       λ there.
           c.is_counted.ensures.1
-          (within_has (length s.vector) s.vector s.guard s.dots s.top s.records.items A c.args.stamp.now c.self.invariant
+          (within_has (length s.vector) (record { counts = s.vector; lasts = s.guard; dots = s.dots; greatest = s.top; held = s.records.items }) A c.args.stamp.now c.self.invariant
           (subst (λ (h : Have). (r : Record) × In r h.records × (r.stamp ≡ c.args.stamp.now)) (sym c.self.view_is) there)),
     )

@@ -1,13 +1,13 @@
 use Rattle.std.proofs.Common.{◌≡◌, ℕ, true, ap, ◌∙◌, arith}
 use Rattle.dc_talk.specs.Answers.{is_fit_item}
-use Rattle.dc_centre.specs.Centre.{Holds}
+use Rattle.dc_centre.specs.Centre.{CentreView}
 use Rattle.dc_centre.proofs.Records.{delivered_next}
 use Rattle.dc_centre.proofs.centre.Centre.deliver.Goals as goal
 
 pub take-requires : goal.take-requires
 take-requires c =
     let s = c.self.inside in
-    let n : s.applied.n ≡ c.args.self.now.n = c.self.invariant.width ∙ ap (λ (h : Holds). h.n) c.self.view_is in
+    let n : s.applied.n ≡ c.args.self.now.settings.n = c.self.invariant.width ∙ ap (λ (h : CentreView). h.settings.n) c.self.view_is in
     let fit : is_fit_item s.applied.n c.args.item.now ≡ true = ap (λ (n : ℕ). is_fit_item n c.args.item.now) n ∙ c.requires.fit in
     let old = c.if-item-have.false in
     let gap = c.if-item-have-gt1.false in

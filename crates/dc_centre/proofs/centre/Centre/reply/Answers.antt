@@ -5,4 +5,4 @@ use Rattle.dc_centre.proofs.Records.{commit_fits}
 use Rattle.dc_centre.proofs.centre.Centre.reply.Goals as goal
 
 pub commit-requires : goal.commit-requires
-commit-requires c = record { fit = commit_fits c.args.self.now.n c.in-Commit.tx (subst (λ (ask : Ask). fits c.args.self.now.n ask ≡ true) c.in-Commit.is c.requires) }
+commit-requires c = record { fit = commit_fits c.args.self.now.settings.n c.in-Commit.tx (subst (λ (ask : Ask). fits c.args.self.now.settings.n ask ≡ true) c.in-Commit.is c.requires) }

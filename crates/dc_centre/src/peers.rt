@@ -17,7 +17,7 @@ use vv_core::{Lack, Vector};
 impl Centre {
     /// The answer to a send, in two copies.
     pub(crate) fn send(&self, alloc: Global, after: u64, most: u32) -> Result<(Say, Say), NoMemory>
-        ensures answer { IfOk result (λ says. says.0 ≡ send_answer self.now.me self.now.records after most) }
+        ensures answer { IfOk result (λ says. says.0 ≡ send_answer self.now.settings.me self.now.records after most) }
         ensures copy { IfOk result (λ says. says.1 ≡ says.0) }
     {
         let asked = part(self.own.as_slice(), after, most);
@@ -28,8 +28,8 @@ impl Centre {
 
     /// The answer to a delivery that fits, in two copies.
     pub(crate) fn deliver(&mut self, alloc: Global, item: &Record) -> Result<(Say, Say), NoMemory>
-        requires fit { is_fit_item self.old.n item.now ≡ true }
-        ensures answer { IfOk result (λ says. says.0 ≡ deliver_answer self.old.me self.old.n self.old.records item.now) }
+        requires fit { is_fit_item self.old.settings.n item.now ≡ true }
+        ensures answer { IfOk result (λ says. says.0 ≡ deliver_answer self.old.settings self.old.records item.now) }
         ensures copy { IfOk result (λ says. says.1 ≡ says.0) }
         ensures goes { IfOk result (λ says. Goes self.old self.new (Deliver item.now) says.0) }
         ensures err { OnErr result (self.new ≡ self.old) }
@@ -55,7 +55,7 @@ impl Centre {
 
     /// The answer to a report, in two copies.
     pub(crate) fn report(&self) -> (Say, Say)
-        ensures answer { result.0 ≡ say.Vector (counts self.now.n self.now.records) }
+        ensures answer { result.0 ≡ say.Vector (counts self.now.settings.n self.now.records) }
         ensures copy { result.1 ≡ result.0 }
     {
         let vector = self.applied.vector();
@@ -64,9 +64,9 @@ impl Centre {
 
     /// The answer to what another centre reported, in two copies.
     pub(crate) fn learn(&mut self, from: u8, vector: &Vector) -> (Say, Say)
-        requires from { (1 ≤ from) × (from ≤ self.old.n) }
-        requires width { length vector.now ≡ self.old.n }
-        ensures answer { result.0 ≡ say.Learned (tells self.old.me (told_by self.old.told from) from vector.now) }
+        requires from { (1 ≤ from) × (from ≤ self.old.settings.n) }
+        requires width { length vector.now ≡ self.old.settings.n }
+        ensures answer { result.0 ≡ say.Learned (tells self.old.settings.me (told_by self.old.told from) from vector.now) }
         ensures copy { result.1 ≡ result.0 }
         ensures goes { Goes self.old self.new (Learn from vector.now) result.0 }
     {

@@ -1,9 +1,0 @@
-/// What never changes of a centre: its number, how many centres there are, how many make an update
-/// stable, and how many transactions it may stamp.
-#[derive(Clone, Copy)]
-pub struct Settings {
-    pub me: u8,
-    pub n: u8,
-    pub k: u8,
-    pub limit: u64,
-}
