@@ -1,15 +1,12 @@
 -- What a look-up leaves of a cache that has not the object.
-use Rattle.std.proofs.Common.{◌≡◌, ℕ, List, Option, Some, None, refl}
-use Rattle.std.specs.Option.{option_map}
+use Rattle.std.proofs.Common.{◌≡◌, ℕ, List, None}
 use Rattle.ids_core.specs.declared.object.ObjectId.{ObjectId}
-use Rattle.dc_talk.specs.declared.session.Cached.{Cached}
+use Rattle.dc_talk.specs.declared.calls.Cached.{Cached}
 use Rattle.dc_talk.specs.Clients.{is_entry, cached, promoted}
 use Rattle.list_core.specs.Firsts.{first_that}
+use Rattle.list_core.proofs.Choices.{option_map-none}
 use Rattle.list_core.proofs.Places.{brought_forward-absent}
 
-absent : {X Y : Type 0} (f : X → Y) (o : Option X) → option_map f o ≡ None → o ≡ None
-absent f None is = refl
-absent f (Some x) is = cc
-
+-- it is as it was
 pub promoted_absent : (o : ObjectId) (w : List ℕ) (cache : List Cached) → cached o w cache ≡ None → promoted o w cache ≡ cache
-promoted_absent o w cache none = brought_forward-absent (is_entry o w) cache (absent (λ (c : Cached). c.state) (first_that (is_entry o w) cache) none)
+promoted_absent o w cache none = brought_forward-absent (is_entry o w) cache (option_map-none (λ (c : Cached). c.state) (first_that (is_entry o w) cache) none)

@@ -1,6 +1,6 @@
 -- What a cache is seen as.
 use Rattle.std.specs.Prelude.{◌≤◌, ℕ, List, length}
-use Rattle.dc_talk.specs.declared.session.Cached.{Cached}
+use Rattle.dc_talk.specs.declared.calls.Cached.{Cached}
 
 -- the entries, the most recently used first, and the most that there may be
 pub record Entries : Type 0 where

@@ -23,14 +23,12 @@ pub struct Cache {
 }
 
 impl Model for Cache {
-    ghost use Rattle.std.specs.Coded.{codes};
-    ghost use Rattle.obj_set.specs.Sets.{set_code};
-    ghost use Rattle.obj_map.specs.Maps.{map_code};
+    ghost use Rattle.tx_core.specs.States.{state_codes};
     ghost use Rattle.client_cache.specs.Caches.{Entries, IsCache};
 
     ghost Value = { Entries };
 
-    ghost coded = { Prim.hlevel (codes, set_code, map_code) };
+    ghost coded = { Prim.hlevel state_codes };
 
     ghost view = { λ c. record { entries = c.entries.items; capacity = c.capacity } };
 

@@ -3,45 +3,23 @@ ghost use Rattle.std.specs.Prelude.{◌≡◌, ◌++◌, ◌∷◌, ◌-◌, [],
 ghost use Rattle.std.specs.Bool.{OnTrue};
 ghost use Rattle.std.specs.BTreeMap.{is_at};
 ghost use Rattle.ids_core.specs.Ids.{same_object};
+ghost use Rattle.ids_core.specs.Orders.{object_cmp};
 ghost use Rattle.ids_core.specs.declared.object.ObjectId.{ObjectId};
-ghost use Rattle.client_pending.specs.declared.index.Key.{Key as KeyOf};
-ghost use Rattle.client_pending.specs.Indexes.{key_of, key_cmp, line_at, listed};
+ghost use Rattle.client_pending.specs.Indexes.{listed};
 
-use ids_core::{Mark, Name, NoMemory, ObjectId, Sort};
+use ids_core::{Mark, NoMemory, ObjectId};
 use std::alloc::Global;
 use std::collections::{BTreeMap, VecDeque};
 use tx_core::Op;
-
-/// An object as a key: its kind as a number, and its name.
-#[derive(Clone, Copy, PartialEq, Eq, PartialOrd, Ord)]
-pub(crate) struct Key {
-    sort: u8,
-    name: Name,
-}
 
 /// The marked operations on one object, in the order of their commits.
 pub(crate) type Line = VecDeque<(Mark, Op)>;
 
 /// The lines of all objects; one that has no operation has none.
-pub(crate) type Index = BTreeMap<Key, Line>;
-
-pub(crate) fn key_of(object: &ObjectId) -> Key
-    ensures { result ≡ key_of object.now }
-{
-    let sort = match object.sort {
-        Sort::Counter => 0,
-        Sort::Register => 1,
-        Sort::Set => 2,
-        Sort::Map => 3,
-    };
-    Key {
-        sort,
-        name: object.name,
-    }
-}
+pub(crate) type Index = BTreeMap<ObjectId, Line>;
 
 // Puts an operation behind those on its object. An `Err` leaves all lines as they were.
-#[tactic(auto, using(crate::proofs::Lines::other_key))]
+#[tactic(auto, using(crate::proofs::Lines::other_object))]
 pub(crate) fn put(
     index: &mut Index,
     alloc: Global,
@@ -54,75 +32,78 @@ pub(crate) fn put(
     ensures err { OnErr result (listed index.new.entries object.now ≡ listed index.old.entries object.now) }
 {
     let op = op.copy()?;
-    put_at(index, alloc, &key_of(object), (*mark, op))
+    put_at(index, alloc, object, (*mark, op))
 }
 
 // Takes the first operation on an object away, where there is one.
-#[tactic(auto, using(crate::proofs::Lines::other_key))]
+#[tactic(auto, using(crate::proofs::Lines::other_object))]
 pub(crate) fn take_first(index: &mut Index, object: &ObjectId)
     ensures there { listed index.new.entries object.now ≡ drop 1 (listed index.old.entries object.now) }
     ensures apart { (o : ObjectId) → same_object object.now o ≡ false → listed index.new.entries o ≡ listed index.old.entries o }
 {
-    let key = key_of(object);
-    drop_first_at(index, &key);
-    clear_at(index, &key);
+    drop_first_at(index, object);
+    clear_at(index, object);
 }
 
 // Takes the last operation on an object away, where there is one.
-#[tactic(auto, using(crate::proofs::Lines::other_key))]
+#[tactic(auto, using(crate::proofs::Lines::other_object))]
 pub(crate) fn take_last(index: &mut Index, object: &ObjectId)
     ensures there { listed index.new.entries object.now ≡ take (length (listed index.old.entries object.now) - 1) (listed index.old.entries object.now) }
     ensures apart { (o : ObjectId) → same_object object.now o ≡ false → listed index.new.entries o ≡ listed index.old.entries o }
 {
-    let key = key_of(object);
-    drop_last_at(index, &key);
-    clear_at(index, &key);
+    drop_last_at(index, object);
+    clear_at(index, object);
 }
 
-fn put_at(index: &mut Index, alloc: Global, key: &Key, marked: (Mark, Op)) -> Result<(), NoMemory>
-    ensures there { OnOk result (line_at index.new.entries key.now ≡ line_at index.old.entries key.now ++ marked ∷ []) }
-    ensures apart { (k : KeyOf) → is_at (key_cmp key.now) k ≡ false → line_at index.new.entries k ≡ line_at index.old.entries k }
-    ensures err { OnErr result (line_at index.new.entries key.now ≡ line_at index.old.entries key.now) }
+fn put_at(
+    index: &mut Index,
+    alloc: Global,
+    object: &ObjectId,
+    marked: (Mark, Op),
+) -> Result<(), NoMemory>
+    ensures there { OnOk result (listed index.new.entries object.now ≡ listed index.old.entries object.now ++ marked ∷ []) }
+    ensures apart { (o : ObjectId) → is_at (object_cmp object.now) o ≡ false → listed index.new.entries o ≡ listed index.old.entries o }
+    ensures err { OnErr result (listed index.new.entries object.now ≡ listed index.old.entries object.now) }
 {
-    match index.get_mut(key) {
+    match index.get_mut(object) {
         Some(line) => put_last(line, marked),
         None => {
             let mut line = VecDeque::new(alloc);
             put_last(&mut line, marked)?;
-            index.insert(*key, line)?;
+            index.insert(*object, line)?;
             Ok(())
         }
     }
 }
 
-fn drop_first_at(index: &mut Index, key: &Key)
-    ensures there { line_at index.new.entries key.now ≡ drop 1 (line_at index.old.entries key.now) }
-    ensures apart { (k : KeyOf) → is_at (key_cmp key.now) k ≡ false → line_at index.new.entries k ≡ line_at index.old.entries k }
+fn drop_first_at(index: &mut Index, object: &ObjectId)
+    ensures there { listed index.new.entries object.now ≡ drop 1 (listed index.old.entries object.now) }
+    ensures apart { (o : ObjectId) → is_at (object_cmp object.now) o ≡ false → listed index.new.entries o ≡ listed index.old.entries o }
 {
-    if let Some(line) = index.get_mut(key) {
+    if let Some(line) = index.get_mut(object) {
         drop_first(line);
     }
 }
 
-fn drop_last_at(index: &mut Index, key: &Key)
-    ensures there { line_at index.new.entries key.now ≡ take (length (line_at index.old.entries key.now) - 1) (line_at index.old.entries key.now) }
-    ensures apart { (k : KeyOf) → is_at (key_cmp key.now) k ≡ false → line_at index.new.entries k ≡ line_at index.old.entries k }
+fn drop_last_at(index: &mut Index, object: &ObjectId)
+    ensures there { listed index.new.entries object.now ≡ take (length (listed index.old.entries object.now) - 1) (listed index.old.entries object.now) }
+    ensures apart { (o : ObjectId) → is_at (object_cmp object.now) o ≡ false → listed index.new.entries o ≡ listed index.old.entries o }
 {
-    if let Some(line) = index.get_mut(key) {
+    if let Some(line) = index.get_mut(object) {
         drop_last(line);
     }
 }
 
-// Takes the line at a key away, where it has no operation.
-fn clear_at(index: &mut Index, key: &Key)
-    ensures { (k : KeyOf) → line_at index.new.entries k ≡ line_at index.old.entries k }
+// Takes the line of an object away, where it has no operation.
+fn clear_at(index: &mut Index, object: &ObjectId)
+    ensures { (o : ObjectId) → listed index.new.entries o ≡ listed index.old.entries o }
 {
-    let empty = match index.get(key) {
+    let empty = match index.get(object) {
         Some(line) => is_bare(line),
         None => false,
     };
     if empty {
-        index.remove(key);
+        index.remove(object);
     }
 }
 

@@ -1,10 +1,11 @@
 // Commits that are pending.
 ghost use Rattle.std.specs.Prelude.{◌≡◌, ◌≤◌, ◌++◌, ◌∷◌, [], length, drop, vec_len, flat_map, IfErr, OnOk};
 ghost use Rattle.std.specs.Option.{option_copied};
+ghost use Rattle.ids_core.specs.declared.limits.TheConstants.{MOST_UPDATES};
 ghost use Rattle.tx_core.specs.States.{fold_of};
 ghost use Rattle.dc_talk.specs.Objects.{ops_of};
 
-use crate::index::{Index, Line, key_of};
+use crate::index::{Index, Line};
 use crate::turns::{put_tx, take_txs};
 use ids_core::{NoMemory, ObjectId};
 use std::alloc::Global;
@@ -24,6 +25,7 @@ pub struct Pending {
 
 impl Model for Pending {
     ghost use Rattle.std.specs.Prelude.{◌≤◌, List, length, All};
+    ghost use Rattle.ids_core.specs.declared.limits.TheConstants.{MOST_UPDATES};
     ghost use Rattle.tx_core.specs.declared.tx.Tx.{Tx};
     ghost use Rattle.client_pending.specs.Indexes.{Finds};
 
@@ -31,7 +33,7 @@ impl Model for Pending {
 
     ghost view = { λ p. p.txs.items };
 
-    ghost invariant = { λ p. Finds p.index.entries p.txs.items × All (λ tx. length tx.updates ≤ 256) p.txs.items };
+    ghost invariant = { λ p. Finds p.index.entries p.txs.items × All (λ tx. length tx.updates ≤ MOST_UPDATES) p.txs.items };
 }
 
 impl Pending {
@@ -53,10 +55,10 @@ impl Pending {
         self.txs.as_slice()
     }
 
-    /// Puts a commit of at most 256 updates at the end. An `Err` gives it back, and leaves all as it
+    /// Puts a commit of at most `MOST_UPDATES` updates at the end. An `Err` gives it back, and leaves all as it
     /// was. Time: logarithmic in the number of objects for each update.
     pub fn push(&mut self, tx: Tx) -> Result<(), Tx>
-        requires { length tx.updates ≤ 256 }
+        requires { length tx.updates ≤ MOST_UPDATES }
         ensures ok { OnOk result (self.new ≡ self.old ++ tx ∷ []) }
         ensures err { IfErr result (λ back. (back ≡ tx) × (self.new ≡ self.old)) }
     {
@@ -81,7 +83,7 @@ impl Pending {
     pub fn fold(&self, object: &ObjectId, state: &mut State) -> Result<(), NoMemory>
         ensures { OnOk result (state.new ≡ fold_of state.old (flat_map (ops_of object.now) self.now)) }
     {
-        match self.index.get(&key_of(object)) {
+        match self.index.get(object) {
             None => Ok(()),
             Some(line) => fold_line(line, state),
         }

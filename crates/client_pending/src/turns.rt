@@ -1,5 +1,6 @@
 // The operations of whole transactions, put in and taken away.
 ghost use Rattle.std.specs.Prelude.{◌≡◌, ◌≤◌, ◌++◌, ◌-◌, List, length, take, drop, OnOk, OnErr};
+ghost use Rattle.ids_core.specs.declared.limits.TheConstants.{MOST_UPDATES};
 ghost use Rattle.ids_core.specs.declared.object.ObjectId.{ObjectId};
 ghost use Rattle.tx_core.specs.declared.tx.Tx.{Tx as TxOf};
 ghost use Rattle.dc_talk.specs.Objects.{ops_from, ops_of};
@@ -12,7 +13,7 @@ use tx_core::{Tx, Update};
 
 // Puts the operations of a transaction behind all others. An `Err` leaves all as it was.
 pub(crate) fn put_tx(index: &mut Index, alloc: Global, tx: &Tx) -> Result<(), NoMemory>
-    requires { length tx.now.updates ≤ 256 }
+    requires { length tx.now.updates ≤ MOST_UPDATES }
     ensures ok { OnOk result ((o : ObjectId) → listed index.new.entries o ≡ listed index.old.entries o ++ ops_of o tx.now) }
     ensures err { OnErr result ((o : ObjectId) → listed index.new.entries o ≡ listed index.old.entries o) }
 {
@@ -27,7 +28,7 @@ pub(crate) fn put_tx(index: &mut Index, alloc: Global, tx: &Tx) -> Result<(), No
 
 // Puts the operations in, until memory is refused: how many.
 fn put_all(index: &mut Index, alloc: Global, rank: u64, dot: &Dot, updates: &[Update]) -> usize
-    requires { length updates.now ≤ 256 }
+    requires { length updates.now ≤ MOST_UPDATES }
     ensures count { result ≤ length updates.now }
     ensures listed { (o : ObjectId) → listed index.new.entries o ≡ listed index.old.entries o ++ ops_from o rank dot.now 0 (take result updates.now) }
 {

@@ -1,52 +1,50 @@
 -- What a change leaves of a session.
-use Rattle.std.proofs.Common.{◌≡◌, ◌≤◌, ◌<◌, ℕ, Bool, true, false, cond, unsigned_abs, List, [], ◌∷◌, ◌++◌, length, Option, Some, None, refl, ap, ◌∙◌, length-append, arith}
+use Rattle.std.proofs.Common.{◌≡◌, ◌≤◌, ◌<◌, ℕ, Bool, true, false, cond, List, [], ◌∷◌, ◌++◌, length, Option, Some, None, refl, ap, ◌∙◌, length-append, arith}
 use Rattle.std.specs.Prelude.{IfSome, IsSome, OnOk, IfErr, Result, Ok, Err, nat_lt, is_some}
-use Rattle.std.specs.Option.{unwrap_or, option_map}
-use Rattle.std.proofs.lemmas.Bool.{leb-true}
-use Rattle.std.proofs.lemmas.Int.{ints}
+use Rattle.std.specs.Option.{unwrap_or}
 use Rattle.std.proofs.lemmas.List.Elements.{All-push}
+use Rattle.list_core.proofs.Choices.{option_map-none}
 use Rattle.ids_core.specs.declared.ids.OpId.{OpId}
+use Rattle.ids_core.specs.declared.limits.TheConstants.{MOST_TAGS, MOST_UPDATES}
 use Rattle.ids_core.specs.declared.object.ObjectId.{ObjectId}
 use Rattle.tx_core.specs.declared.op.Op.{Op}
 use Rattle.tx_core.specs.declared.tx.Update.{Update}
 use Rattle.tx_core.specs.declared.state.State.{State}
 use Rattle.tx_core.specs.States.{tags_of}
 use Rattle.tx_core.specs.Checks.{IsFitUpdate}
-use Rattle.dc_talk.specs.declared.session.Change.{Change}
-use Rattle.dc_talk.specs.declared.session.Change.TheVariants.{Inc, Write, Add, Remove, Put, Erase}
-use Rattle.dc_talk.specs.declared.session.Call.TheVariants.{Change as ChangeCall}
-use Rattle.dc_talk.specs.declared.session.Outcome.TheVariants.{Fine, Refused}
-use Rattle.dc_talk.specs.declared.session.Refusal.{Refusal}
-use Rattle.dc_talk.specs.declared.session.Refusal.TheVariants.{NeedsFetch, TooManyTags, NoMemory}
+use Rattle.dc_talk.specs.declared.calls.Change.{Change}
+use Rattle.dc_talk.specs.declared.calls.Change.TheVariants.{Inc, Write, Add, Remove, Put, Erase}
+use Rattle.dc_talk.specs.declared.calls.Call.TheVariants.{Change as ChangeCall}
+use Rattle.dc_talk.specs.declared.calls.Outcome.TheVariants.{Fine, Refused}
+use Rattle.dc_talk.specs.declared.calls.Refusal.{Refusal}
+use Rattle.dc_talk.specs.declared.calls.Refusal.TheVariants.{NeedsFetch, TooManyTags, NoMemory}
 use Rattle.dc_talk.specs.Clients.{Client, cached, promoted, view}
-use Rattle.dc_talk.specs.Calls.{most_updates, most_tags, kind_of, is_modest, named, op_of, viewed, look_up_outcome, looked_up, did}
+use Rattle.dc_talk.specs.Calls.{sort_of_change, is_modest, named, op_of, viewed, look_up_outcome, looked_up, did}
 use Rattle.client_cache.proofs.Promoting.{promoted_absent}
 use Rattle.client_session.specs.Sessions.{IsClient, IsDraft}
 
 -- the operation of a change that is taken is fit for its object
-fits : (o : ObjectId) (c : Change) (over : List OpId) → kind_of c ≡ o.sort → is_modest c ≡ true → length over ≤ most_tags → IsFitUpdate (record { object = o; op = op_of c over })
-fits o (Inc delta) over kind modest few =
-    let small = leb-true (unsigned_abs delta) 1000000000000 modest in
-    record { kind = kind; delta = (omega (arith, ints, small), omega (arith, ints, small)); tags = omega arith }
-fits o (Write word) over kind modest few = record { kind = kind; delta = tt; tags = omega arith }
-fits o (Add word) over kind modest few = record { kind = kind; delta = tt; tags = few }
-fits o (Remove word) over kind modest few = record { kind = kind; delta = tt; tags = few }
-fits o (Put key word) over kind modest few = record { kind = kind; delta = tt; tags = few }
-fits o (Erase key) over kind modest few = record { kind = kind; delta = tt; tags = few }
+fits : (o : ObjectId) (c : Change) (over : List OpId) → sort_of_change c ≡ o.sort → is_modest c ≡ true → length over ≤ MOST_TAGS → IsFitUpdate (record { object = o; op = op_of c over })
+fits o (Inc delta) over kind modest few = record { kind = kind; delta = modest; tags = omega arith }
+fits o (Write word) over kind modest few = record { kind = kind; delta = modest; tags = omega arith }
+fits o (Add word) over kind modest few = record { kind = kind; delta = modest; tags = few }
+fits o (Remove word) over kind modest few = record { kind = kind; delta = modest; tags = few }
+fits o (Put key word) over kind modest few = record { kind = kind; delta = modest; tags = few }
+fits o (Erase key) over kind modest few = record { kind = kind; delta = modest; tags = few }
 
 -- one more update that is fit, where there is place for it
-grown : (clock : ℕ) (draft : Option (List Update)) (update : Update) → IsSome draft → length (unwrap_or draft []) < most_updates → IsFitUpdate update → IfSome draft (IsDraft clock) → IsDraft clock (unwrap_or draft [] ++ update ∷ [])
+grown : (clock : ℕ) (draft : Option (List Update)) (update : Update) → IsSome draft → length (unwrap_or draft []) < MOST_UPDATES → IsFitUpdate update → IfSome draft (IsDraft clock) → IsDraft clock (unwrap_or draft [] ++ update ∷ [])
 grown clock None update some place fit is = cc
 grown clock (Some updates) update some place fit is =
     let more = length-append updates (update ∷ []) in
     record { rank = is.rank; few = omega (arith, more, place); fit = All-push IsFitUpdate updates update is.fit fit }
 
 -- the open transaction after a push that may be refused
-pushed : {X : Type 0} (clock : ℕ) (old new : Option (List Update)) (update : Update) (r : Result X Refusal) → IsSome old → length (unwrap_or old []) < most_updates → IsFitUpdate update → IfSome old (IsDraft clock) → OnOk r (new ≡ Some (unwrap_or old [] ++ update ∷ [])) → IfErr r (λ refusal. (refusal ≡ NoMemory) × (new ≡ old)) → IfSome new (IsDraft clock)
+pushed : {X : Type 0} (clock : ℕ) (old new : Option (List Update)) (update : Update) (r : Result X Refusal) → IsSome old → length (unwrap_or old []) < MOST_UPDATES → IsFitUpdate update → IfSome old (IsDraft clock) → OnOk r (new ≡ Some (unwrap_or old [] ++ update ∷ [])) → IfErr r (λ refusal. (refusal ≡ NoMemory) × (new ≡ old)) → IfSome new (IsDraft clock)
 pushed clock old new update (Ok x) some place fit is ok err = rw ok (grown clock old update some place fit is)
 pushed clock old new update (Err refusal) some place fit is ok err = rw err.1 is
 
-pub changed : {X : Type 0} (s : Client) (o : ObjectId) (c : Change) (over : List OpId) (op : Op) (draft : Option (List Update)) (r : Result X Refusal) → IsClient s → IsSome s.draft → length (unwrap_or s.draft []) < most_updates → kind_of c ≡ o.sort → is_modest c ≡ true → op ≡ op_of c over → length over ≤ most_tags → OnOk r (draft ≡ Some (unwrap_or s.draft [] ++ record { object = o; op = op } ∷ [])) → IfErr r (λ refusal. (refusal ≡ NoMemory) × (draft ≡ s.draft)) → IsClient (record s { draft = draft })
+pub changed : {X : Type 0} (s : Client) (o : ObjectId) (c : Change) (over : List OpId) (op : Op) (draft : Option (List Update)) (r : Result X Refusal) → IsClient s → IsSome s.draft → length (unwrap_or s.draft []) < MOST_UPDATES → sort_of_change c ≡ o.sort → is_modest c ≡ true → op ≡ op_of c over → length over ≤ MOST_TAGS → OnOk r (draft ≡ Some (unwrap_or s.draft [] ++ record { object = o; op = op } ∷ [])) → IfErr r (λ refusal. (refusal ≡ NoMemory) × (draft ≡ s.draft)) → IsClient (record s { draft = draft })
 changed s o c over op draft r is some place kind modest same few ok err =
     record {
       client = is.client;
@@ -61,11 +59,6 @@ changed s o c over op draft r is some place kind modest same few ok err =
       draft = pushed s.clock s.draft draft (record { object = o; op = op }) r some place (rw same (fits o c over kind modest few)) is.draft ok err;
     }
 
--- no state is in view where none is cached
-unseen : (s : Client) (o : ObjectId) (state : Option State) → option_map (view s o) state ≡ None → state ≡ None
-unseen s o None is = refl
-unseen s o (Some state) is = cc
-
 -- a change that is refused for its many identifiers
 crowded : (s : Client) (o : ObjectId) (c : Change) (r : Refusal) (count : ℕ) (test : Bool) → cond test (Refused (TooManyTags count)) Fine ≡ Refused r → record s { cache = looked_up s o c } ≡ did s (ChangeCall o c) (Refused r)
 crowded s o c r count true is =
@@ -79,8 +72,8 @@ refused_by s o c r None state names seen is = cc
 refused_by s o c r (Some name) None names seen is =
     let which : NeedsFetch o ≡ r = cc in
     let looks = ap (λ name. cond (is_some name) (promoted o s.vector s.cache) s.cache) names in
-    rw (← which) (ap (λ cache. record s { cache = cache }) (looks ∙ promoted_absent o s.vector s.cache (unseen s o (cached o s.vector s.cache) seen)))
-refused_by s o c r (Some name) (Some state) names seen is = crowded s o c r (length (tags_of state name)) (nat_lt most_tags (length (tags_of state name))) is
+    rw (← which) (ap (λ cache. record s { cache = cache }) (looks ∙ promoted_absent o s.vector s.cache (option_map-none (view s o) (cached o s.vector s.cache) seen)))
+refused_by s o c r (Some name) (Some state) names seen is = crowded s o c r (length (tags_of state name)) (nat_lt MOST_TAGS (length (tags_of state name))) is
 
 -- a change that its look-up refuses has looked its object up, and no more
 pub refused : (s : Client) (o : ObjectId) (c : Change) (r : Refusal) → look_up_outcome o (named c) (viewed s o) ≡ Refused r → record s { cache = looked_up s o c } ≡ did s (ChangeCall o c) (Refused r)

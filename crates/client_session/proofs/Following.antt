@@ -4,11 +4,11 @@ use Rattle.std.specs.Prelude.{is_none, IfSome, All, nat_le, ◌==◌}
 use Rattle.std.proofs.lemmas.Bool.{and_parts, leb-true}
 use Rattle.std.proofs.lemmas.List.{length-drop}
 use Rattle.std.proofs.lemmas.List.Elements.{All-drop}
+use Rattle.ids_core.specs.declared.limits.TheConstants.{MOST_NUMBER, MOST_PENDING, MOST_UPDATES}
 use Rattle.vv_core.specs.Vectors.{covers}
 use Rattle.tx_core.specs.declared.tx.Update.{Update}
 use Rattle.tx_core.specs.Checks.{IsFitUpdate}
 use Rattle.dc_talk.specs.Clients.{Client}
-use Rattle.dc_talk.specs.Calls.{most_rank, most_updates}
 use Rattle.dc_talk.specs.Rule.{can_follow}
 use Rattle.client_session.specs.Sessions.{IsClient, IsDraft}
 
@@ -21,16 +21,16 @@ pub followed : (s : Client) (vector : List ℕ) (mine top : ℕ) → IsClient s 
 followed s vector mine top is follows =
     let most = and_parts _ (nat_le mine s.own) follows in
     let least = and_parts _ (nat_le s.mine mine) most.0 in
-    let ranked = and_parts _ (nat_le top most_rank) least.0 in
+    let ranked = and_parts _ (nat_le top MOST_NUMBER) least.0 in
     let covered = and_parts _ (covers vector s.vector) ranked.0 in
     let wide = and_parts (is_none s.draft) (length vector == length s.vector) covered.0 in
     let low : s.mine ≤ mine = leb-true s.mine mine least.1 in
     let high : mine ≤ s.own = leb-true mine s.own most.1 in
-    let rank : top ≤ most_rank = leb-true top most_rank ranked.1 in
+    let rank : top ≤ MOST_NUMBER = leb-true top MOST_NUMBER ranked.1 in
     let count : length s.pending + s.mine ≡ s.own = is.count in
     let own : s.own ≤ s.clock = is.own in
-    let clock : s.clock ≤ most_rank = is.clock in
-    let room : length s.pending ≤ 1024 = is.room in
+    let clock : s.clock ≤ MOST_NUMBER = is.clock in
+    let room : length s.pending ≤ MOST_PENDING = is.room in
     let left : length (drop (mine - s.mine) s.pending) ≡ length s.pending - (mine - s.mine) = length-drop (mine - s.mine) s.pending in
     record {
       client = is.client;
@@ -39,7 +39,7 @@ followed s vector mine top is follows =
       clock = omega arith;
       count = omega arith;
       room = omega arith;
-      pending = All-drop (λ tx. length tx.updates ≤ most_updates) (mine - s.mine) s.pending is.pending;
+      pending = All-drop (λ tx. length tx.updates ≤ MOST_UPDATES) (mine - s.mine) s.pending is.pending;
       fit = All-drop (λ tx. All IsFitUpdate tx.updates) (mine - s.mine) s.pending is.fit;
       sent = is.sent;
       draft = no_draft (max s.clock top) s.draft wide.0;

@@ -75,10 +75,10 @@ impl Session {
                 let settled = link.sent.max(self.mine);
                 match self.pending.as_slice().get((settled - self.mine) as usize) {
                     None => Ok(None),
-                    Some(tx) => match tx.copy() {
-                        Ok(tx) => Ok(Some((link.centre, Ask::Commit { tx }))),
-                        Err(_) => Err(Refusal::NoMemory),
-                    },
+                    Some(tx) => {
+                        let tx = tx.copy()?;
+                        Ok(Some((link.centre, Ask::Commit { tx })))
+                    }
                 }
             }
         }

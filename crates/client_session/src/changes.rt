@@ -3,23 +3,17 @@ ghost use Rattle.std.specs.Prelude.{◌≡◌, ◌≢◌, ◌≤◌, ◌<◌, �
 ghost use Rattle.std.specs.Option.{unwrap_or};
 ghost use Rattle.tx_core.specs.Checks.{IsFitUpdate};
 ghost use Rattle.client_session.specs.SessionAnswers.{MayBeShort};
-ghost use Rattle.dc_talk.specs.Calls.{kind_of, is_modest, named, op_of, tags_in, most_tags};
+ghost use Rattle.dc_talk.specs.Calls.{sort_of_change, is_modest, named, op_of, tags_in};
 
 use crate::session::Session;
 use dc_talk::{Call, Change, Outcome, Refusal};
-use ids_core::{Name, NoMemory, ObjectId, Sort, Tags};
+use ids_core::{MOST_TAGS, MOST_UPDATES, Name, ObjectId, Tags};
 use std::alloc::Global;
-use tx_core::{Op, Update, Updates};
-
-/// The most updates of one transaction.
-const MOST_UPDATES: u64 = 256;
-
-/// The most live identifiers that a change may be over.
-const MOST_TAGS: u64 = 4_096;
+use tx_core::{Op, Update, Updates, is_small_delta};
 
 impl Session {
     ghost use Rattle.dc_talk.specs.Clients.{promoted, draft_updates};
-    ghost use Rattle.dc_talk.specs.Calls.{Ends, most_updates, over, viewed, look_up_outcome, change_outcome, looked_up};
+    ghost use Rattle.dc_talk.specs.Calls.{Ends, over, viewed, look_up_outcome, change_outcome, looked_up};
 
     /// Changes an object in the open transaction. A change of a set or a map is over the live
     /// identifiers of its word or key in what the client has of the object, and looks it up: the
@@ -41,11 +35,8 @@ impl Session {
             None => match self.op_of(alloc, object, change) {
                 Err(refusal) => Err(refusal),
                 Ok(op) => {
-                    let update = Update {
-                        object: *object,
-                        op,
-                    };
-                    push_update(&mut self.draft, update)
+                    let object = *object;
+                    push_update(&mut self.draft, Update { object, op })
                 }
             },
         }
@@ -54,15 +45,15 @@ impl Session {
     // Why a change is refused before any look-up.
     fn update_refusal(&self, object: &ObjectId, change: &Change) -> Option<Refusal>
         ensures none { IfNone result (change_outcome self.now object.now change.now ≡ look_up_outcome object.now (named change.now) (viewed self.now object.now)) }
-        ensures fits { IfNone result ((kind_of change.now ≡ object.now.sort) × (is_modest change.now ≡ true)) }
-        ensures open { IfNone result (IsSome self.now.draft × (length (draft_updates self.now) < most_updates)) }
+        ensures fits { IfNone result ((sort_of_change change.now ≡ object.now.sort) × (is_modest change.now ≡ true)) }
+        ensures open { IfNone result (IsSome self.now.draft × (length (draft_updates self.now) < MOST_UPDATES)) }
         ensures some { IfSome result (λ refusal. Ends self.now self.now (Call.Change object.now change.now) (Outcome.Refused refusal)) }
         ensures known { IfSome result (λ refusal. refusal ≢ Refusal.NoMemory) }
     {
         match &self.draft {
             None => Some(Refusal::NotOpen),
             Some(updates) => {
-                if kind_of(change) != object.sort {
+                if change.sort() != object.sort {
                     Some(Refusal::WrongKind)
                 } else if !is_modest(change) {
                     Some(Refusal::DeltaTooLarge)
@@ -80,7 +71,7 @@ impl Session {
     // The operation of a change, over what is live of its word or key.
     fn op_of(&mut self, alloc: Global, object: &ObjectId, change: &Change) -> Result<Op, Refusal>
         ensures ok { IfOk result (λ op. (look_up_outcome object.now (named change.now) (viewed self.old object.now) ≡ Outcome.Fine) × (op ≡ op_of change.now (over self.old object.now change.now))) }
-        ensures few { IfOk result (λ op. length (over self.old object.now change.now) ≤ most_tags) }
+        ensures few { IfOk result (λ op. length (over self.old object.now change.now) ≤ MOST_TAGS) }
         ensures refused { IfErr result (λ refusal. refusal ≢ Refusal.NoMemory → look_up_outcome object.now (named change.now) (viewed self.old object.now) ≡ Outcome.Refused refusal) }
         ensures short { result ≡ Err Refusal.NoMemory → IsSome (named change.now) → IsSome (viewed self.old object.now) }
         ensures cache { self.new ≡ record self.old { cache = looked_up self.old object.now change.now } }
@@ -110,25 +101,20 @@ impl Session {
     // What is live of a word or key in what the client has of the object.
     fn live(&mut self, alloc: Global, object: &ObjectId, name: &Name) -> Result<Tags, Refusal>
         ensures ok { IfOk result (λ tags. (look_up_outcome object.now (Some name.now) (viewed self.old object.now) ≡ Outcome.Fine) × (tags ≡ tags_in (Some name.now) (viewed self.old object.now))) }
-        ensures few { IfOk result (λ tags. length tags ≤ most_tags) }
+        ensures few { IfOk result (λ tags. length tags ≤ MOST_TAGS) }
         ensures refused { IfErr result (λ refusal. refusal ≢ Refusal.NoMemory → look_up_outcome object.now (Some name.now) (viewed self.old object.now) ≡ Outcome.Refused refusal) }
         ensures short { result ≡ Err Refusal.NoMemory → IsSome (viewed self.old object.now) }
         ensures cache { self.new ≡ record self.old { cache = promoted object.now self.old.vector self.old.cache } }
     {
-        match self.look_up(object) {
-            Err(refusal) => Err(refusal),
-            Ok(state) => match state.tags_of(alloc, name) {
-                Err(NoMemory) => Err(Refusal::NoMemory),
-                Ok(tags) => few(tags),
-            },
-        }
+        let state = self.look_up(object)?;
+        few(state.tags_of(alloc, name)?)
     }
 }
 
 // The identifiers, where they are few enough.
 fn few(tags: Tags) -> Result<Tags, Refusal>
-    ensures ok { IfOk result (λ same. (same ≡ tags) × (length tags ≤ most_tags)) }
-    ensures refused { IfErr result (λ refusal. (most_tags < length tags) × (refusal ≡ Refusal.TooManyTags (length tags))) }
+    ensures ok { IfOk result (λ same. (same ≡ tags) × (length tags ≤ MOST_TAGS)) }
+    ensures refused { IfErr result (λ refusal. (MOST_TAGS < length tags) × (refusal ≡ Refusal.TooManyTags (length tags))) }
 {
     let count = tags.as_slice().len() as u64;
     if MOST_TAGS < count {
@@ -138,24 +124,12 @@ fn few(tags: Tags) -> Result<Tags, Refusal>
     }
 }
 
-// The kind of objects that a change is of.
-fn kind_of(change: &Change) -> Sort
-    ensures { result ≡ kind_of change.now }
-{
-    match change {
-        Change::Inc { .. } => Sort::Counter,
-        Change::Write { .. } => Sort::Register,
-        Change::Add { .. } | Change::Remove { .. } => Sort::Set,
-        Change::Put { .. } | Change::Erase { .. } => Sort::Map,
-    }
-}
-
-// Whether the delta, if there is one, lies in -10^12 to 10^12.
+// Whether the delta, if there is one, is small.
 fn is_modest(change: &Change) -> bool
     ensures { result ≡ is_modest change.now }
 {
     match change {
-        Change::Inc { delta } => delta.unsigned_abs() <= 1_000_000_000_000,
+        Change::Inc { delta } => is_small_delta(*delta),
         _ => true,
     }
 }

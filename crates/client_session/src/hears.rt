@@ -6,9 +6,9 @@ ghost use Rattle.dc_talk.specs.Clients.{same_vector, kept};
 ghost use Rattle.dc_talk.specs.Rule.{is_linked, sent_through, can_follow, takes, heard};
 ghost use Rattle.client_session.specs.SessionAnswers.{heard_as, is_object};
 
-use crate::session::{MOST_RANK, Session};
-use dc_talk::{Ask, Link, Say};
-use ids_core::{Dot, NoMemory, ObjectId};
+use crate::session::Session;
+use dc_talk::{Ask, Connection, Say};
+use ids_core::{Dot, MOST_NUMBER, NoMemory, ObjectId};
 use tx_core::{State, Tx};
 use vv_core::Vector;
 
@@ -63,7 +63,7 @@ impl Session {
             return Heard::Ignored;
         }
         let sent = through.min(self.own);
-        self.link = Some(Link { centre, sent });
+        self.link = Some(Connection { centre, sent });
         Heard::Took
     }
 
@@ -111,7 +111,7 @@ impl Session {
         if dot.client == self.client && self.is_linked(centre) {
             if let Some(link) = self.link {
                 let sent = link.sent.max(through).min(self.own);
-                self.link = Some(Link {
+                self.link = Some(Connection {
                     centre: link.centre,
                     sent,
                 });
@@ -138,7 +138,7 @@ impl Session {
         self.draft.is_none()
             && vector.width() == self.vector.width()
             && vector.covers(&self.vector)
-            && top <= MOST_RANK
+            && top <= MOST_NUMBER
             && self.mine <= mine
             && mine <= self.own
     }

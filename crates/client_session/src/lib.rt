@@ -3,6 +3,7 @@
 #![tactic(auto)]
 
 mod asks;
+mod calls;
 mod changes;
 mod hears;
 mod session;

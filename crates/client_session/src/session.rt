@@ -1,20 +1,15 @@
 // The session of one client (Zawirski and others, Middleware 2015, sections 3 and 4).
 ghost use Rattle.std.specs.Prelude.{◌≡◌, ◌≢◌, ◌≤◌, ◌<◌, ◌↔◌, ◌++◌, ◌∷◌, [], ◌+◌, length, vec_len, vec_capacity, IsSome, IsTrue, IfOk, IfErr, OnOk, OnErr, IfSome, IfNone};
+ghost use Rattle.ids_core.specs.declared.limits.TheConstants.{MOST_CENTRES, MOST_CLIENTS};
 
 use client_cache::Cache;
 use client_pending::Pending;
-use dc_talk::{Call, Link, Outcome, Refusal};
-use ids_core::{Dot, NoMemory};
+use dc_talk::{Call, Connection, Outcome, Refusal};
+use ids_core::{Dot, MOST_NUMBER, MOST_PENDING, NoMemory};
 use std::alloc::Global;
 use std::marker::Model;
 use tx_core::{Tx, Updates};
 use vv_core::Vector;
-
-/// The greatest rank.
-pub(crate) const MOST_RANK: u64 = 1 << 62;
-
-/// The most commits that may be pending.
-const MOST_PENDING: u64 = 1_024;
 
 /// What can be read off a session.
 #[derive(Clone, Copy)]
@@ -47,21 +42,19 @@ pub struct Session {
     pub(crate) clock: u64,
     // The commits `mine + 1` to `own`.
     pub(crate) pending: Pending,
-    pub(crate) link: Option<Link>,
+    pub(crate) link: Option<Connection>,
     pub(crate) draft: Option<Updates>,
     pub(crate) cache: Cache,
 }
 
 impl Model for Session {
-    ghost use Rattle.std.specs.Coded.{codes};
-    ghost use Rattle.obj_set.specs.Sets.{set_code};
-    ghost use Rattle.obj_map.specs.Maps.{map_code};
+    ghost use Rattle.tx_core.specs.States.{state_codes};
     ghost use Rattle.dc_talk.specs.Clients.{Client};
     ghost use Rattle.client_session.specs.Sessions.{IsClient};
 
     ghost Value = { Client };
 
-    ghost coded = { Prim.hlevel (codes, set_code, map_code) };
+    ghost coded = { Prim.hlevel state_codes };
 
     ghost view = { λ s. record { client = s.client; vector = s.vector; own = s.own; mine = s.mine; clock = s.clock; pending = s.pending; link = s.link; draft = s.draft; cache = s.cache.entries; capacity = s.cache.capacity } };
 
@@ -70,14 +63,14 @@ impl Model for Session {
 
 impl Session {
     ghost use Rattle.dc_talk.specs.Clients.{new_client, draft_updates};
-    ghost use Rattle.dc_talk.specs.Calls.{Ends, committed, begin_outcome, commit_outcome, most_rank, most_pending};
+    ghost use Rattle.dc_talk.specs.Calls.{Ends, committed, begin_outcome, commit_outcome};
     ghost use Rattle.client_session.specs.SessionAnswers.{facts_of};
 
     /// The session of a client, 1 to 1,024, among `n` centres, 1 to 8, with a cache for so many
     /// entries, 1 or more.
     pub fn new(alloc: Global, client: u32, n: u8, cache: usize) -> Result<Session, NoMemory>
-        requires client { (1 ≤ client) × (client ≤ 1024) }
-        requires centres { (1 ≤ n) × (n ≤ 8) }
+        requires client { (1 ≤ client) × (client ≤ MOST_CLIENTS) }
+        requires centres { (1 ≤ n) × (n ≤ MOST_CENTRES) }
         requires cache { 1 ≤ cache }
         ensures { IfOk result (λ session. session ≡ new_client n client cache) }
     {
@@ -121,10 +114,11 @@ impl Session {
         }
     }
 
-    /// Opens a transaction. After each refusal the session is as it was.
+    /// Opens a transaction. It takes no memory, and after each refusal the session is as it was.
     pub fn begin(&mut self, alloc: Global) -> Result<(), Refusal>
         ensures taken { OnOk result (Ends self.old self.new Call.Begin Outcome.Fine) }
         ensures refused { IfErr result (λ refusal. Ends self.old self.new Call.Begin (Outcome.Refused refusal)) }
+        ensures known { result ≢ Err Refusal.NoMemory }
     {
         match self.begin_refusal() {
             Some(refusal) => Err(refusal),
@@ -163,6 +157,7 @@ impl Session {
     pub fn abort(&mut self) -> Result<(), Refusal>
         ensures taken { OnOk result (Ends self.old self.new Call.Abort Outcome.Fine) }
         ensures refused { IfErr result (λ refusal. Ends self.old self.new Call.Abort (Outcome.Refused refusal)) }
+        ensures known { result ≢ Err Refusal.NoMemory }
     {
         if self.draft.is_none() {
             return Err(Refusal::NotOpen);
@@ -172,12 +167,13 @@ impl Session {
     }
 
     fn begin_refusal(&self) -> Option<Refusal>
-        ensures none { IfNone result ((begin_outcome self.now ≡ Outcome.Fine) × (self.now.clock < most_rank)) }
+        ensures none { IfNone result ((begin_outcome self.now ≡ Outcome.Fine) × (self.now.clock < MOST_NUMBER)) }
         ensures some { IfSome result (λ refusal. begin_outcome self.now ≡ Outcome.Refused refusal) }
+        ensures known { IfSome result (λ refusal. refusal ≢ Refusal.NoMemory) }
     {
         if self.draft.is_some() {
             Some(Refusal::AlreadyOpen)
-        } else if MOST_RANK <= self.clock {
+        } else if MOST_NUMBER <= self.clock {
             Some(Refusal::ClockFull)
         } else {
             None
@@ -185,7 +181,7 @@ impl Session {
     }
 
     fn commit_refusal(&self) -> Option<Refusal>
-        ensures none { IfNone result (IsSome self.now.draft × (draft_updates self.now ≢ [] → length self.now.pending < most_pending)) }
+        ensures none { IfNone result (IsSome self.now.draft × (draft_updates self.now ≢ [] → length self.now.pending < MOST_PENDING)) }
         ensures some { IfSome result (λ refusal. commit_outcome self.now self.now.draft ≡ Outcome.Refused refusal) }
     {
         match &self.draft {
@@ -214,7 +210,7 @@ impl Session {
     // Makes the open transaction the last commit that is pending: the new number.
     fn commit_draft(&mut self) -> Result<u64, Refusal>
         requires open { IsSome self.old.draft }
-        requires place { length self.old.pending < most_pending }
+        requires place { length self.old.pending < MOST_PENDING }
         ensures ok { IfOk result (λ number. (number ≡ self.old.own + 1) × (self.new ≡ committed self.old)) }
         ensures err { IfErr result (λ refusal. (refusal ≡ Refusal.NoMemory) × (self.new ≡ self.old)) }
     {

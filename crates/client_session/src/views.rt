@@ -24,13 +24,8 @@ impl Session {
         ensures short { result ≡ Err Refusal.NoMemory → IsSome (viewed self.old object.now) }
         ensures cache { self.new ≡ record self.old { cache = promoted object.now self.old.vector self.old.cache } }
     {
-        match self.look_up(object) {
-            Err(refusal) => Err(refusal),
-            Ok(state) => match state.value(alloc) {
-                Ok(value) => Ok(value),
-                Err(NoMemory) => Err(Refusal::NoMemory),
-            },
-        }
+        let state = self.look_up(object)?;
+        Ok(state.value(alloc)?)
     }
 
     // What the client has of an object, whose entry becomes the first of the cache.
@@ -41,13 +36,8 @@ impl Session {
         ensures cache { self.new ≡ record self.old { cache = promoted object.now self.old.vector self.old.cache } }
     {
         let at = self.vector;
-        match copy_cached(&mut self.cache, object, &at) {
-            Err(refusal) => Err(refusal),
-            Ok(state) => match self.view(object, state) {
-                Ok(state) => Ok(state),
-                Err(NoMemory) => Err(Refusal::NoMemory),
-            },
-        }
+        let state = copy_cached(&mut self.cache, object, &at)?;
+        Ok(self.view(object, state)?)
     }
 
     // What the client has of an object whose state at the snapshot is given.
@@ -77,9 +67,6 @@ fn copy_cached(cache: &mut Cache, object: &ObjectId, at: &Vector) -> Result<Stat
 {
     match cache.find(object, at) {
         None => Err(Refusal::NeedsFetch { object: *object }),
-        Some(state) => match state.copy() {
-            Ok(state) => Ok(state),
-            Err(_) => Err(Refusal::NoMemory),
-        },
+        Some(state) => Ok(state.copy()?),
     }
 }

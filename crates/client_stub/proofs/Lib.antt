@@ -1,4 +1,4 @@
-pub mod Growing
-pub mod Taking
-pub mod Leaving
-pub mod Flushing
+pub mod Growth
+pub mod SessionAsks
+pub mod Steps
+pub mod Flushes

@@ -1,72 +1,94 @@
-// The calls of a session, each with how it ended.
-ghost use Rattle.std.specs.Prelude.{◌≢◌};
-ghost use Rattle.dc_talk.specs.Calls.{Ends};
+// The calls that the steps of a client make at its session.
+ghost use Rattle.std.specs.Prelude.{◌≡◌, IfOk, OnOk};
+ghost use Rattle.dc_talk.specs.Calls.{outcome_of};
+ghost use Rattle.dc_centre.specs.Desk.{DeskView};
+ghost use Rattle.script_text.specs.Deeds.{CallDeeds, calls, change_call, read_call};
+ghost use Rattle.client_stub.specs.Playing.{GrowsBy, MakesCall, beside, needs_fetch};
 
-use client_session::Session;
-use dc_talk::{Call, Change, Outcome, Refusal};
-use ids_core::ObjectId;
+use crate::lines::{call_line, word_of};
+use crate::seat::Seat;
+use dc_centre::Desk;
+use dc_talk::{Call, Change, Deed, Outcome, Refusal, StepWord};
+use ids_core::{NoMemory, ObjectId};
+use script_text::ObjectCall;
 use std::alloc::Global;
 
-/// Makes a call of a session; answers how it ended.
-pub fn make_call(session: &mut Session, alloc: Global, call: &Call) -> Outcome
-    ensures { result ≢ Outcome.Refused Refusal.NoMemory → Ends session.old session.new call.now result }
-{
-    match call {
-        Call::Begin => call_begin(session, alloc),
-        Call::Change { object, change } => call_change(session, alloc, object, change),
-        Call::Read { object } => call_read(session, alloc, object),
-        Call::Commit => call_commit(session),
-        Call::Abort => call_abort(session),
+impl Seat {
+    // Makes a call of the session, notes how it ended, and tells its line. Answers whether it has to
+    // have its object fetched.
+    pub(crate) fn call(&mut self, alloc: Global, call: &Call) -> Result<bool, NoMemory>
+        ensures { IfOk result (λ needs. (desk : DeskView) → MakesCall call.now (beside self.old desk) (beside self.new desk) needs) }
+    {
+        let client = self.session.client();
+        let outcome = self.session.call(alloc, call)?;
+        let needs = needs_fetch(&outcome);
+        let line = call_line(client, call, &outcome)?;
+        let call = *call;
+        self.log.push(Deed::Did { call, outcome })?;
+        self.tell(line)?;
+        Ok(needs)
+    }
+
+    // A step that is a call on no object.
+    pub(crate) fn call_alone(
+        &mut self,
+        alloc: Global,
+        desk: &Desk,
+        call: &Call,
+    ) -> Result<(), NoMemory>
+        ensures { OnOk result (GrowsBy (λ deeds. deeds ≡ calls self.old.client call.now) (beside self.old desk.now) (beside self.new desk.now)) }
+    {
+        self.call(alloc, call)?;
+        Ok(())
+    }
+
+    // A step that is a call on an object: where the object is needed, it is fetched, and the call made
+    // again.
+    pub(crate) fn call_on(
+        &mut self,
+        alloc: Global,
+        desk: &mut Desk,
+        on: &ObjectCall,
+    ) -> Result<(), NoMemory>
+        ensures { OnOk result (GrowsBy (CallDeeds self.old.client on.now (outcome_of self.old.client on.now.call)) (beside self.old desk.old) (beside self.new desk.new)) }
+    {
+        if self.call(alloc, &on.call)? {
+            self.fetch(alloc, desk, on)?;
+        }
+        Ok(())
     }
 }
 
-// Opens a transaction; answers how the call ended.
-fn call_begin(session: &mut Session, alloc: Global) -> Outcome
-    ensures { Ends session.old session.new Call.Begin result }
+/// A change of an object, as a call on it.
+pub fn change_call(object: &ObjectId, change: &Change) -> ObjectCall
+    ensures { result ≡ change_call object.now change.now }
 {
-    match session.begin(alloc) {
-        Ok(()) => Outcome::Fine,
-        Err(refusal) => Outcome::Refused(refusal),
+    let call = Call::Change {
+        object: *object,
+        change: *change,
+    };
+    ObjectCall {
+        word: word_of(change),
+        object: *object,
+        call,
     }
 }
 
-// Changes an object; answers how the call ended.
-fn call_change(session: &mut Session, alloc: Global, object: &ObjectId, change: &Change) -> Outcome
-    ensures { result ≢ Outcome.Refused Refusal.NoMemory → Ends session.old session.new (Call.Change object.now change.now) result }
+/// A read of an object, as a call on it.
+pub fn read_call(object: &ObjectId) -> ObjectCall
+    ensures { result ≡ read_call object.now }
 {
-    match session.update(alloc, object, change) {
-        Ok(()) => Outcome::Fine,
-        Err(refusal) => Outcome::Refused(refusal),
+    let call = Call::Read { object: *object };
+    ObjectCall {
+        word: StepWord::Read,
+        object: *object,
+        call,
     }
 }
 
-// Reads an object; answers how the call ended.
-fn call_read(session: &mut Session, alloc: Global, object: &ObjectId) -> Outcome
-    ensures { result ≢ Outcome.Refused Refusal.NoMemory → Ends session.old session.new (Call.Read object.now) result }
+// Whether a call has to have its object fetched.
+fn needs_fetch(outcome: &Outcome) -> bool
+    ensures { result ≡ needs_fetch outcome.now }
 {
-    match session.read(alloc, object) {
-        Ok(value) => Outcome::Got(value),
-        Err(refusal) => Outcome::Refused(refusal),
-    }
-}
-
-// Commits the open transaction; answers how the call ended.
-fn call_commit(session: &mut Session) -> Outcome
-    ensures { result ≢ Outcome.Refused Refusal.NoMemory → Ends session.old session.new Call.Commit result }
-{
-    match session.commit() {
-        Ok(Some(number)) => Outcome::Number(number),
-        Ok(None) => Outcome::Nothing,
-        Err(refusal) => Outcome::Refused(refusal),
-    }
-}
-
-// Ends the open transaction; answers how the call ended.
-fn call_abort(session: &mut Session) -> Outcome
-    ensures { Ends session.old session.new Call.Abort result }
-{
-    match session.abort() {
-        Ok(()) => Outcome::Fine,
-        Err(refusal) => Outcome::Refused(refusal),
-    }
+    matches!(outcome, Outcome::Refused(Refusal::NeedsFetch { .. }))
 }

@@ -2,6 +2,7 @@
 //! is told (Zawirski and others, Middleware 2015, sections 3 and 4).
 #![tactic(auto)]
 
+mod asks;
 mod calls;
 mod lines;
 mod purpose;

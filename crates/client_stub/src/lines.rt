@@ -1,58 +1,60 @@
-// The lines of steps, by how the session and the centre answered.
+// The lines of steps, by how the session and the centre answered; an answer to an ask of another kind
+// has none.
 ghost use Rattle.std.specs.Prelude.{◌≡◌, IfOk};
-ghost use Rattle.script_text.specs.Deeds.{hello_line, begin_told, word_of, call_told, commit_told, abort_told, goes_on, fetch_line, push_end, refresh_line};
-ghost use Rattle.dc_talk.specs.declared.session.Outcome.TheVariants.{Refused};
-ghost use Rattle.client_stub.specs.Playing.{told_of};
+ghost use Rattle.dc_talk.specs.declared.calls.Call.TheVariants.{Begin as BeginCall, Change as ChangeCall, Read as ReadCall, Commit as CommitCall, Abort as AbortCall};
+ghost use Rattle.script_text.specs.Deeds.{lack, miss_of, hello_line, word_of, call_line, fetch_line, push_end, push_line, goes_on, refresh_line};
 
-use dc_talk::{Change, Line, Miss, Outcome, PushEnd, Refusal, Say, StepWord};
+use dc_talk::{Call, Change, Line, Miss, Outcome, PushEnd, Refusal, Say, StepWord};
 use ids_core::{NoMemory, ObjectId};
+use script_text::ObjectCall;
 use vv_core::Lack;
 
-/// The line of a connect that was answered so.
-pub fn connect_line(client: u32, centre: u8, say: &Say) -> Line
-    ensures { result ≡ hello_line client centre say.now }
+// What a centre of which records are missing has, and what is needed of it.
+fn lack(centre: u8, need: u64, have: u64) -> Lack
+    ensures { result ≡ lack centre need have }
 {
-    match say {
-        Say::Welcome { .. } => Line::At { client, centre },
-        Say::Lacks {
-            centre: of,
-            need,
-            have,
-        } => Line::Refused {
-            client,
-            centre,
-            lack: Lack {
-                centre: *of,
-                need: *need,
-                have: *have,
-            },
-        },
-        Say::Down => Line::ConnectMissed {
-            client,
-            centre,
-            miss: Miss::Unreachable,
-        },
-        _ => Line::ConnectMissed {
-            client,
-            centre,
-            miss: Miss::Misfit,
-        },
-    }
+    Lack { centre, need, have }
 }
 
-/// The line of a begin that ended so, where it has one.
-pub fn begin_line(client: u32, outcome: &Outcome) -> Option<Line>
-    ensures { told_of result ≡ begin_told client outcome.now }
+// Why an answer counts for nothing, where it does.
+fn miss_of(say: &Say) -> Option<Miss>
+    ensures { result ≡ miss_of say.now }
 {
-    match outcome {
-        Outcome::Refused(Refusal::AlreadyOpen) => Some(Line::BeginOpen { client }),
-        Outcome::Refused(Refusal::ClockFull) => Some(Line::BeginClock { client }),
+    match say {
+        Say::Down => Some(Miss::Unreachable),
+        Say::Misfit => Some(Miss::Misfit),
         _ => None,
     }
 }
 
+/// The line of a connect that was answered so.
+pub fn hello_line(client: u32, centre: u8, say: &Say) -> Option<Line>
+    ensures { result ≡ hello_line client centre say.now }
+{
+    match say {
+        Say::Welcome { .. } => Some(Line::At { client, centre }),
+        Say::Lacks {
+            centre: of,
+            need,
+            have,
+        } => {
+            let lack = lack(*of, *need, *have);
+            Some(Line::Refused {
+                client,
+                centre,
+                lack,
+            })
+        }
+        _ => miss_of(say).map(|miss| Line::ConnectMissed {
+            client,
+            centre,
+            miss,
+        }),
+    }
+}
+
 /// The word of the step that makes a change.
-pub fn word_of_change(change: &Change) -> StepWord
+pub fn word_of(change: &Change) -> StepWord
     ensures { result ≡ word_of change.now }
 {
     match change {
@@ -65,43 +67,45 @@ pub fn word_of_change(change: &Change) -> StepWord
     }
 }
 
-/// The line of a call on an object that ended so, where it has one.
-pub fn call_line(
-    client: u32,
-    word: StepWord,
-    object: &ObjectId,
-    outcome: &Outcome,
-) -> Result<Option<Line>, NoMemory>
-    ensures { IfOk result (λ line. told_of line ≡ call_told client word object.now outcome.now) }
+/// The line of a call that ended so, where it has one. Only the value of a read takes memory.
+pub fn call_line(client: u32, call: &Call, outcome: &Outcome) -> Result<Option<Line>, NoMemory>
+    ensures { IfOk result (λ line. line ≡ call_line client call.now outcome.now) }
 {
-    match outcome {
-        Outcome::Got(value) => Ok(Some(Line::ReadValue {
-            client,
-            object: *object,
-            value: value.clone()?,
-        })),
-        Outcome::Refused(refusal) => Ok(refused_line(client, word, object, refusal)),
-        _ => Ok(None),
+    match call {
+        Call::Begin => Ok(begin_line(client, outcome)),
+        Call::Change { object, change } => Ok(change_line(client, object, change, outcome)),
+        Call::Read { object } => read_line(client, object, outcome),
+        Call::Commit => Ok(commit_line(client, outcome)),
+        Call::Abort => Ok(abort_line(client, outcome)),
     }
 }
 
-// The line of a call on an object that was refused, where it has one.
-fn refused_line(client: u32, word: StepWord, object: &ObjectId, refusal: &Refusal) -> Option<Line>
-    ensures { told_of result ≡ call_told client word object.now (Refused refusal.now) }
+fn begin_line(client: u32, outcome: &Outcome) -> Option<Line>
+    ensures { result ≡ call_line client BeginCall outcome.now }
 {
-    let object = *object;
-    match refusal {
-        Refusal::NotOpen => Some(Line::Closed {
+    match outcome {
+        Outcome::Refused(Refusal::AlreadyOpen) => Some(Line::BeginOpen { client }),
+        Outcome::Refused(Refusal::ClockFull) => Some(Line::BeginClock { client }),
+        _ => None,
+    }
+}
+
+fn change_line(client: u32, object: &ObjectId, change: &Change, outcome: &Outcome) -> Option<Line>
+    ensures { result ≡ call_line client (ChangeCall object.now change.now) outcome.now }
+{
+    let (word, object) = (word_of(change), *object);
+    match outcome {
+        Outcome::Refused(Refusal::NotOpen) => Some(Line::Closed {
             client,
             word,
             object,
         }),
-        Refusal::TooManyUpdates { .. } => Some(Line::ManyUpdates {
+        Outcome::Refused(Refusal::TooManyUpdates { .. }) => Some(Line::ManyUpdates {
             client,
             word,
             object,
         }),
-        Refusal::TooManyTags { count } => Some(Line::ManyTags {
+        Outcome::Refused(Refusal::TooManyTags { count }) => Some(Line::ManyTags {
             client,
             word,
             object,
@@ -111,9 +115,21 @@ fn refused_line(client: u32, word: StepWord, object: &ObjectId, refusal: &Refusa
     }
 }
 
-/// The line of a commit that ended so, where it has one.
-pub fn commit_line(client: u32, outcome: &Outcome) -> Option<Line>
-    ensures { told_of result ≡ commit_told client outcome.now }
+fn read_line(client: u32, object: &ObjectId, outcome: &Outcome) -> Result<Option<Line>, NoMemory>
+    ensures { IfOk result (λ line. line ≡ call_line client (ReadCall object.now) outcome.now) }
+{
+    match outcome {
+        Outcome::Got(value) => Ok(Some(Line::ReadValue {
+            client,
+            object: *object,
+            value: value.clone()?,
+        })),
+        _ => Ok(None),
+    }
+}
+
+fn commit_line(client: u32, outcome: &Outcome) -> Option<Line>
+    ensures { result ≡ call_line client CommitCall outcome.now }
 {
     match outcome {
         Outcome::Number(number) => Some(Line::CommitNumber {
@@ -127,9 +143,8 @@ pub fn commit_line(client: u32, outcome: &Outcome) -> Option<Line>
     }
 }
 
-/// The line of an abort that ended so, where it has one.
-pub fn abort_line(client: u32, outcome: &Outcome) -> Option<Line>
-    ensures { told_of result ≡ abort_told client outcome.now }
+fn abort_line(client: u32, outcome: &Outcome) -> Option<Line>
+    ensures { result ≡ call_line client AbortCall outcome.now }
 {
     match outcome {
         Outcome::Refused(Refusal::NotOpen) => Some(Line::AbortClosed { client }),
@@ -137,103 +152,86 @@ pub fn abort_line(client: u32, outcome: &Outcome) -> Option<Line>
     }
 }
 
-/// The line of a fetch that gave no state.
-pub fn missed_fetch(client: u32, word: StepWord, object: &ObjectId, say: &Say) -> Line
-    ensures { result ≡ fetch_line client word object.now say.now }
+/// The line of a fetch for a call that gave no state.
+pub fn fetch_line(client: u32, on: &ObjectCall, say: &Say) -> Option<Line>
+    ensures { result ≡ fetch_line client on.now say.now }
 {
-    let object = *object;
+    let (word, object) = (on.word, on.object);
     match say {
-        Say::Lacks { centre, need, have } => Line::FetchLacks {
+        Say::Lacks { centre, need, have } => Some(Line::FetchLacks {
             client,
             word,
             object,
-            lack: Lack {
-                centre: *centre,
-                need: *need,
-                have: *have,
-            },
-        },
-        Say::Object { .. } => Line::FetchIgnored {
+            lack: lack(*centre, *need, *have),
+        }),
+        Say::Object { .. } => Some(Line::FetchIgnored {
             client,
             word,
             object,
-        },
-        Say::Down => Line::FetchMissed {
+        }),
+        _ => miss_of(say).map(|miss| Line::FetchMissed {
             client,
             word,
             object,
-            miss: Miss::Unreachable,
-        },
-        _ => Line::FetchMissed {
-            client,
-            word,
-            object,
-            miss: Miss::Misfit,
-        },
+            miss,
+        }),
     }
 }
 
-/// Whether the commit of a push that was answered so is at the centre, so that a flush goes on.
-pub fn is_there(say: &Say) -> bool
+/// Whether a flush goes on after a push that was answered so: the commit is at the centre.
+pub fn goes_on(say: &Say) -> bool
     ensures { result ≡ goes_on say.now }
 {
     matches!(say, Say::Stamped { .. } | Say::Known { .. })
 }
 
-/// How a push that was answered so ended.
-pub fn end_of_push(say: &Say) -> PushEnd
+// How a push that was answered so ended.
+fn push_end(say: &Say) -> Option<PushEnd>
     ensures { result ≡ push_end say.now }
 {
     match say {
-        Say::Stamped { stamp } => PushEnd::Stamped { stamp: *stamp },
-        Say::Known { through } => PushEnd::Known { through: *through },
-        Say::Full { limit } => PushEnd::Full { limit: *limit },
-        Say::OutOfOrder { have } => PushEnd::Order { have: *have },
-        Say::Lacks { centre, need, have } => PushEnd::Lacks {
-            lack: Lack {
-                centre: *centre,
-                need: *need,
-                have: *have,
-            },
-        },
-        Say::Down => PushEnd::Missed {
-            miss: Miss::Unreachable,
-        },
-        _ => PushEnd::Missed { miss: Miss::Misfit },
+        Say::Stamped { stamp } => Some(PushEnd::Stamped { stamp: *stamp }),
+        Say::Known { through } => Some(PushEnd::Known { through: *through }),
+        Say::Full { limit } => Some(PushEnd::Full { limit: *limit }),
+        Say::OutOfOrder { have } => Some(PushEnd::Order { have: *have }),
+        Say::Lacks { centre, need, have } => Some(PushEnd::Lacks {
+            lack: lack(*centre, *need, *have),
+        }),
+        _ => miss_of(say).map(|miss| PushEnd::Missed { miss }),
     }
 }
 
+/// The line of the push of a commit of this number.
+pub fn push_line(client: u32, number: u64, say: &Say) -> Option<Line>
+    ensures { result ≡ push_line client number say.now }
+{
+    push_end(say).map(|end| Line::Push {
+        client,
+        number,
+        end,
+    })
+}
+
 /// The line of a refresh that was answered so, by whether the session took the answer.
-pub fn refreshed_line(client: u32, took: bool, say: &Say) -> Line
+pub fn refresh_line(client: u32, took: bool, say: &Say) -> Option<Line>
     ensures { result ≡ refresh_line client took say.now }
 {
     match say {
         Say::Snap { vector, mine, .. } => {
             if took {
-                Line::Sees {
+                Some(Line::Sees {
                     client,
                     vector: *vector,
                     mine: *mine,
-                }
+                })
             } else {
-                Line::RefreshIgnored { client }
+                Some(Line::RefreshIgnored { client })
             }
         }
-        Say::Lacks { centre, need, have } => Line::RefreshLacks {
+        Say::Lacks { centre, need, have } => Some(Line::RefreshLacks {
             client,
-            lack: Lack {
-                centre: *centre,
-                need: *need,
-                have: *have,
-            },
-        },
-        Say::Down => Line::RefreshMissed {
-            client,
-            miss: Miss::Unreachable,
-        },
-        _ => Line::RefreshMissed {
-            client,
-            miss: Miss::Misfit,
-        },
+            lack: lack(*centre, *need, *have),
+        }),
+        _ => miss_of(say).map(|miss| Line::RefreshMissed { client, miss }),
     }
 }

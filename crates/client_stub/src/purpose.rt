@@ -1,67 +1,69 @@
 // What a client asks a centre for.
 ghost use Rattle.std.specs.Prelude.{◌≡◌};
 
-use crate::lines::{connect_line, end_of_push, is_there, missed_fetch, refreshed_line};
-use dc_talk::{Line, Say, StepWord};
-use ids_core::ObjectId;
+use crate::lines::{fetch_line, goes_on, hello_line, push_line, refresh_line};
+use dc_talk::{Ask, Line, Say};
+use script_text::ObjectCall;
 
-/// Why a client asks a centre: for which step, and about what.
+/// Why a client asks a centre.
 #[derive(Clone, Copy)]
 pub enum Purpose {
-    Connect,
-    /// For a call on the object, in a step of this word.
-    Fetch { word: StepWord, object: ObjectId },
+    /// To be connected to this centre.
+    Connect { centre: u8 },
+    /// For a call on an object.
+    Fetch(ObjectCall),
+    /// To push the commit of this number.
     Push { number: u64 },
-    /// A push that is one of several.
+    /// The same as one push of several.
     Flush { number: u64 },
+    /// For a newer snapshot.
     Refresh,
 }
 
+/// An ask of a centre, and what it is for.
+#[derive(Drop)]
+pub struct Errand {
+    pub purpose: Purpose,
+    pub centre: u8,
+    pub ask: Ask,
+}
+
 impl Purpose {
-    ghost use Rattle.client_stub.specs.Playing.{told_of};
-    ghost use Rattle.client_stub.specs.Purposes.{goes_after, told_after};
+    ghost use Rattle.client_stub.specs.Purposes.{goes_after, line_after};
 
     /// The line that comes of the answer, by whether the session took it; none where a state was
     /// fetched, since the call is made again then, and where a flush goes on.
-    pub fn line(&self, client: u32, centre: u8, took: bool, say: &Say) -> Option<Line>
-        ensures { told_of result ≡ told_after self.now client centre took say.now }
+    pub fn line_after(&self, client: u32, took: bool, say: &Say) -> Option<Line>
+        ensures { result ≡ line_after self.now client took say.now }
     {
         match self {
-            Purpose::Connect => Some(connect_line(client, centre, say)),
-            Purpose::Fetch { word, object } => {
+            Purpose::Connect { centre } => hello_line(client, *centre, say),
+            Purpose::Fetch(on) => {
                 if took {
                     None
                 } else {
-                    Some(missed_fetch(client, *word, object, say))
+                    fetch_line(client, on, say)
                 }
             }
-            Purpose::Push { number } => Some(Line::Push {
-                client,
-                number: *number,
-                end: end_of_push(say),
-            }),
+            Purpose::Push { number } => push_line(client, *number, say),
             Purpose::Flush { number } => {
-                if is_there(say) {
+                if goes_on(say) {
                     None
                 } else {
-                    Some(Line::Push {
-                        client,
-                        number: *number,
-                        end: end_of_push(say),
-                    })
+                    push_line(client, *number, say)
                 }
             }
-            Purpose::Refresh => Some(refreshed_line(client, took, say)),
+            Purpose::Refresh => refresh_line(client, took, say),
         }
     }
 
     /// Whether the step goes on after the answer: with the call where a state was fetched, with more
     /// pushes in a flush.
-    pub fn goes_on(&self, took: bool, say: &Say) -> bool
+    pub fn goes_after(&self, took: bool, say: &Say) -> bool
         ensures { result ≡ goes_after self.now took say.now }
     {
         match self {
-            Purpose::Flush { .. } => is_there(say),
+            Purpose::Flush { .. } => goes_on(say),
             _ => took,
         }
     }

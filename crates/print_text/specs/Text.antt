@@ -3,8 +3,6 @@ use Rattle.std.specs.Prelude.{ℕ, ◌==◌, List, [], ◌∷◌, ◌++◌, Opti
 use Rattle.std.specs.List.{join_with_byte, range_with_len}
 use Rattle.std.specs.Fmt.{signed_decimal}
 use Rattle.ids_core.specs.declared.object.ObjectId.{ObjectId}
-use Rattle.ids_core.specs.declared.object.Sort.{Sort}
-use Rattle.ids_core.specs.declared.object.Sort.TheVariants.{Counter, Register, Set as SetSort, Map}
 use Rattle.vv_core.specs.declared.stamp.Lack.{Lack}
 use Rattle.vv_core.specs.declared.stamp.Stamp.{Stamp}
 use Rattle.vv_core.specs.Vectors.{most}
@@ -17,11 +15,12 @@ use Rattle.dc_talk.specs.declared.line.Miss.TheVariants.{Unreachable, Lost, Misf
 use Rattle.dc_talk.specs.declared.line.PushEnd.{PushEnd}
 use Rattle.dc_talk.specs.declared.line.PushEnd.TheVariants.{Stamped, Known, Full, Order, Lacks, Missed}
 use Rattle.dc_talk.specs.declared.line.StepWord.{StepWord}
-use Rattle.dc_talk.specs.declared.line.StepWord.TheVariants.{Inc, Set, Add, Del, Put, Drop, Read}
+use Rattle.dc_talk.specs.declared.line.StepWord.TheVariants.{Read}
 use Rattle.dc_talk.specs.declared.log.Deed.{Deed}
 use Rattle.dc_talk.specs.declared.log.Deed.TheVariants.{Told}
 use Rattle.dc_talk.specs.declared.log.Note.{Note}
 use Rattle.dc_talk.specs.Logs.{Logged}
+use Rattle.script_text.specs.Steps.{object_text, word_text}
 
 -- a client: `c1`
 abbrev pub client_text : ℕ → List ℕ
@@ -38,17 +37,6 @@ later byte texts = flat_map (λ text. byte ∷ text) texts
 -- a stamp: the centre and the number, with a colon between them
 abbrev pub stamp_text : Stamp → List ℕ
 stamp_text stamp = decimal stamp.centre ++ codes ":" ++ decimal stamp.seq
-
--- the letter of a kind of objects
-abbrev pub sort_text : Sort → List ℕ
-sort_text Counter = codes "c"
-sort_text Register = codes "r"
-sort_text SetSort = codes "s"
-sort_text Map = codes "m"
-
--- an object: the letter of its kind, a full stop and its name
-abbrev pub object_text : ObjectId → List ℕ
-object_text object = sort_text object.sort ++ codes "." ++ object.name
 
 -- a word of a register, and `-` where none was written
 abbrev pub word_or_none : Option (List ℕ) → List ℕ
@@ -80,16 +68,6 @@ abbrev pub miss_text : Miss → List ℕ
 miss_text Unreachable = codes "unreachable"
 miss_text Lost = codes "lost"
 miss_text Misfit = codes "misfit"
-
--- the word of a step on an object
-abbrev pub word_text : StepWord → List ℕ
-word_text Inc = codes "inc"
-word_text Set = codes "set"
-word_text Add = codes "add"
-word_text Del = codes "del"
-word_text Put = codes "put"
-word_text Drop = codes "drop"
-word_text Read = codes "read"
 
 -- a client's step on an object
 abbrev pub step_text : ℕ → StepWord → ObjectId → List ℕ

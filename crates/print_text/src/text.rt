@@ -1,6 +1,7 @@
 // The lines of notes as bytes.
 ghost use Rattle.std.specs.Prelude.{◌≡◌, ◌++◌, OnOk, IsTrue, codes, decimal, map};
-ghost use Rattle.print_text.specs.Text.{client_text, end_text, lack_text, later, line_text, miss_text, notes_text, object_text, stamp_text, step_text, told_text, vector_text};
+ghost use Rattle.script_text.specs.Steps.{object_text};
+ghost use Rattle.print_text.specs.Text.{client_text, end_text, lack_text, later, line_text, miss_text, notes_text, stamp_text, step_text, told_text, vector_text};
 ghost use Rattle.print_text.specs.Forms.{is_of_call, is_of_connect, is_of_fetch, is_of_push, is_of_refresh, is_of_transaction};
 
 use crate::value::write_value;

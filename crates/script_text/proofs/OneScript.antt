@@ -7,8 +7,9 @@ use Rattle.script_text.specs.declared.row.Row.{Row}
 use Rattle.script_text.specs.declared.row.Row.TheVariants.{Cache, Limit, Does}
 use Rattle.script_text.specs.declared.script.Script.{Script}
 use Rattle.script_text.specs.declared.steps.Step.{Step}
+use Rattle.ids_core.specs.declared.limits.TheConstants.{MOST_RECORDS}
 use Rattle.script_text.specs.Steps.{IsStepOf, does_text, spelling}
-use Rattle.script_text.specs.Rows.{row_text, IsRow, cache_in, limit_in, steps_in}
+use Rattle.script_text.specs.Rows.{row_text, IsRow, cache_set, limit_set, set_in, steps_in}
 use Rattle.script_text.specs.Scripts.{header, IsScript}
 use Rattle.script_text.proofs.Spellings.{count_front}
 use Rattle.script_text.proofs.Rows.{row_cache, row_limit, row_step}
@@ -55,8 +56,8 @@ one_script bytes a b p q =
     let rows : p.rows ≡ q.rows = one_rows b.clients p.rows q.rows (omega (arith, q.clients.1)) (subst (λ n. All (IsRow n) p.rows) clients p.each) q.each (ap (drop 2) lines) in
     let n : a.n ≡ b.n = p.n ∙ sym q.n in
     let k : a.k ≡ b.k = p.k ∙ sym q.k in
-    let cache : a.cache ≡ b.cache = p.cache ∙ (ap (λ rs. unwrap_or (cache_in rs) 1024) rows ∙ sym q.cache) in
-    let limit : a.limit ≡ b.limit = p.limit ∙ (ap (λ rs. unwrap_or (limit_in rs) 1000000) rows ∙ sym q.limit) in
+    let cache : a.cache ≡ b.cache = p.cache ∙ (ap (λ rs. unwrap_or (set_in cache_set rs) 1024) rows ∙ sym q.cache) in
+    let limit : a.limit ≡ b.limit = p.limit ∙ (ap (λ rs. unwrap_or (set_in limit_set rs) MOST_RECORDS) rows ∙ sym q.limit) in
     let steps : a.steps ≡ b.steps = p.steps ∙ (ap steps_in rows ∙ sym q.steps) in
     let same : ◌≡◌ {A = Script} (record { n = a.n; k = a.k; clients = a.clients; cache = a.cache; limit = a.limit; steps = a.steps }) (record { n = b.n; k = b.k; clients = b.clients; cache = b.cache; limit = b.limit; steps = b.steps }) = cc in
     same

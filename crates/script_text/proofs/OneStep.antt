@@ -7,8 +7,8 @@ use Rattle.ids_core.specs.declared.object.Sort.{Sort}
 use Rattle.ids_core.specs.declared.object.Sort.TheVariants.{Counter, Register, Set, Map}
 use Rattle.dc_talk.specs.declared.line.StepWord.{StepWord}
 use Rattle.dc_talk.specs.declared.line.StepWord.TheVariants.{Inc as IncWord, Set as SetWord, Add as AddWord, Del as DelWord, Put as PutWord, Drop as DropWord, Read as ReadWord}
-use Rattle.dc_talk.specs.declared.session.Change.{Change as ChangeOf}
-use Rattle.dc_talk.specs.declared.session.Change.TheVariants.{Inc, Write, Add, Remove, Put, Erase}
+use Rattle.dc_talk.specs.declared.calls.Change.{Change as ChangeOf}
+use Rattle.dc_talk.specs.declared.calls.Change.TheVariants.{Inc, Write, Add, Remove, Put, Erase}
 use Rattle.script_text.specs.declared.steps.ClientStep.{ClientStep}
 use Rattle.script_text.specs.declared.steps.ClientStep.TheVariants.{Connect, Begin, Change, Read, Commit, Abort, Push, Flush, Refresh}
 use Rattle.script_text.specs.declared.steps.Step.{Step}

@@ -1,10 +1,11 @@
 -- The rows that a text's lines spell, as they are read one by one.
 use Rattle.std.proofs.Common.{◌≡◌, ℕ, List, [], ◌∷◌, ◌++◌, Option, Some, None, drop, length, refl, ap, sym, ◌∙◌, subst, append_assoc}
-use Rattle.std.specs.Prelude.{All, map, IfNone, IfSome, slice_get, codes, decimal}
+use Rattle.std.specs.Prelude.{All, map, IfNone, IfSome, codes, decimal}
 use Rattle.std.proofs.lemmas.List.{map_push, append-nil}
 use Rattle.std.proofs.lemmas.List.Elements.{All-push, All-head, All-tail, All-nil}
 use Rattle.std.proofs.Math.Seq.{take-append_seam}
 use Rattle.list_core.specs.Moments.{Each}
+use Rattle.list_core.proofs.Gets.{get_seam}
 use Rattle.list_core.proofs.Moments.{each_none, each_more}
 use Rattle.script_text.specs.Rows.{row_text, IsRow, MayFollow}
 use Rattle.script_text.specs.Readings.{HasRead}
@@ -32,13 +33,9 @@ pub record Reads (clients : ℕ) (lines : List (List ℕ)) (reading : Reading) (
   pub read : HasRead rows reading
   pub only : (all : List Row) → All (IsRow clients) all → map row_text all ≡ lines → GoesOn clients rows rest all
 
--- the element behind a front, and what stands before it
-seam : {X : Type 0} (xs : List X) (x : X) (ys : List X) → slice_get (xs ++ x ∷ ys) (length xs) ≡ Some x
-seam [] x ys = refl
-seam (z ∷ xs) x ys = seam xs x ys
-
+-- what holds of the element behind a front, after what stands before it
 each_at : {X : Type 0} (P : List X → X → Type 0) (xs : List X) (x : X) (ys : List X) → Each P (xs ++ x ∷ ys) → P xs x
-each_at P xs x ys each = subst (λ before. P before x) (take-append_seam xs (x ∷ ys)) (each.by (length xs) x (seam xs x ys))
+each_at P xs x ys each = subst (λ before. P before x) (take-append_seam xs (x ∷ ys)) (each.holds (length xs) x (get_seam xs x ys))
 
 -- at first no line was read
 pub reads_none : (clients : ℕ) (lines : List (List ℕ)) (reading : Reading) → HasRead [] reading → Reads clients lines reading lines

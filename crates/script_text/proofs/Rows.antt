@@ -1,12 +1,13 @@
 -- The one row that a line spells, and what rows set.
-use Rattle.std.proofs.Common.{◌≡◌, ◌≢◌, ◌≤◌, ℕ, List, [], ◌∷◌, ◌++◌, Option, Some, None, drop, length, get_or, refl, ap, sym, ◌∙◌, inr, arith}
+use Rattle.std.proofs.Common.{◌≡◌, ◌≢◌, ◌≤◌, ℕ, List, [], ◌∷◌, ◌++◌, Option, Some, None, drop, get_or, refl, ap, sym, ◌∙◌, subst, inr, arith}
 use Rattle.std.specs.Prelude.{codes, decimal, fold, All, IfSome}
 use Rattle.std.proofs.lemmas.List.Sums.{fold_push}
-use Rattle.std.specs.Option.{unwrap_or}
+use Rattle.std.specs.Option.{option_or, unwrap_or}
 use Rattle.std.proofs.lemmas.List.Elements.{filter_map-append, All-nil, All-cons, All-head, All-tail}
 use Rattle.std.proofs.lemmas.List.{append-nil}
+use Rattle.ids_core.specs.declared.limits.TheConstants.{MOST_CACHED, MOST_RECORDS}
 use Rattle.script_text.specs.Steps.{IsCount, IsStepOf, does_text, spelling}
-use Rattle.script_text.specs.Rows.{row_text, IsRow, cache_after, cache_in, limit_after, limit_in, step_in, steps_in}
+use Rattle.script_text.specs.Rows.{row_text, IsRow, MayFollow, cache_set, limit_set, set_in, step_in, steps_in}
 use Rattle.script_text.specs.Readings.{HasRead}
 use Rattle.script_text.specs.declared.steps.Step.{Step}
 use Rattle.script_text.specs.declared.row.Row.{Row}
@@ -16,12 +17,14 @@ use Rattle.script_text.proofs.Spellings.{count_front}
 
 -- ---- which row a line spells
 
-pub row_cache : (clients : ℕ) (row : Row) (text rest : List ℕ) (found : Option Row) → clients ≤ 1000000 → IsRow clients row → row_text row ≡ text → text ≡ codes "cache " ++ rest → ((n : ℕ) → IsCount 100000 n → decimal n ≡ rest → found ≡ Some (Cache n)) → found ≡ Some row
+-- a line that begins as the size of caches is no other row
+pub row_cache : (clients : ℕ) (row : Row) (text rest : List ℕ) (found : Option Row) → clients ≤ 1000000 → IsRow clients row → row_text row ≡ text → text ≡ codes "cache " ++ rest → ((n : ℕ) → IsCount MOST_CACHED n → decimal n ≡ rest → found ≡ Some (Cache n)) → found ≡ Some row
 row_cache clients (Cache n) text rest found few is e cut exact = exact n is (ap (drop 6) (e ∙ cut))
 row_cache clients (Limit n) text rest found few is e cut exact = absurd (let first : 108 ≡ 99 = ap (λ bytes. get_or bytes 0 0) (e ∙ cut) in omega arith)
 row_cache clients (Does step) text rest found few is e cut exact = absurd (count_front step.client 97 (32 ∷ does_text step.does) (codes "che " ++ rest) (omega (arith, few, is.client.1)) (inr (omega arith)) (ap (drop 1) (e ∙ cut)))
 
-pub row_limit : (clients : ℕ) (row : Row) (text rest : List ℕ) (found : Option Row) → IsRow clients row → row_text row ≡ text → text ≡ codes "limit " ++ rest → ((n : ℕ) → IsCount 1000000 n → decimal n ≡ rest → found ≡ Some (Limit n)) → found ≡ Some row
+-- nor one that begins as a limit
+pub row_limit : (clients : ℕ) (row : Row) (text rest : List ℕ) (found : Option Row) → IsRow clients row → row_text row ≡ text → text ≡ codes "limit " ++ rest → ((n : ℕ) → IsCount MOST_RECORDS n → decimal n ≡ rest → found ≡ Some (Limit n)) → found ≡ Some row
 row_limit clients (Cache n) text rest found is e cut exact = absurd (let first : 99 ≡ 108 = ap (λ bytes. get_or bytes 0 0) (e ∙ cut) in omega arith)
 row_limit clients (Limit n) text rest found is e cut exact = exact n is (ap (drop 6) (e ∙ cut))
 row_limit clients (Does step) text rest found is e cut exact = absurd (let first : 99 ≡ 108 = ap (λ bytes. get_or bytes 0 0) (e ∙ cut) in omega arith)
@@ -34,67 +37,82 @@ row_step clients (Does step) text is e cache limit = (step, is, e, refl)
 
 -- ---- what rows set
 
-pub no_steps : (steps : List Step) (n : ℕ) → n ≡ length steps → n ≤ 0 → steps ≡ []
-no_steps [] n same none = refl
-no_steps (step ∷ steps) n same none = absurd (omega (arith, same, none))
-
-steps_push : (rows : List Row) (row : Row) → steps_in (rows ++ row ∷ []) ≡ steps_in rows ++ steps_in (row ∷ [])
-steps_push rows row = filter_map-append step_in rows (row ∷ [])
-
-pub cache_read : (rows : List Row) (old : Reading) (n : ℕ) → old.cache ≡ None → old.steps ≡ [] → HasRead rows old → ((cache_in rows ≡ None) × (steps_in rows ≡ [])) × HasRead (rows ++ Cache n ∷ []) (record old { cache = Some n })
-cache_read rows old n unset none h = (
-  (sym h.cache ∙ unset, sym h.steps ∙ none),
-  record {
-    cache = sym (fold_push cache_after None rows (Cache n));
-    limit = h.limit ∙ sym (fold_push limit_after None rows (Cache n));
-    steps = h.steps ∙ (sym (append-nil (steps_in rows)) ∙ sym (steps_push rows (Cache n)));
-  },
-)
-
-pub limit_read : (rows : List Row) (old : Reading) (n : ℕ) → old.limit ≡ None → old.steps ≡ [] → HasRead rows old → ((limit_in rows ≡ None) × (steps_in rows ≡ [])) × HasRead (rows ++ Limit n ∷ []) (record old { limit = Some n })
-limit_read rows old n unset none h = (
-  (sym h.limit ∙ unset, sym h.steps ∙ none),
-  record {
-    cache = h.cache ∙ sym (fold_push cache_after None rows (Limit n));
-    limit = sym (fold_push limit_after None rows (Limit n));
-    steps = h.steps ∙ (sym (append-nil (steps_in rows)) ∙ sym (steps_push rows (Limit n)));
-  },
-)
-
--- one step more
-pub step_read : (rows : List Row) (old : Reading) (step : Step) → HasRead rows old → HasRead (rows ++ Does step ∷ []) (record old { steps = old.steps ++ step ∷ [] })
-step_read rows old step h = record {
-  cache = h.cache ∙ sym (fold_push cache_after None rows (Does step));
-  limit = h.limit ∙ sym (fold_push limit_after None rows (Does step));
-  steps = ap (λ steps. steps ++ step ∷ []) h.steps ∙ sym (steps_push rows (Does step));
+-- one line more was read: it sets what it sets, and its step is the last one
+pub row_read : (rows : List Row) (row : Row) (old new : Reading) → HasRead rows old → new.cache ≡ option_or (cache_set row) old.cache → new.limit ≡ option_or (limit_set row) old.limit → new.steps ≡ old.steps ++ steps_in (row ∷ []) → HasRead (rows ++ row ∷ []) new
+row_read rows row old new h cache limit steps = record {
+  cache = cache ∙ (ap (option_or (cache_set row)) h.cache ∙ sym (fold_push (λ set row. option_or (cache_set row) set) None rows row));
+  limit = limit ∙ (ap (option_or (limit_set row)) h.limit ∙ sym (fold_push (λ set row. option_or (limit_set row) set) None rows row));
+  steps = steps ∙ (ap (λ before. before ++ steps_in (row ∷ [])) h.steps ∙ sym (filter_map-append step_in rows (row ∷ [])));
 }
+
+-- a size of caches that nothing sets before, in front of all steps
+pub cache_read : (rows : List Row) (row : Row) (n : ℕ) (old : Reading) (set : Option ℕ) → row ≡ Cache n → old.cache ≡ None → old.steps ≡ [] → set ≡ Some n → HasRead rows old → MayFollow rows row × HasRead (rows ++ row ∷ []) (record old { cache = set })
+cache_read rows row n old set is unset none same h = (
+  subst (MayFollow rows) (sym is) (sym h.cache ∙ unset, sym h.steps ∙ none),
+  row_read rows row old (record old { cache = set }) h
+      (same ∙ ap (λ r. option_or (cache_set r) old.cache) (sym is))
+      (ap (λ r. option_or (limit_set r) old.limit) (sym is))
+      (sym (append-nil old.steps) ∙ ap (λ r. old.steps ++ steps_in (r ∷ [])) (sym is)),
+)
+
+-- a limit
+pub limit_read : (rows : List Row) (row : Row) (n : ℕ) (old : Reading) (set : Option ℕ) → row ≡ Limit n → old.limit ≡ None → old.steps ≡ [] → set ≡ Some n → HasRead rows old → MayFollow rows row × HasRead (rows ++ row ∷ []) (record old { limit = set })
+limit_read rows row n old set is unset none same h = (
+  subst (MayFollow rows) (sym is) (sym h.limit ∙ unset, sym h.steps ∙ none),
+  row_read rows row old (record old { limit = set }) h
+      (ap (λ r. option_or (cache_set r) old.cache) (sym is))
+      (same ∙ ap (λ r. option_or (limit_set r) old.limit) (sym is))
+      (sym (append-nil old.steps) ∙ ap (λ r. old.steps ++ steps_in (r ∷ [])) (sym is)),
+)
+
+-- and a step
+pub step_read : (rows : List Row) (row : Row) (step : Step) (old : Reading) (steps : List Step) → row ≡ Does step → steps ≡ old.steps ++ step ∷ [] → HasRead rows old → MayFollow rows row × HasRead (rows ++ row ∷ []) (record old { steps = steps })
+step_read rows row step old steps is same h = (
+  subst (MayFollow rows) (sym is) tt,
+  row_read rows row old (record old { steps = steps }) h
+      (ap (λ r. option_or (cache_set r) old.cache) (sym is))
+      (ap (λ r. option_or (limit_set r) old.limit) (sym is))
+      (same ∙ ap (λ r. old.steps ++ steps_in (r ∷ [])) (sym is)),
+)
 
 -- ---- the steps and settings of a script are in their ranges
 
+-- each step
 pub steps_each : (clients : ℕ) (rows : List Row) → All (IsRow clients) rows → All (IsStepOf clients) (steps_in rows)
 steps_each clients [] each = All-nil (IsStepOf clients)
 steps_each clients (Cache n ∷ rows) each = steps_each clients rows (All-tail (IsRow clients) (Cache n) rows each)
 steps_each clients (Limit n ∷ rows) each = steps_each clients rows (All-tail (IsRow clients) (Limit n) rows each)
 steps_each clients (Does step ∷ rows) each = All-cons (IsStepOf clients) step (steps_in rows) (All-head (IsRow clients) (Does step) rows each) (steps_each clients rows (All-tail (IsRow clients) (Does step) rows each))
 
-cache_within : (clients : ℕ) (set : Option ℕ) (rows : List Row) → IfSome set (IsCount 100000) → All (IsRow clients) rows → IfSome (fold cache_after set rows) (IsCount 100000)
-cache_within clients set [] is each = is
-cache_within clients set (Cache n ∷ rows) is each = cache_within clients (Some n) rows (All-head (IsRow clients) (Cache n) rows each) (All-tail (IsRow clients) (Cache n) rows each)
-cache_within clients set (Limit n ∷ rows) is each = cache_within clients set rows is (All-tail (IsRow clients) (Limit n) rows each)
-cache_within clients set (Does step ∷ rows) is each = cache_within clients set rows is (All-tail (IsRow clients) (Does step) rows each)
+-- what lines set is in the range of each line
+set_within : (most clients : ℕ) (setting : Row → Option ℕ) (set : Option ℕ) (rows : List Row) → ((row : Row) → IsRow clients row → IfSome (setting row) (IsCount most)) → IfSome set (IsCount most) → All (IsRow clients) rows → IfSome (fold (λ set row. option_or (setting row) set) set rows) (IsCount most)
+set_within most clients setting set [] range first each = first
+set_within most clients setting set (row ∷ rows) range first each =
+    set_within most clients setting (option_or (setting row) set) rows range (later (setting row) (range row (All-head (IsRow clients) row rows each))) (All-tail (IsRow clients) row rows each)
+  where
+    later : (found : Option ℕ) → IfSome found (IsCount most) → IfSome (option_or found set) (IsCount most)
+    later None h = first
+    later (Some n) h = h
 
-limit_within : (clients : ℕ) (set : Option ℕ) (rows : List Row) → IfSome set (IsCount 1000000) → All (IsRow clients) rows → IfSome (fold limit_after set rows) (IsCount 1000000)
-limit_within clients set [] is each = is
-limit_within clients set (Limit n ∷ rows) is each = limit_within clients (Some n) rows (All-head (IsRow clients) (Limit n) rows each) (All-tail (IsRow clients) (Limit n) rows each)
-limit_within clients set (Cache n ∷ rows) is each = limit_within clients set rows is (All-tail (IsRow clients) (Cache n) rows each)
-limit_within clients set (Does step ∷ rows) is each = limit_within clients set rows is (All-tail (IsRow clients) (Does step) rows each)
-
+-- and so is what they set or leave at this number
 count_or : (most other : ℕ) (set : Option ℕ) → IsCount most other → IfSome set (IsCount most) → IsCount most (unwrap_or set other)
-count_or most other None least is = least
-count_or most other (Some n) least is = is
+count_or most other None least within = least
+count_or most other (Some n) least within = within
 
-pub cache_count : (clients : ℕ) (rows : List Row) → All (IsRow clients) rows → IsCount 100000 (unwrap_or (cache_in rows) 1024)
-cache_count clients rows each = count_or 100000 1024 (cache_in rows) (omega arith, omega arith) (cache_within clients None rows tt each)
+cache_range : (clients : ℕ) (row : Row) → IsRow clients row → IfSome (cache_set row) (IsCount MOST_CACHED)
+cache_range clients (Cache objects) h = h
+cache_range clients (Limit most) h = tt
+cache_range clients (Does step) h = tt
 
-pub limit_count : (clients : ℕ) (rows : List Row) → All (IsRow clients) rows → IsCount 1000000 (unwrap_or (limit_in rows) 1000000)
-limit_count clients rows each = count_or 1000000 1000000 (limit_in rows) (omega arith, omega arith) (limit_within clients None rows tt each)
+limit_range : (clients : ℕ) (row : Row) → IsRow clients row → IfSome (limit_set row) (IsCount MOST_RECORDS)
+limit_range clients (Cache objects) h = tt
+limit_range clients (Limit most) h = h
+limit_range clients (Does step) h = tt
+
+-- the size of caches
+pub cache_count : (clients : ℕ) (rows : List Row) → All (IsRow clients) rows → IsCount MOST_CACHED (unwrap_or (set_in cache_set rows) 1024)
+cache_count clients rows each = count_or MOST_CACHED 1024 (set_in cache_set rows) (omega arith, omega arith) (set_within MOST_CACHED clients cache_set None rows (cache_range clients) tt each)
+
+-- the limit of the centre
+pub limit_count : (clients : ℕ) (rows : List Row) → All (IsRow clients) rows → IsCount MOST_RECORDS (unwrap_or (set_in limit_set rows) MOST_RECORDS)
+limit_count clients rows each = count_or MOST_RECORDS MOST_RECORDS (set_in limit_set rows) (omega arith, omega arith) (set_within MOST_RECORDS clients limit_set None rows (limit_range clients) tt each)

@@ -10,8 +10,8 @@ use Rattle.ids_core.specs.Name.{IsName, IsNameByte}
 use Rattle.ids_core.specs.declared.object.ObjectId.{ObjectId}
 use Rattle.ids_core.specs.declared.object.Sort.{Sort}
 use Rattle.ids_core.specs.declared.object.Sort.TheVariants.{Counter, Register, Set, Map}
-use Rattle.dc_talk.specs.declared.session.Change.{Change as ChangeOf}
-use Rattle.dc_talk.specs.declared.session.Change.TheVariants.{Inc, Write, Add, Remove, Put, Erase}
+use Rattle.dc_talk.specs.declared.calls.Change.{Change as ChangeOf}
+use Rattle.dc_talk.specs.declared.calls.Change.TheVariants.{Inc, Write, Add, Remove, Put, Erase}
 use Rattle.script_text.specs.declared.steps.ClientStep.{ClientStep}
 use Rattle.script_text.specs.declared.steps.ClientStep.TheVariants.{Connect, Begin, Change, Read, Commit, Abort, Push, Flush, Refresh}
 use Rattle.script_text.specs.Steps.{mark_of, object_text, change_word, change_text, change_line, does_text, IsSound, IsStep}

@@ -1,11 +1,11 @@
 -- What was read of lines.
 use Rattle.std.specs.Prelude.{◌≡◌, List}
-use Rattle.script_text.specs.Rows.{cache_in, limit_in, steps_in}
+use Rattle.script_text.specs.Rows.{cache_set, limit_set, set_in, steps_in}
 use Rattle.script_text.specs.declared.row.Row.{Row}
 use Rattle.script_text.specs.declared.reading.Reading.{Reading}
 
 -- it is what these rows set, and their steps
 pub record HasRead (rows : List Row) (reading : Reading) : Type 0 where
-  pub cache : reading.cache ≡ cache_in rows
-  pub limit : reading.limit ≡ limit_in rows
+  pub cache : reading.cache ≡ set_in cache_set rows
+  pub limit : reading.limit ≡ set_in limit_set rows
   pub steps : reading.steps ≡ steps_in rows

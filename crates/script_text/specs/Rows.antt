@@ -1,6 +1,8 @@
 -- The lines of a script behind its first two: settings, and steps.
 use Rattle.std.specs.Prelude.{◌≡◌, ℕ, List, [], ◌++◌, Option, Some, None, fold, codes, decimal}
 use Rattle.std.specs.List.{filter_map}
+use Rattle.std.specs.Option.{option_or}
+use Rattle.ids_core.specs.declared.limits.TheConstants.{MOST_CACHED, MOST_RECORDS}
 use Rattle.script_text.specs.Steps.{spelling, IsCount, IsStepOf}
 use Rattle.script_text.specs.declared.steps.Step.{Step}
 use Rattle.script_text.specs.declared.row.Row.{Row}
@@ -14,39 +16,42 @@ row_text (Does step) = spelling step
 
 -- a line of a script of so many clients: each number is in its range
 abbrev pub IsRow : ℕ → Row → Type 0
-IsRow clients (Cache objects) = IsCount 100000 objects
-IsRow clients (Limit most) = IsCount 1000000 most
+IsRow clients (Cache objects) = IsCount MOST_CACHED objects
+IsRow clients (Limit most) = IsCount MOST_RECORDS most
 IsRow clients (Does step) = IsStepOf clients step
 
--- the size of the caches that lines set, where they set one
-abbrev pub cache_after : Option ℕ → Row → Option ℕ
-cache_after set (Cache objects) = Some objects
-cache_after set (Limit most) = set
-cache_after set (Does step) = set
+-- how many objects a line sets for a client's cache, where it sets that
+abbrev pub cache_set : Row → Option ℕ
+cache_set (Cache objects) = Some objects
+cache_set (Limit most) = None
+cache_set (Does step) = None
 
-abbrev pub cache_in : List Row → Option ℕ
-cache_in rows = fold cache_after None rows
+-- how many transactions a line sets for the centre to stamp, where it sets that
+abbrev pub limit_set : Row → Option ℕ
+limit_set (Cache objects) = None
+limit_set (Limit most) = Some most
+limit_set (Does step) = None
 
--- the limit of the centre that lines set, where they set one
-abbrev pub limit_after : Option ℕ → Row → Option ℕ
-limit_after set (Cache objects) = set
-limit_after set (Limit most) = Some most
-limit_after set (Does step) = set
+-- what lines set, where one of them does
+abbrev pub set_in : (Row → Option ℕ) → List Row → Option ℕ
+set_in setting rows = fold (λ set row. option_or (setting row) set) None rows
 
-abbrev pub limit_in : List Row → Option ℕ
-limit_in rows = fold limit_after None rows
-
--- the steps among lines, in order
+-- the step that a line is, where it is one
 abbrev pub step_in : Row → Option Step
 step_in (Cache objects) = None
 step_in (Limit most) = None
 step_in (Does step) = Some step
 
+-- the steps among lines, in order
 abbrev pub steps_in : List Row → List Step
 steps_in rows = filter_map step_in rows
 
+-- a setting may stand behind these lines: none of them sets it, and none is a step
+abbrev pub MaySet : (Row → Option ℕ) → List Row → Type 0
+MaySet setting before = (set_in setting before ≡ None) × (steps_in before ≡ [])
+
 -- a line may stand behind these: each setting at most once, and before all steps
 abbrev pub MayFollow : List Row → Row → Type 0
-MayFollow before (Cache objects) = (cache_in before ≡ None) × (steps_in before ≡ [])
-MayFollow before (Limit most) = (limit_in before ≡ None) × (steps_in before ≡ [])
+MayFollow before (Cache objects) = MaySet cache_set before
+MayFollow before (Limit most) = MaySet limit_set before
 MayFollow before (Does step) = Unit {0}

@@ -1,36 +1,45 @@
 -- The steps of a script and their one spelling.
-use Rattle.std.specs.Prelude.{◌≡◌, ◌≤◌, ℕ, ℤ, pos, negsuc, ◌≤ℤ◌, List, ◌∷◌, ◌++◌, codes, decimal}
+use Rattle.std.specs.Prelude.{◌≡◌, ◌≤◌, ℕ, ℤ, IsTrue, List, ◌∷◌, ◌++◌, codes, decimal}
 use Rattle.std.specs.Fmt.{signed_decimal}
 use Rattle.ids_core.specs.Name.{IsName}
 use Rattle.ids_core.specs.declared.object.ObjectId.{ObjectId}
 use Rattle.ids_core.specs.declared.object.Sort.{Sort}
 use Rattle.ids_core.specs.declared.object.Sort.TheVariants.{Counter, Register, Set, Map}
-use Rattle.dc_talk.specs.declared.session.Change.{Change as ChangeOf}
-use Rattle.dc_talk.specs.declared.session.Change.TheVariants.{Inc, Write, Add, Remove, Put, Erase}
-use Rattle.dc_talk.specs.Calls.{kind_of}
+use Rattle.tx_core.specs.Checks.{is_small_delta}
+use Rattle.dc_talk.specs.declared.calls.Change.{Change as ChangeOf}
+use Rattle.dc_talk.specs.declared.calls.Change.TheVariants.{Inc, Write, Add, Remove, Put, Erase}
+use Rattle.dc_talk.specs.Calls.{sort_of_change}
+use Rattle.dc_talk.specs.declared.line.StepWord.{StepWord}
+use Rattle.dc_talk.specs.declared.line.StepWord.TheVariants.{Inc as IncWord, Set as SetWord, Add as AddWord, Del as DelWord, Put as PutWord, Drop as DropWord, Read as ReadWord}
+use Rattle.script_text.specs.Deeds.{word_of}
 use Rattle.script_text.specs.declared.steps.ClientStep.{ClientStep}
 use Rattle.script_text.specs.declared.steps.ClientStep.TheVariants.{Connect, Begin, Change, Read, Commit, Abort, Push, Flush, Refresh}
 use Rattle.script_text.specs.declared.steps.Step.{Step}
 
--- what stands before the name of an object of this sort
+-- what stands before the name of an object of this sort: the letter of its kind, and a full stop
 abbrev pub mark_of : Sort → List ℕ
 mark_of Counter = codes "c."
 mark_of Register = codes "r."
 mark_of Set = codes "s."
 mark_of Map = codes "m."
 
--- an object as a script names it
+-- an object as scripts and lines name it
 abbrev pub object_text : ObjectId → List ℕ
 object_text object = mark_of object.sort ++ object.name
 
+-- the word of a step that reads or changes an object
+abbrev pub word_text : StepWord → List ℕ
+word_text IncWord = codes "inc"
+word_text SetWord = codes "set"
+word_text AddWord = codes "add"
+word_text DelWord = codes "del"
+word_text PutWord = codes "put"
+word_text DropWord = codes "drop"
+word_text ReadWord = codes "read"
+
 -- the word of a change
 abbrev pub change_word : ChangeOf → List ℕ
-change_word (Inc delta) = codes "inc"
-change_word (Write word) = codes "set"
-change_word (Add word) = codes "add"
-change_word (Remove word) = codes "del"
-change_word (Put key word) = codes "put"
-change_word (Erase key) = codes "drop"
+change_word change = word_text (word_of change)
 
 -- what a change says of its object: its delta, its word, its key, or its key and its word
 abbrev pub change_text : ChangeOf → List ℕ
@@ -61,9 +70,9 @@ does_text Refresh = codes "refresh"
 abbrev pub spelling : Step → List ℕ
 spelling step = codes "c" ++ (decimal step.client ++ 32 ∷ does_text step.does)
 
--- from -10^12 to 10^12
+-- no further from 0 than a delta may be
 abbrev pub IsDelta : ℤ → Type 0
-IsDelta delta = (negsuc 999999999999 ≤ℤ delta) × (delta ≤ℤ pos 1000000000000)
+IsDelta delta = IsTrue (is_small_delta delta)
 
 -- the delta of a change is in range, and its words and keys are names
 abbrev pub IsSound : ChangeOf → Type 0
@@ -79,7 +88,7 @@ IsSound (Erase key) = IsName key
 abbrev pub IsStep : ClientStep → Type 0
 IsStep (Connect centre) = centre ≡ 1
 IsStep Begin = Unit {0}
-IsStep (Change object change) = (object.sort ≡ kind_of change) × IsName object.name × IsSound change
+IsStep (Change object change) = (object.sort ≡ sort_of_change change) × IsName object.name × IsSound change
 IsStep (Read object) = IsName object.name
 IsStep Commit = Unit {0}
 IsStep Abort = Unit {0}

@@ -1,7 +1,7 @@
 // Changes in their one spelling.
 ghost use Rattle.std.specs.Prelude.{◌≡◌, ◌≢◌, Some, IfSome, codes};
 ghost use Rattle.ids_core.specs.Name.{IsName};
-ghost use Rattle.dc_talk.specs.declared.session.Change.{Change as ChangeOf};
+ghost use Rattle.dc_talk.specs.declared.calls.Change.{Change as ChangeOf};
 ghost use Rattle.script_text.specs.Steps.{IsSound, change_text, change_word};
 
 use crate::cut::{at_byte, same_bytes};

@@ -2,8 +2,8 @@
 ghost use Rattle.std.specs.Prelude.{◌≡◌, ◌∷◌, ◌++◌, Some, IfSome, codes};
 ghost use Rattle.ids_core.specs.Name.{IsName};
 ghost use Rattle.ids_core.specs.declared.object.ObjectId.{ObjectId as Object};
-ghost use Rattle.dc_talk.specs.declared.session.Change.{Change as ChangeOf};
-ghost use Rattle.dc_talk.specs.Calls.{kind_of};
+ghost use Rattle.dc_talk.specs.declared.calls.Change.{Change as ChangeOf};
+ghost use Rattle.dc_talk.specs.Calls.{sort_of_change};
 ghost use Rattle.script_text.specs.declared.steps.ClientStep.{ClientStep as Step};
 ghost use Rattle.script_text.specs.declared.steps.ClientStep.TheVariants.{Change as ChangeStep, Read};
 ghost use Rattle.script_text.specs.Steps.{IsStep, change_line, change_text, change_word, does_text, object_text};
@@ -13,7 +13,7 @@ use crate::cut::{at_byte, behind, same_bytes};
 use crate::object::read_object;
 use crate::steps::ClientStep;
 use dc_talk::Change;
-use ids_core::{ObjectId, Sort};
+use ids_core::ObjectId;
 
 /// What a client does that a text spells, if it spells that.
 pub fn read_does(text: &[u8]) -> Option<ClientStep>
@@ -88,23 +88,12 @@ fn change_in(word: &[u8], object: &[u8], said: &[u8]) -> Option<ClientStep>
 
 // The change of the object, where it is one of the object's kind.
 fn fitting(object: ObjectId, change: Change) -> Option<ClientStep>
-    ensures taken { IfSome result (λ step. (object.sort ≡ kind_of change) × (step ≡ ChangeStep object change)) }
-    ensures exact { object.sort ≡ kind_of change → result ≡ Some (ChangeStep object change) }
+    ensures taken { IfSome result (λ step. (object.sort ≡ sort_of_change change) × (step ≡ ChangeStep object change)) }
+    ensures exact { object.sort ≡ sort_of_change change → result ≡ Some (ChangeStep object change) }
 {
-    if object.sort == sort_of(&change) {
+    if object.sort == change.sort() {
         Some(ClientStep::Change { object, change })
     } else {
         None
-    }
-}
-
-fn sort_of(change: &Change) -> Sort
-    ensures { result ≡ kind_of change.now }
-{
-    match change {
-        Change::Inc { .. } => Sort::Counter,
-        Change::Write { .. } => Sort::Register,
-        Change::Add { .. } | Change::Remove { .. } => Sort::Set,
-        Change::Put { .. } | Change::Erase { .. } => Sort::Map,
     }
 }

@@ -8,6 +8,7 @@ mod input;
 mod limits;
 mod number;
 mod object;
+mod object_call;
 mod reading;
 mod row;
 mod script;
@@ -15,5 +16,6 @@ mod steps;
 
 pub use input::Input;
 pub use limits::{LineCount, MAX_LINE, MAX_LINES};
+pub use object_call::ObjectCall;
 pub use script::{Script, ScriptFault, parse};
 pub use steps::{ClientStep, Step, Steps};

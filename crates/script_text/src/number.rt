@@ -5,9 +5,7 @@ ghost use Rattle.script_text.specs.Steps.{IsCount, IsDelta};
 
 use itoa::Buffer;
 use std::str;
-
-/// The largest delta, and the smallest without its sign.
-const MAX_DELTA: i64 = 1_000_000_000_000;
+use tx_core::is_small_delta;
 
 /// The delta that a text spells, as it is printed.
 pub fn read_delta(text: &[u8]) -> Option<i64>
@@ -40,7 +38,7 @@ fn spells(delta: i64, text: &[u8]) -> bool
 fn is_delta(delta: i64) -> bool
     ensures { IsTrue result ↔ IsDelta delta }
 {
-    -MAX_DELTA <= delta && delta <= MAX_DELTA
+    is_small_delta(delta)
 }
 
 /// The number from 1 to a most that a text spells, as it is printed.

@@ -1,13 +1,12 @@
 // What was read of the lines of a script.
-ghost use Rattle.std.specs.Prelude.{◌≡◌, ◌≢◌, ◌∷◌, ◌++◌, [], List, Err, OnOk, OnErr};
+ghost use Rattle.std.specs.Prelude.{◌≡◌, ◌≢◌, ◌∷◌, ◌++◌, [], List, Err, None, Some, IsTrue, OnOk};
 ghost use Rattle.script_text.specs.declared.row.Row.{Row as RowTold};
-ghost use Rattle.script_text.specs.declared.row.Row.TheVariants as RowOf;
 ghost use Rattle.script_text.specs.Rows.{MayFollow};
 ghost use Rattle.script_text.specs.Readings.{HasRead};
 
 use crate::row::Row;
 use crate::script::ScriptFault;
-use crate::steps::{Step, Steps};
+use crate::steps::{Steps, push_step};
 use std::alloc::Global;
 
 /// The settings that lines set, and their steps.
@@ -35,50 +34,27 @@ impl Reading {
         ensures taken { OnOk result ((rows : List RowTold) → HasRead rows self.old → MayFollow rows row × HasRead (rows ++ row ∷ []) self.new) }
         ensures refused { result ≡ Err ScriptFault.Refused → (rows : List RowTold) → HasRead rows self.old → MayFollow rows row → ⊥ }
     {
+        let first = self.steps.is_empty();
         match row {
-            Row::Cache(objects) => self.set_cache(objects),
-            Row::Limit(most) => self.set_limit(most),
-            Row::Does(step) => self.add(step),
-        }
-    }
-
-    fn set_cache(&mut self, objects: u32) -> Result<(), ScriptFault>
-        ensures taken { OnOk result ((rows : List RowTold) → HasRead rows self.old → MayFollow rows (RowOf.Cache objects) × HasRead (rows ++ RowOf.Cache objects ∷ []) self.new) }
-        ensures refused { result ≡ Err ScriptFault.Refused → (rows : List RowTold) → HasRead rows self.old → MayFollow rows (RowOf.Cache objects) → ⊥ }
-    {
-        match self.cache {
-            Some(_) => Err(ScriptFault::Refused),
-            None => {
-                if self.steps.len() > 0 {
-                    return Err(ScriptFault::Refused);
-                }
-                self.cache = Some(objects);
+            Row::Cache(objects) => set_once(&mut self.cache, first, objects),
+            Row::Limit(most) => set_once(&mut self.limit, first, most),
+            Row::Does(step) => {
+                push_step(&mut self.steps, step)?;
                 Ok(())
             }
         }
     }
+}
 
-    fn set_limit(&mut self, most: u32) -> Result<(), ScriptFault>
-        ensures taken { OnOk result ((rows : List RowTold) → HasRead rows self.old → MayFollow rows (RowOf.Limit most) × HasRead (rows ++ RowOf.Limit most ∷ []) self.new) }
-        ensures refused { result ≡ Err ScriptFault.Refused → (rows : List RowTold) → HasRead rows self.old → MayFollow rows (RowOf.Limit most) → ⊥ }
-    {
-        match self.limit {
-            Some(_) => Err(ScriptFault::Refused),
-            None => {
-                if self.steps.len() > 0 {
-                    return Err(ScriptFault::Refused);
-                }
-                self.limit = Some(most);
-                Ok(())
-            }
-        }
+// Sets what was not set, in front of all steps.
+fn set_once(setting: &mut Option<u32>, first: bool, number: u32) -> Result<(), ScriptFault>
+    ensures taken { OnOk result ((setting.old ≡ None) × IsTrue first × (setting.new ≡ Some number)) }
+    ensures refused { result ≡ Err ScriptFault.Refused → setting.old ≡ None → IsTrue first → ⊥ }
+    ensures never { result ≢ Err ScriptFault.NoMemory }
+{
+    if setting.is_some() || !first {
+        return Err(ScriptFault::Refused);
     }
-
-    fn add(&mut self, step: Step) -> Result<(), ScriptFault>
-        ensures taken { OnOk result ((rows : List RowTold) → HasRead rows self.old → HasRead (rows ++ RowOf.Does step ∷ []) self.new) }
-        ensures never { result ≢ Err ScriptFault.Refused }
-    {
-        self.steps.push(step)?;
-        Ok(())
-    }
+    *setting = Some(number);
+    Ok(())
 }

@@ -10,12 +10,7 @@ use crate::cut::{at_byte, behind};
 use crate::does::read_does;
 use crate::number::read_count;
 use crate::steps::Step;
-
-/// The most objects of a client's cache.
-const MAX_CACHE: u32 = 100_000;
-
-/// The most transactions that a centre stamps.
-const MAX_LIMIT: u32 = 1_000_000;
+use ids_core::{MOST_CACHED, MOST_RECORDS};
 
 /// A line of a script behind its first two.
 #[derive(Clone, Copy)]
@@ -51,10 +46,10 @@ pub fn read_row(clients: u32, text: &[u8]) -> Option<Row>
 
 // The size of a cache that a text is.
 fn read_cache(text: &[u8]) -> Option<Row>
-    ensures taken { IfSome result (λ row. (n : ℕ) × (row ≡ Cache n) × IsCount 100000 n × (decimal n ≡ text.now)) }
-    ensures exact { (n : ℕ) → IsCount 100000 n → decimal n ≡ text.now → result ≡ Some (Cache n) }
+    ensures taken { IfSome result (λ row. (n : ℕ) × (row ≡ Cache n) × IsCount MOST_CACHED n × (decimal n ≡ text.now)) }
+    ensures exact { (n : ℕ) → IsCount MOST_CACHED n → decimal n ≡ text.now → result ≡ Some (Cache n) }
 {
-    match read_count(text, MAX_CACHE) {
+    match read_count(text, MOST_CACHED) {
         Some(objects) => Some(Row::Cache(objects)),
         None => None,
     }
@@ -62,10 +57,10 @@ fn read_cache(text: &[u8]) -> Option<Row>
 
 // The limit of a centre that a text is.
 fn read_limit(text: &[u8]) -> Option<Row>
-    ensures taken { IfSome result (λ row. (n : ℕ) × (row ≡ Limit n) × IsCount 1000000 n × (decimal n ≡ text.now)) }
-    ensures exact { (n : ℕ) → IsCount 1000000 n → decimal n ≡ text.now → result ≡ Some (Limit n) }
+    ensures taken { IfSome result (λ row. (n : ℕ) × (row ≡ Limit n) × IsCount MOST_RECORDS n × (decimal n ≡ text.now)) }
+    ensures exact { (n : ℕ) → IsCount MOST_RECORDS n → decimal n ≡ text.now → result ≡ Some (Limit n) }
 {
-    match read_count(text, MAX_LIMIT) {
+    match read_count(text, MOST_RECORDS as u32) {
         Some(most) => Some(Row::Limit(most)),
         None => None,
     }

@@ -16,17 +16,12 @@ use crate::number::read_count;
 use crate::reading::Reading;
 use crate::row::read_row;
 use crate::steps::Steps;
-use ids_core::NoMemory;
-use std::alloc::Global;
-
-/// The most clients.
-const MAX_CLIENTS: u32 = 1_024;
+use ids_core::{MOST_CACHED, MOST_CLIENTS, MOST_RECORDS};
+use std::alloc::{AllocError, Global};
+use thiserror::Error;
 
 /// How many objects a client's cache holds where no line says it.
 const CACHE: u32 = 1_024;
-
-/// How many transactions the centre stamps where no line says it.
-const LIMIT: u32 = 1_000_000;
 
 /// A script: its settings and its steps.
 #[derive(Drop)]
@@ -45,18 +40,20 @@ pub struct Script {
 }
 
 /// Why an input was not taken.
-#[derive(Clone, Copy, Debug)]
+#[derive(Clone, Copy, Debug, Error)]
 pub enum ScriptFault {
     /// It is no script.
+    #[error("the input is no script")]
     Refused,
     /// There is no memory for its steps.
+    #[error("memory ran out")]
     NoMemory,
 }
 
-impl From<NoMemory> for ScriptFault {
+impl From<AllocError> for ScriptFault {
     ghost from_gives = { λ _ e. e ≡ no_memory };
 
-    fn from(_: NoMemory) -> Self {
+    fn from(_: AllocError) -> Self {
         ScriptFault::NoMemory
     }
 }
@@ -69,8 +66,8 @@ pub fn parse(alloc: Global, input: &Input) -> Result<Script, ScriptFault>
     ensures only { IfOk result (λ script. (other : Told) → IsScript input.now.bytes.items other → other ≡ script) }
     ensures few { IfOk result (λ script. length script.steps ≤ 200000) }
     ensures steps { IfOk result (λ script. All (IsStepOf script.clients) script.steps) }
-    ensures cache { IfOk result (λ script. IsCount 100000 script.cache) }
-    ensures limit { IfOk result (λ script. IsCount 1000000 script.limit) }
+    ensures cache { IfOk result (λ script. IsCount MOST_CACHED script.cache) }
+    ensures limit { IfOk result (λ script. IsCount MOST_RECORDS script.limit) }
     ensures refused { result ≡ Err ScriptFault.Refused → (script : Told) → IsScript input.now.bytes.items script → ⊥ }
 {
     if input.past_limits {
@@ -90,7 +87,7 @@ fn script_of(clients: u32, reading: Reading) -> Script
     ensures n { (result.n ≡ 1) × (result.k ≡ 1) }
     ensures clients { result.clients ≡ clients }
     ensures cache { result.cache ≡ unwrap_or reading.cache 1024 }
-    ensures limit { result.limit ≡ unwrap_or reading.limit 1000000 }
+    ensures limit { result.limit ≡ unwrap_or reading.limit MOST_RECORDS }
     ensures steps { result.steps ≡ reading.steps }
 {
     Script {
@@ -98,7 +95,7 @@ fn script_of(clients: u32, reading: Reading) -> Script
         k: 1,
         clients,
         cache: reading.cache.unwrap_or(CACHE),
-        limit: u64::from(reading.limit.unwrap_or(LIMIT)),
+        limit: reading.limit.map_or(MOST_RECORDS, u64::from),
         steps: reading.steps,
     }
 }
@@ -136,7 +133,7 @@ fn read_clients(line: &[u8]) -> Option<u32>
     ensures exact { (clients : ℕ) → AreClients clients → codes "clients " ++ decimal clients ≡ line.now → result ≡ Some clients }
 {
     match behind(line, b"clients ") {
-        Some(number) => read_count(number, MAX_CLIENTS),
+        Some(number) => read_count(number, MOST_CLIENTS),
         None => None,
     }
 }

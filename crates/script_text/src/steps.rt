@@ -1,10 +1,10 @@
 // The steps of a script.
-ghost use Rattle.std.specs.Prelude.{◌≡◌, ◌∷◌, ◌++◌, [], length, OnOk, OnErr};
+ghost use Rattle.std.specs.Prelude.{◌≡◌, ◌∷◌, ◌++◌, [], OnOk, OnErr};
 
 use dc_talk::Change;
-use ids_core::{NoMemory, ObjectId};
-use std::alloc::Global;
-use std::marker::Model;
+use ids_core::ObjectId;
+use list_core::List;
+use std::alloc::AllocError;
 
 /// What a client does in one step.
 #[derive(Clone, Copy)]
@@ -37,56 +37,18 @@ pub struct Step {
 }
 
 /// The steps of a script, seen as their list. Each is a section of its own.
-#[derive(Drop)]
-pub struct Steps {
-    items: Vec<Step>,
-}
+pub type Steps = List<Step>;
 
-impl Model for Steps {
-    ghost use Rattle.std.specs.Prelude.{List};
-    ghost use Rattle.script_text.specs.declared.steps.Step.{Step};
-
-    ghost Value = { List Step };
-
-    ghost view = { λ steps. steps.items.items };
-}
-
-impl Steps {
-    /// No steps.
-    pub fn new(alloc: Global) -> Self
-        ensures { result ≡ [] }
-    {
-        Steps {
-            items: Vec::new(alloc),
-        }
-    }
-
-    /// Puts a step behind the others. Nothing changes where memory is refused.
-    pub fn push(&mut self, step: Step) -> Result<(), NoMemory>
-        ensures ok { OnOk result (self.new ≡ self.old ++ step ∷ []) }
-        ensures err { OnErr result (self.new ≡ self.old) }
-    {
-        // A change is taken apart, since the proof of the push has to name its type.
-        let Step { client, does } = step;
-        let does = match does {
-            ClientStep::Change { object, change } => ClientStep::Change { object, change },
-            other => other,
-        };
-        self.items.push(Step { client, does })?;
-        Ok(())
-    }
-
-    /// The steps in their order.
-    pub fn as_slice(&self) -> &[Step]
-        ensures { result.now ≡ self.now }
-    {
-        &self.items
-    }
-
-    /// How many there are.
-    pub fn len(&self) -> usize
-        ensures { result ≡ length self.now }
-    {
-        self.items.len()
-    }
+/// Puts a step behind the others. Nothing changes where memory is refused.
+pub fn push_step(steps: &mut Steps, step: Step) -> Result<(), AllocError>
+    ensures ok { OnOk result (steps.new ≡ steps.old ++ step ∷ []) }
+    ensures err { OnErr result (steps.new ≡ steps.old) }
+{
+    // A change is taken apart, since the proof of the push has to name its type.
+    let Step { client, does } = step;
+    let does = match does {
+        ClientStep::Change { object, change } => ClientStep::Change { object, change },
+        other => other,
+    };
+    steps.push(Step { client, does })
 }

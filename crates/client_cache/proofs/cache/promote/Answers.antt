@@ -2,7 +2,7 @@ use Rattle.std.proofs.Common.{sym, ap, ◌∙◌}
 use Rattle.std.specs.Option.{option_map}
 use Rattle.list_core.proofs.Places.{first_that-none, first_that-found, brought_forward-none, brought_forward-found, front-read}
 use Rattle.std.specs.Prelude.{slice_get}
-use Rattle.dc_talk.specs.declared.session.Cached.{Cached}
+use Rattle.dc_talk.specs.declared.calls.Cached.{Cached}
 use Rattle.dc_talk.specs.Clients.{is_entry}
 use Rattle.client_cache.proofs.cache.promote.Goals as goal
 

@@ -1,7 +1,7 @@
 use Rattle.std.proofs.Common.{◌++◌, ◌∷◌, [], refl, sym, ap, ◌∙◌, subst}
 use Rattle.std.specs.Option.{IsSome}
 use Rattle.std.proofs.lemmas.Result.{on_ok_weaker, on_err_weaker}
-use Rattle.client_pending.specs.Indexes.{line_items, line_at}
+use Rattle.client_pending.specs.Indexes.{line_items, listed}
 use Rattle.client_pending.proofs.Lines.{turned_apart}
 use Rattle.client_pending.proofs.index.put_at.Goals as goal
 
@@ -28,4 +28,4 @@ returns-in_ok-insert-in-None-clause-there c =
     ap line_items c.in_ok-insert-in-None.ensures.updates.1 ∙ c.in_ok-put_last-in-None.ensures.ok ∙ ap (λ items. items ++ c.args.marked ∷ []) c.new-line.ensures.items ∙ ap (λ l. line_items l ++ c.args.marked ∷ []) c.in-None.ensures.value
 
 pub returns-in_ok-insert-in-None-clause-apart : goal.returns-in_ok-insert-in-None-clause-apart
-returns-in_ok-insert-in-None-clause-apart c k apart = turned_apart _ _ _ _ c.in_ok-insert-in-None.ensures.updates.0 k apart ∙ ap (λ index. line_at index.entries k) c.get_mut.follows.holds-at-none
+returns-in_ok-insert-in-None-clause-apart c k apart = turned_apart _ _ _ _ c.in_ok-insert-in-None.ensures.updates.0 k apart ∙ ap (λ index. listed index.entries k) c.get_mut.follows.holds-at-none

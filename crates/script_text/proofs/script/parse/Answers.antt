@@ -2,6 +2,7 @@ use Rattle.std.proofs.Common.{◌≡◌, Err, ap, sym, subst, ◌∙◌, rules}
 use Rattle.std.specs.Prelude.{All, map}
 use Rattle.std.specs.Result.{IsErrAnd}
 use Rattle.std.specs.Option.{unwrap_or}
+use Rattle.ids_core.specs.declared.limits.TheConstants.{MOST_CACHED, MOST_RECORDS}
 use Rattle.script_text.specs.Lines.{lines_of}
 use Rattle.script_text.specs.Steps.{IsCount, IsStepOf}
 use Rattle.script_text.specs.Rows.{row_text, IsRow, steps_in}
@@ -24,12 +25,12 @@ returns-in_ok-reading-in-Some-clause-steps c =
 pub returns-in_ok-reading-in-Some-clause-cache : goal.returns-in_ok-reading-in-Some-clause-cache
 returns-in_ok-reading-in-Some-clause-cache c =
     let read = c.in_ok-reading-in-Some.ensures.taken in
-    subst (IsCount 100000) (sym (c.script_of.ensures.cache ∙ ap (λ set. unwrap_or set 1024) read.1.cache)) (cache_count c.in-Some.clients read.0 read.2.each)
+    subst (IsCount MOST_CACHED) (sym (c.script_of.ensures.cache ∙ ap (λ set. unwrap_or set 1024) read.1.cache)) (cache_count c.in-Some.clients read.0 read.2.each)
 
 pub returns-in_ok-reading-in-Some-clause-limit : goal.returns-in_ok-reading-in-Some-clause-limit
 returns-in_ok-reading-in-Some-clause-limit c =
     let read = c.in_ok-reading-in-Some.ensures.taken in
-    subst (IsCount 1000000) (sym (c.script_of.ensures.limit ∙ ap (λ set. unwrap_or set 1000000) read.1.limit)) (limit_count c.in-Some.clients read.0 read.2.each)
+    subst (IsCount MOST_RECORDS) (sym (c.script_of.ensures.limit ∙ ap (λ set. unwrap_or set MOST_RECORDS) read.1.limit)) (limit_count c.in-Some.clients read.0 read.2.each)
 
 pub returns-in_ok-reading-in-Some-clause-only : goal.returns-in_ok-reading-in-Some-clause-only
 returns-in_ok-reading-in-Some-clause-only c =

@@ -1,7 +1,7 @@
 use Rattle.std.proofs.Common.{subst}
 use Rattle.client_stub.specs.Playing.{beside}
 use Rattle.client_stub.specs.Flushing.{FlushesOn}
-use Rattle.client_stub.proofs.Flushing.{flush_more, flush_ends}
+use Rattle.client_stub.proofs.Flushes.{flush_more, flush_ends}
 use Rattle.client_stub.proofs.seat.Seat.flush.Goals as goal
 
 pub pushes-preserved : goal.pushes-preserved

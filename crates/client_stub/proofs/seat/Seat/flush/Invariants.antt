@@ -1,6 +1,6 @@
 use Rattle.client_stub.specs.Playing.{beside}
 use Rattle.client_stub.specs.Flushing.{unsent}
-use Rattle.client_stub.proofs.Flushing.{HasFlushed}
+use Rattle.client_stub.proofs.Flushes.{HasFlushed}
 use Rattle.client_stub.proofs.seat.Seat.flush.Given as goal
 
 abbrev pub invariant-pushes : goal.invariant-pushes

@@ -1,7 +1,7 @@
 use Rattle.std.proofs.Common.{◌≡◌, ap, sym, ◌∙◌, Err, None}
 use Rattle.client_session.specs.SessionAnswers.{refresh_ask}
 use Rattle.client_stub.specs.Playing.{Seated, beside}
-use Rattle.client_stub.proofs.Leaving.{refresh_unlinked, refresh_open}
+use Rattle.client_stub.proofs.Steps.{refresh_unlinked, refresh_open}
 use Rattle.client_stub.proofs.seat.Seat.refresh.Goals as goal
 
 pub returns-then-is_not_connected : goal.returns-then-is_not_connected
