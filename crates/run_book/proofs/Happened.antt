@@ -7,28 +7,24 @@ use Rattle.std.proofs.lemmas.Option.{none-some, same_Some}
 use Rattle.list_core.specs.Members.{In}
 use Rattle.list_core.proofs.Gets.{get_In, all_get}
 use Rattle.list_core.proofs.Members.{In_drop}
-use Rattle.ids_core.specs.declared.ids.Dot.{Dot}
 use Rattle.tx_core.specs.declared.tx.Tx.{Tx}
-use Rattle.tx_core.specs.declared.tx.Record.{Record}
 use Rattle.dc_talk.specs.declared.ask.Ask.{Ask}
-use Rattle.dc_talk.specs.declared.ask.Ask.TheVariants.{Commit, Deliver, Learn}
+use Rattle.dc_talk.specs.declared.ask.Ask.TheVariants.{Commit}
 use Rattle.dc_talk.specs.declared.say.Say.{Say}
 use Rattle.dc_talk.specs.declared.log.Fate.{Fate}
 use Rattle.dc_talk.specs.declared.log.Fate.TheVariants.{Heard, Unheard}
 use Rattle.dc_talk.specs.declared.log.Deed.{Deed}
 use Rattle.dc_talk.specs.declared.log.Deed.TheVariants.{Did, Asked, Told}
 use Rattle.dc_talk.specs.declared.log.Note.{Note}
-use Rattle.dc_talk.specs.declared.trail.Entry.{Entry}
+use Rattle.dc_talk.specs.Entries.{Entry}
 use Rattle.dc_talk.specs.Clients.{Client, settled}
 use Rattle.dc_talk.specs.Rule.{Sends, Gives, Allows, Follows, client_after, commits_of}
-use Rattle.dc_talk.specs.Trails.{delivered_in}
 use Rattle.script_text.specs.declared.steps.Step.{Step}
 use Rattle.script_text.specs.Steps.{IsStepOf}
-use Rattle.run_book.specs.Parts.{exchange, exchanged_in, exchanged, entries_by}
-use Rattle.run_book.specs.Fit.{news_in}
-use Rattle.run_book.specs.Together.{Happened, notes_by, entry_of, entry_in, entries_in, IsNear, IsOfStep}
-use Rattle.run_book.proofs.Numbered.{numbered_In}
-use Rattle.run_book.proofs.Held.{Held, dot_at, held_after}
+use Rattle.run_book.specs.Parts.{exchanged_in, exchanged, entries_by}
+use Rattle.dc_talk.specs.Logs.{entry_of}
+use Rattle.run_book.specs.Together.{Happened, notes_by, entry_in, entries_in, IsNear, IsOfStep}
+use Rattle.run_book.proofs.Held.{Held, held_after}
 
 -- ---- notes
 
@@ -39,6 +35,7 @@ pub record HappenedTo (a : ℕ) (all : List Happened) (note : Note) : Type 0 whe
   pub actor : it.actor ≡ a
   pub note_is : it.note ≡ note
 
+-- a note of an actor is one that happened to it
 pub noted_In : (a : ℕ) (all : List Happened) (note : Note) → In note (notes_by a all) → HappenedTo a all note
 noted_In a [] note i = absurd i
 noted_In a (h ∷ all) note i = go (noted_In a all note) (h.actor == a) refl i
@@ -85,6 +82,7 @@ pub record EntersThere (all : List Happened) (entry : Entry) : Type 0 where
   pub there : In it all
   pub is : entry_in it ≡ Some entry
 
+-- an entry is one that happened
 pub entered_In : (all : List Happened) (entry : Entry) → In entry (entries_in all) → EntersThere all entry
 entered_In [] entry i = absurd i
 entered_In (h ∷ all) entry i = go (entered_In all entry) (entry_in h) refl i
@@ -116,15 +114,17 @@ abbrev when_it : Bool → Deed → List (Ask × Say) → List (Ask × Say)
 when_it true deed more = cons_option (exchanged_in 1 deed) more
 when_it false deed more = more
 
+-- what an actor exchanged, with a note in front that may be its own
 exchanged_front : (test : Bool) (note : Note) (notes : List Note) → exchanged 1 (cons_option (cond test (Some note) None) notes) ≡ when_it test note.deed (exchanged 1 notes)
 exchanged_front true note notes = refl
 exchanged_front false note notes = refl
 
+-- what an actor entered, with a deed in front that may be its own
 entered_front : (actor a : ℕ) (deed : Deed) (more : List Entry) → IsNear deed → entries_by a (cons_option (entry_of actor deed) more) ≡ when_it (actor == a) deed (entries_by a more)
 entered_front actor a (Asked i ask (Heard say)) more near = go (actor == a)
   where
     go : (test : Bool) → cons_option (cond test (Some (ask, say)) None) (entries_by a more) ≡ when_it test (Asked i ask (Heard say)) (entries_by a more)
-    go true = ap (λ i. cons_option (exchange (i == 1) ask (Some say)) (entries_by a more)) (sym near)
+    go true = ap (λ i. cons_option (cond (i == 1) (Some (ask, say)) None) (entries_by a more)) (sym near)
     go false = refl
 entered_front actor a (Asked i ask _) more near = absurd near
 entered_front actor a (Did call outcome) more near = go (actor == a)
@@ -167,16 +167,6 @@ asked_near deed i ask fate near is = near_ask i ask fate (subst IsNear is near)
 heard_no_copy : (fate : Fate) (say other : Say) → fate ≡ Heard say → fate ≡ Unheard other → ⊥
 heard_no_copy fate say other heard unheard = cc
 
--- a client gives no record
-pub gives_no_item : (s : Client) (i : ℕ) (ask : Ask) (item : Record) → Gives s i ask → delivered_in ask ≡ Some item → ⊥
-gives_no_item s i (Deliver r) item gives is = gives
-gives_no_item s i _ item gives is = none-some item is
-
--- and teaches no vector
-pub gives_no_news : (s : Client) (i : ℕ) (ask : Ask) (news : ℕ × List ℕ) → Gives s i ask → news_in ask ≡ Some news → ⊥
-gives_no_news s i (Learn from v) news gives is = gives
-gives_no_news s i _ news gives is = none-some news is
-
 -- an ask that was heard is one that the client gave
 pub heard_gives : (s : Client) (before : List Note) (i : ℕ) (ask : Ask) (say : Say) → Allows s before (Asked i ask (Heard say)) → Gives s i ask
 heard_gives s before i ask say allowed =
@@ -190,24 +180,17 @@ heard_gives s before i ask say allowed =
 
 -- ---- commits
 
--- the transaction is one of a client's
-pub record IsOf (client : ℕ) (C : List Tx) (tx : Tx) : Type 0 where
-  pub who : tx.dot.client ≡ client
-  pub committed : In tx C
-
 -- what a client sends, it committed
-sent : (client : ℕ) (s : Client) (C : List Tx) (i : ℕ) (tx : Tx) → Held client s C → Sends s i tx → IsOf client C tx
+sent : (client : ℕ) (s : Client) (C : List Tx) (i : ℕ) (tx : Tx) → Held client s C → Sends s i tx → In tx C
 sent client s C i tx h sends =
     let place : ℕ = settled s sends.link - s.mine in
     let there : slice_get (drop s.mine C) place ≡ Some tx = subst (λ l. slice_get l place ≡ Some tx) h.waiting sends.next in
-    let committed : In tx C = In_drop s.mine C tx (get_In (drop s.mine C) place tx there) in
-    let number = numbered_In (λ (t : Tx). t.dot) (dot_at client) 1 C tx h.dots committed in
-    record { who = ap (λ (d : Dot). d.client) number.is; committed = committed }
+    In_drop s.mine C tx (get_In (drop s.mine C) place tx there)
 
 -- a commit that was asked for, among near deeds, is of those before it
-pub own_commit : (n client capacity : ℕ) (notes : List Note) (m : ℕ) (note : Note) (i : ℕ) (tx : Tx) (fate : Fate) → Follows n client capacity notes → IsNear note.deed → slice_get notes m ≡ Some note → note.deed ≡ Asked i (Commit tx) fate → IsOf client (commits_of n client capacity (take m notes)) tx
+pub own_commit : (n client capacity : ℕ) (notes : List Note) (m : ℕ) (note : Note) (i : ℕ) (tx : Tx) (fate : Fate) → Follows n client capacity notes → IsNear note.deed → slice_get notes m ≡ Some note → note.deed ≡ Asked i (Commit tx) fate → In tx (commits_of n client capacity (take m notes))
 own_commit n client capacity notes m note i tx fate follows near there is =
     let s : Client = client_after n client capacity (take m notes) in
     let heard = asked_near note.deed i (Commit tx) fate near is in
-    let allowed : Allows s (take m notes) (Asked i (Commit tx) (Heard heard.say)) = subst (λ deed. Allows s (take m notes) deed) (is ∙ ap (Asked i (Commit tx)) heard.heard) (follows.by m note there) in
+    let allowed : Allows s (take m notes) (Asked i (Commit tx) (Heard heard.say)) = subst (λ deed. Allows s (take m notes) deed) (is ∙ ap (Asked i (Commit tx)) heard.heard) (follows.holds m note there) in
     sent client s (commits_of n client capacity (take m notes)) i tx (held_after n client capacity notes follows m) (heard_gives s (take m notes) i (Commit tx) heard.say allowed)

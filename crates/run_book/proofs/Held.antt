@@ -13,23 +13,24 @@ use Rattle.dc_talk.specs.declared.ask.Ask.{Ask}
 use Rattle.dc_talk.specs.declared.ask.Ask.TheVariants.{Hello, Refresh, Fetch, Commit as CommitAsk}
 use Rattle.dc_talk.specs.declared.say.Say.{Say}
 use Rattle.dc_talk.specs.declared.say.Say.TheVariants.{Welcome, Snap, Object, Known, Stamped}
-use Rattle.dc_talk.specs.declared.session.Change.{Change}
-use Rattle.dc_talk.specs.declared.session.Call.{Call}
-use Rattle.dc_talk.specs.declared.session.Call.TheVariants.{Begin, Change as ChangeCall, Read, Commit, Abort}
-use Rattle.dc_talk.specs.declared.session.Outcome.{Outcome}
-use Rattle.dc_talk.specs.declared.session.Outcome.TheVariants.{Fine, Got, Number, Nothing, Refused}
-use Rattle.dc_talk.specs.declared.session.Refusal.TheVariants.{TooManyTags}
-use Rattle.dc_talk.specs.declared.session.Link.{Link}
-use Rattle.dc_talk.specs.declared.session.Cached.{Cached}
+use Rattle.dc_talk.specs.declared.calls.Change.{Change}
+use Rattle.dc_talk.specs.declared.calls.Call.{Call}
+use Rattle.dc_talk.specs.declared.calls.Call.TheVariants.{Begin, Change as ChangeCall, Read, Commit, Abort}
+use Rattle.dc_talk.specs.declared.calls.Outcome.{Outcome}
+use Rattle.dc_talk.specs.declared.calls.Outcome.TheVariants.{Fine, Got, Number, Nothing, Refused}
+use Rattle.dc_talk.specs.declared.calls.Refusal.TheVariants.{TooManyTags}
+use Rattle.dc_talk.specs.declared.calls.Connection.{Connection}
+use Rattle.dc_talk.specs.declared.calls.Cached.{Cached}
 use Rattle.dc_talk.specs.declared.log.Fate.TheVariants.{Heard}
 use Rattle.dc_talk.specs.declared.log.Deed.{Deed}
 use Rattle.dc_talk.specs.declared.log.Deed.TheVariants.{Did, Asked, Told}
 use Rattle.dc_talk.specs.declared.log.Note.{Note}
 use Rattle.dc_talk.specs.Clients.{Client, new_client, next_tx, next_dot, draft_updates}
-use Rattle.dc_talk.specs.Calls.{most_rank, op_of, over, looked_up, outcome_of, did, committed}
+use Rattle.dc_talk.specs.Calls.{op_of, over, looked_up, outcome_of, did, committed}
 use Rattle.dc_talk.specs.Rule.{after, heard, takes, taken, is_linked, can_follow, client_after, commit_in, commits_of, Allows, Follows}
 use Rattle.run_book.proofs.Numbered.{Numbered, numbered_more}
 use Rattle.run_book.proofs.Sessions.{IsModest, modest_none, modest_more, begin_fine, ChangeFine, change_fine, commit_number, CanFollow, can_follow-true, by_notes, small_delta}
+use Rattle.ids_core.specs.declared.limits.TheConstants.{MOST_NUMBER}
 
 -- the dot of a client's k-th transaction
 abbrev pub dot_at : ℕ → ℕ → Dot
@@ -46,14 +47,14 @@ pub record Held (client : ℕ) (s : Client) (C : List Tx) : Type 0 where
   pub ascend : (p q : ℕ) (t u : Tx) → p < q → slice_get C p ≡ Some t → slice_get C q ≡ Some u → t.rank < u.rank
   pub modest : (p : ℕ) (t : Tx) → slice_get C p ≡ Some t → IsModest t.updates
   pub paid : s.own ≤ s.clock
-  pub ranked : s.clock ≤ most_rank
-  pub open_ranked : (updates : List Update) → s.draft ≡ Some updates → s.clock < most_rank
+  pub ranked : s.clock ≤ MOST_NUMBER
+  pub open_ranked : (updates : List Update) → s.draft ≡ Some updates → s.clock < MOST_NUMBER
   pub draft : IsModest (draft_updates s)
 
 -- ---- what changes no number
 
 -- another link
-held_link : (client : ℕ) (s : Client) (C : List Tx) (link : Option Link) → Held client s C → Held client (record s { link = link }) C
+held_link : (client : ℕ) (s : Client) (C : List Tx) (link : Option Connection) → Held client s C → Held client (record s { link = link }) C
 held_link client s C link h = record { who = h.who; number = h.number; below = h.below; waiting = h.waiting; dots = h.dots; ranks = h.ranks; ascend = h.ascend; modest = h.modest; paid = h.paid; ranked = h.ranked; open_ranked = h.open_ranked; draft = h.draft }
 
 -- another cache
@@ -61,7 +62,7 @@ held_cache : (client : ℕ) (s : Client) (C : List Tx) (cache : List Cached) →
 held_cache client s C cache h = record { who = h.who; number = h.number; below = h.below; waiting = h.waiting; dots = h.dots; ranks = h.ranks; ascend = h.ascend; modest = h.modest; paid = h.paid; ranked = h.ranked; open_ranked = h.open_ranked; draft = h.draft }
 
 -- the draft is another, begun below the greatest rank
-held_draft : (client : ℕ) (s : Client) (C : List Tx) (updates : List Update) → s.clock < most_rank → IsModest updates → Held client s C → Held client (record s { draft = Some updates }) C
+held_draft : (client : ℕ) (s : Client) (C : List Tx) (updates : List Update) → s.clock < MOST_NUMBER → IsModest updates → Held client s C → Held client (record s { draft = Some updates }) C
 held_draft client s C updates low modest h = record { who = h.who; number = h.number; below = h.below; waiting = h.waiting; dots = h.dots; ranks = h.ranks; ascend = h.ascend; modest = h.modest; paid = h.paid; ranked = h.ranked; open_ranked = λ us is. low; draft = modest }
 
 -- no transaction is open any more
@@ -71,7 +72,7 @@ held_closed client s C h = record { who = h.who; number = h.number; below = h.be
 -- ---- a commit
 
 -- a commit that gets its number
-held_committed : (client : ℕ) (s : Client) (C : List Tx) → s.clock < most_rank → Held client s C → Held client (committed s) (C ++ next_tx s (draft_updates s) ∷ [])
+held_committed : (client : ℕ) (s : Client) (C : List Tx) → s.clock < MOST_NUMBER → Held client s C → Held client (committed s) (C ++ next_tx s (draft_updates s) ∷ [])
 held_committed client s C low h = record {
   who = h.who;
   number = omega (arith, length-append C (tx ∷ []), h.number);
@@ -201,4 +202,4 @@ held_new n client capacity = record {
 pub held_after : (n client capacity : ℕ) (notes : List Note) → Follows n client capacity notes → (m : ℕ) → Held client (client_after n client capacity (take m notes)) (commits_of n client capacity (take m notes))
 held_after n client capacity notes follows = by_notes n client capacity notes (Held client) (held_new n client capacity) (λ p note there h.
     let X = take p notes in
-    held_deed client (client_after n client capacity X) (commits_of n client capacity X) X note.deed (follows.by p note there) h)
+    held_deed client (client_after n client capacity X) (commits_of n client capacity X) X note.deed (follows.holds p note there) h)

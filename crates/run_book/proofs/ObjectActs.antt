@@ -17,9 +17,9 @@ use Rattle.tx_graph.specs.declared.acts.BareAct.{BareAct}
 use Rattle.run_book.specs.declared.edits.Edit.{Edit}
 use Rattle.run_book.specs.declared.bare_nodes.BareNode.{BareNode}
 use Rattle.tx_graph.specs.Nodes.{Node}
-use Rattle.tx_graph.specs.Values.{Act, acts_from, acts_of, nodes_in}
+use Rattle.tx_graph.specs.Values.{Act, acts_from, acts_of, nodes_in, change_of}
 use Rattle.run_book.specs.Edits.{edit_of, edits_of}
-use Rattle.tx_graph.specs.Acts.{change_of, bare_of}
+use Rattle.tx_graph.specs.Acts.{bare_of}
 use Rattle.run_book.specs.BareNodes.{bare_node}
 
 -- ---- places of images
@@ -30,6 +30,7 @@ record IsImage {X Y : Type 0} (f : X → Y) (xs : List X) (p : ℕ) (y : Y) : Ty
   there : slice_get xs p ≡ Some of
   is : y ≡ f of
 
+-- each element of the images is one
 get_image : {X Y : Type 0} (f : X → Y) (xs : List X) (p : ℕ) (y : Y) → slice_get (map f xs) p ≡ Some y → IsImage f xs p y
 get_image f [] p y there = absurd (none-some y there)
 get_image f (x ∷ xs) zero y there = record { of = x; there = refl; is = sym (same_Some (f x) y there) }

@@ -10,10 +10,11 @@ use Rattle.dc_talk.specs.declared.log.Fate.TheVariants.{Heard}
 use Rattle.dc_talk.specs.declared.log.Deed.{Deed}
 use Rattle.dc_talk.specs.declared.log.Deed.TheVariants.{Did, Asked, Told}
 use Rattle.dc_talk.specs.declared.log.Note.{Note}
-use Rattle.dc_talk.specs.declared.trail.Entry.{Entry}
+use Rattle.dc_talk.specs.Entries.{Entry}
 use Rattle.dc_talk.specs.Logs.{Ascend}
 use Rattle.run_book.specs.Parts.{exchanged_in, reached, entries_by}
-use Rattle.run_book.specs.Together.{Happened, notes_by, all_notes, entry_of, entry_in, entries_in, IsNear}
+use Rattle.dc_talk.specs.Logs.{entry_of}
+use Rattle.run_book.specs.Together.{Happened, notes_by, all_notes, entry_in, entries_in, IsNear}
 use Rattle.run_book.proofs.Happened.{caller_of}
 
 -- what left an entry, of what happened
@@ -26,6 +27,7 @@ pub record HasSource (all : List Happened) (p : ℕ) (entry : Entry) : Type 0 wh
   pub there : slice_get (sources all) p ≡ Some it
   pub is : entry_in it ≡ Some entry
 
+-- the source of the entry at a place stands at that place of the sources
 pub source_at : (all : List Happened) (p : ℕ) (entry : Entry) → slice_get (entries_in all) p ≡ Some entry → HasSource all p entry
 source_at [] p entry there = absurd (none-some entry there)
 source_at (h ∷ all) p entry there = go (λ p there. source_at all p entry there) (entry_in h) refl p there
@@ -47,6 +49,7 @@ front_of true true note more = note ∷ more
 front_of true false note more = more
 front_of false reach note more = more
 
+-- the notes of an actor that reached the centre, with a note in front that may be its own
 reached_front : (test : Bool) (note : Note) (notes : List Note) → reached 1 (cons_option (cond test (Some note) None) notes) ≡ front_of test (is_some (exchanged_in 1 note.deed)) note (reached 1 notes)
 reached_front true note notes = go (is_some (exchanged_in 1 note.deed))
   where
@@ -55,6 +58,7 @@ reached_front true note notes = go (is_some (exchanged_in 1 note.deed))
     go false = refl
 reached_front false note notes = refl
 
+-- a note that did not reach the centre adds nothing
 nothing_in_front : (test : Bool) (note : Note) (more : List Note) → front_of test false note more ≡ more
 nothing_in_front true note more = refl
 nothing_in_front false note more = refl

@@ -7,11 +7,12 @@ use Rattle.dc_talk.specs.declared.ask.Ask.{Ask}
 use Rattle.dc_talk.specs.declared.ask.Ask.TheVariants.{Hello, Refresh, Fetch, Commit}
 use Rattle.dc_talk.specs.declared.say.Say.{Say}
 use Rattle.dc_talk.specs.declared.say.Say.TheVariants.{Object, Known, Stamped}
-use Rattle.dc_talk.specs.declared.session.Link.{Link}
+use Rattle.dc_talk.specs.declared.calls.Connection.{Connection}
 use Rattle.dc_talk.specs.declared.log.Note.{Note}
 use Rattle.dc_talk.specs.Clients.{Client, new_client}
 use Rattle.dc_talk.specs.Logs.{Logged}
 use Rattle.dc_talk.specs.Rule.{heard, takes, taken, sent_through, after, client_after, Allows, Follows}
+use Rattle.run_book.specs.Setups.{Setup}
 use Rattle.run_book.specs.declared.book.Book.{Book}
 use Rattle.run_book.specs.declared.replay.Replay.{Replay}
 use Rattle.run_book.specs.Parts.{log_of, notes_of, IsClient}
@@ -21,12 +22,12 @@ use Rattle.run_book.proofs.Sessions.{after_more}
 use Rattle.run_book.proofs.Growth.{numbers}
 
 -- what is sent changes no centre
-sent_same : (number own : ℕ) (link : Option Link) → option_map (λ (l : Link). l.centre) link ≡ option_map (λ (l : Link). l.centre) (sent_through number own link)
+sent_same : (number own : ℕ) (link : Option Connection) → option_map (λ (l : Connection). l.centre) link ≡ option_map (λ (l : Connection). l.centre) (sent_through number own link)
 sent_same number own None = refl
 sent_same number own (Some link) = refl
 
 -- the client with another link to the same centre
-shows_link : (r : Replay) (s : Client) (link : Option Link) → option_map (λ (l : Link). l.centre) s.link ≡ option_map (λ (l : Link). l.centre) link → Shows r s → Shows r (record s { link = link })
+shows_link : (r : Replay) (s : Client) (link : Option Connection) → option_map (λ (l : Connection). l.centre) s.link ≡ option_map (λ (l : Connection). l.centre) link → Shows r s → Shows r (record s { link = link })
 shows_link r s link same h = record { client = h.client; vector = h.vector; own = h.own; mine = h.mine; clock = h.clock; centre = h.centre ∙ same; open_edits = h.open_edits }
 
 -- the client with another cache
@@ -63,15 +64,15 @@ shows_more n client capacity m notes note old new follows there goes_on shows =
     (goes_on (client_after n client capacity (take m notes)) shows (in_range_at n client capacity m notes follows))
 
 -- the replay of a client's log before its first note
-pub shows_first : (b : Book) (clients limit capacity a n client : ℕ) (log : Logged) (r : Replay) → FitsWith b clients limit capacity → IsClient clients a → log ≡ log_of b a → n ≡ max 1 (min b.n 8) → client ≡ log.actor - 1 → ((capacity : ℕ) → Shows r (new_client n client capacity)) → Shows r (new_client b.n (a - 1) capacity)
-shows_first b clients limit capacity a n client log r fit is_client is many who shows =
+pub shows_first : (b : Book) (setup : Setup) (a n client : ℕ) (log : Logged) (r : Replay) → FitsWith b setup → IsClient setup a → log ≡ log_of b a → n ≡ max 1 (min b.n 8) → client ≡ log.actor - 1 → ((capacity : ℕ) → Shows r (new_client n client capacity)) → Shows r (new_client b.n (a - 1) setup.capacity)
+shows_first b setup a n client log r fit is_client is many who shows =
     let n_is : n ≡ b.n = omega (arith, many, fit.form.n.0, fit.form.n.1) in
     let actor : log.actor ≡ a = ap (λ (l : Logged). l.actor) is ∙ fit.form.actors a (omega (arith, is_client.low)) (omega (arith, is_client.high, fit.form.logs)) in
     let who_is : client ≡ a - 1 = who ∙ ap (λ a. a - 1) actor in
-    subst (λ n. Shows r (new_client n (a - 1) capacity)) n_is (subst (λ c. Shows r (new_client n c capacity)) who_is (shows capacity))
+    subst (λ n. Shows r (new_client n (a - 1) setup.capacity)) n_is (subst (λ c. Shows r (new_client n c setup.capacity)) who_is (shows setup.capacity))
 
 -- the first notes of a client's log follow the rule
-pub front_follows : (b : Book) (clients limit capacity a many : ℕ) (notes : List Note) (log : Logged) → FitsWith b clients limit capacity → IsClient clients a → log ≡ log_of b a → notes ≡ take many log.notes → Follows b.n (a - 1) capacity notes
-front_follows b clients limit capacity a many notes log fit is_client is front =
-    subst (λ ns. Follows b.n (a - 1) capacity ns) (sym (front ∙ ap (λ (l : Logged). take many l.notes) is))
-    (each_take (λ before (note : Note). Allows (client_after b.n (a - 1) capacity before) before note.deed) (notes_of b a) many (fit.follows a is_client))
+pub front_follows : (b : Book) (setup : Setup) (a many : ℕ) (notes : List Note) (log : Logged) → FitsWith b setup → IsClient setup a → log ≡ log_of b a → notes ≡ take many log.notes → Follows b.n (a - 1) setup.capacity notes
+front_follows b setup a many notes log fit is_client is front =
+    subst (λ ns. Follows b.n (a - 1) setup.capacity ns) (sym (front ∙ ap (λ (l : Logged). take many l.notes) is))
+    (each_take (λ before (note : Note). Allows (client_after b.n (a - 1) setup.capacity before) before note.deed) (notes_of b a) many (fit.follows a is_client))

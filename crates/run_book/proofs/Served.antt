@@ -18,28 +18,29 @@ use Rattle.vv_core.proofs.Covering.{Covers_join, Covers-meet_right}
 use Rattle.tx_core.specs.declared.state.State.{State}
 use Rattle.tx_core.specs.declared.state.Value.{Value}
 use Rattle.tx_core.specs.States.{value_of}
-use Rattle.dc_talk.specs.declared.session.Outcome.TheVariants.{Got}
+use Rattle.dc_talk.specs.declared.calls.Outcome.TheVariants.{Got}
 use Rattle.dc_talk.specs.Calls.{read_outcome}
-use Rattle.dc_talk.specs.declared.session.Cached.{Cached}
-use Rattle.dc_talk.specs.declared.session.Change.{Change}
-use Rattle.dc_talk.specs.declared.trail.Entry.{Entry}
+use Rattle.dc_talk.specs.declared.calls.Cached.{Cached}
+use Rattle.dc_talk.specs.declared.calls.Change.{Change}
+use Rattle.dc_talk.specs.Entries.{Entry}
 use Rattle.dc_talk.specs.Records.{vector}
 use Rattle.dc_talk.specs.Trails.{applied, rows, stable}
 use Rattle.dc_talk.specs.Clients.{Client, same_vector, is_entry, cached, kept, promoted, view}
 use Rattle.dc_talk.specs.Calls.{named, looked_up}
 use Rattle.dc_talk.proofs.ClientAnswers.{SnapBy}
+use Rattle.dc_talk.specs.declared.settings.Settings.{Settings}
 
 -- ---- a snapshot
 
 -- a centre's stable vector lies within its own
-pub stable_within : (me n k : ℕ) (trail : List Entry) → Covers (vector n (applied n trail)) (stable me n k trail)
-stable_within me n k trail = Covers-meet_right (kth_largest k (rows me n trail)) (vector n (applied n trail))
+pub stable_within : (settings : Settings) (trail : List Entry) → Covers (vector settings.n (applied settings.n trail)) (stable settings trail)
+stable_within settings trail = Covers-meet_right (kth_largest settings.k (rows settings trail)) (vector settings.n (applied settings.n trail))
 
 -- and so does the vector of a snapshot
-pub snap_within : (me n k : ℕ) (trail : List Entry) (client : ℕ) (here w : List ℕ) (own_number top_rank : ℕ) → SnapBy me n k trail client here w own_number top_rank → Covers (vector n (applied n trail)) w
-snap_within me n k trail client here w own_number top_rank snap =
-    let joined = Covers_join (vector n (applied n trail)) here (stable me n k trail) snap.covered (stable_within me n k trail) in
-    record { by = λ e. omega (arith, joined.by e, ap (λ v. at v e) snap.vector_is) }
+pub snap_within : (settings : Settings) (trail : List Entry) (client : ℕ) (here w : List ℕ) (own_number top_rank : ℕ) → SnapBy settings trail client here w own_number top_rank → Covers (vector settings.n (applied settings.n trail)) w
+snap_within settings trail client here w own_number top_rank snap =
+    let joined = Covers_join (vector settings.n (applied settings.n trail)) here (stable settings trail) snap.covered (stable_within settings trail) in
+    record { holds = λ e. omega (arith, joined.holds e, ap (λ v. at v e) snap.vector_is) }
 
 -- ---- the cache
 

@@ -18,18 +18,19 @@ use Rattle.obj_counter.specs.Counter.{sizes}
 use Rattle.tx_core.specs.declared.op.Op.{Op}
 use Rattle.tx_core.specs.declared.tx.Update.{Update}
 use Rattle.tx_core.specs.declared.tx.Tx.{Tx}
-use Rattle.dc_talk.specs.declared.session.Change.{Change}
-use Rattle.dc_talk.specs.declared.session.Change.TheVariants.{Inc, Write, Add, Remove, Put, Erase}
-use Rattle.dc_talk.specs.declared.session.Refusal.{Refusal}
-use Rattle.dc_talk.specs.declared.session.Refusal.TheVariants.{AlreadyOpen, ClockFull, NotOpen, WrongKind, DeltaTooLarge, TooManyUpdates}
-use Rattle.dc_talk.specs.declared.session.Outcome.{Outcome}
-use Rattle.dc_talk.specs.declared.session.Outcome.TheVariants.{Fine, Number, Refused}
+use Rattle.dc_talk.specs.declared.calls.Change.{Change}
+use Rattle.dc_talk.specs.declared.calls.Change.TheVariants.{Inc, Write, Add, Remove, Put, Erase}
+use Rattle.dc_talk.specs.declared.calls.Refusal.{Refusal}
+use Rattle.dc_talk.specs.declared.calls.Refusal.TheVariants.{AlreadyOpen, ClockFull, NotOpen, WrongKind, DeltaTooLarge, TooManyUpdates}
+use Rattle.dc_talk.specs.declared.calls.Outcome.{Outcome}
+use Rattle.dc_talk.specs.declared.calls.Outcome.TheVariants.{Fine, Number, Refused}
 use Rattle.dc_talk.specs.declared.log.Note.{Note}
 use Rattle.dc_talk.specs.Clients.{Client, new_client, draft_updates}
-use Rattle.dc_talk.specs.Calls.{most_rank, most_updates, kind_of, named, op_of, is_modest, viewed, look_up_outcome, begin_outcome, change_outcome, commit_outcome}
+use Rattle.dc_talk.specs.Calls.{sort_of_change, named, op_of, is_modest, viewed, look_up_outcome, begin_outcome, change_outcome, commit_outcome}
 use Rattle.dc_talk.specs.Rule.{after, can_follow, client_after, commit_in, commits_from, commits_of}
-use Rattle.tx_graph.specs.Values.{delta_of, deltas_of}
-use Rattle.run_book.proofs.Sizes.{sizes-append, deltas_of-append}
+use Rattle.tx_graph.specs.Values.{delta_of, change_of}
+use Rattle.run_book.proofs.Sizes.{sizes-append, deltas_of-append, deltas_of}
+use Rattle.ids_core.specs.declared.limits.TheConstants.{MOST_NUMBER, MOST_UPDATES}
 
 -- ---- the commits of a log
 
@@ -81,13 +82,13 @@ pub record IsModest (updates : List Update) : Type 0 where
 
 -- the size of an operation's delta, 0 where it has none
 abbrev pub size_of : Op → ℕ
-size_of op = sizes (cons_option (delta_of op) [])
+size_of op = sizes (cons_option (delta_of (change_of op)) [])
 
 -- one update more adds at most the size of its own delta
 sizes_more : (o : ObjectId) (updates : List Update) (u : Update) → sizes (deltas_of o (updates ++ u ∷ [])) ≤ sizes (deltas_of o updates) + size_of u.op
 sizes_more o updates u = omega (arith, ap sizes (deltas_of-append o updates (u ∷ [])), sizes-append (deltas_of o updates) (deltas_of o (u ∷ [])), go (same_object u.object o))
   where
-    go : (b : Bool) → sizes (cond b (cons_option (delta_of u.op) []) []) ≤ size_of u.op
+    go : (b : Bool) → sizes (cond b (cons_option (delta_of (change_of u.op)) []) []) ≤ size_of u.op
     go true = omega arith
     go false = omega arith
 
@@ -118,16 +119,16 @@ differs : (test : Bool) (refusal : Refusal) (y : Outcome) → when test (Refused
 differs test refusal y there same = let e : y ≡ Refused refusal = when_some test (Refused refusal) y there in cc
 
 -- a transaction is begun below the greatest rank
-pub begin_fine : (s : Client) → Fine ≡ begin_outcome s → s.clock < most_rank
+pub begin_fine : (s : Client) → Fine ≡ begin_outcome s → s.clock < MOST_NUMBER
 begin_fine s is =
-    let l = last_of (when (is_some s.draft) (Refused AlreadyOpen) ∷ when (nat_le most_rank s.clock) (Refused ClockFull) ∷ []) Fine Fine is (differs _ AlreadyOpen, (differs _ ClockFull, tt)) in
-    leb-false most_rank s.clock (when_none _ _ l.0.1.0)
+    let l = last_of (when (is_some s.draft) (Refused AlreadyOpen) ∷ when (nat_le MOST_NUMBER s.clock) (Refused ClockFull) ∷ []) Fine Fine is (differs _ AlreadyOpen, (differs _ ClockFull, tt)) in
+    leb-false MOST_NUMBER s.clock (when_none _ _ l.0.1.0)
 
 -- a change that is made is of its object's kind and modest, there is room for it, and what it has to know of
 -- the object is there
 pub record ChangeFine (s : Client) (o : ObjectId) (change : Change) : Type 0 where
   pub opened : is_none s.draft ≡ false
-  pub kind : kind_of change ≡ o.sort
+  pub kind : sort_of_change change ≡ o.sort
   pub small : is_modest change ≡ true
   pub room : length (draft_updates s) < 256
   pub found : Fine ≡ look_up_outcome o (named change) (viewed s o)
@@ -137,16 +138,16 @@ pub change_fine : (s : Client) (o : ObjectId) (change : Change) → Fine ≡ cha
 change_fine s o change is =
     let refusals =
     when (is_none s.draft) (Refused NotOpen)
-    ∷ when (not (same_sort (kind_of change) o.sort)) (Refused WrongKind)
+    ∷ when (not (same_sort (sort_of_change change) o.sort)) (Refused WrongKind)
     ∷ when (not (is_modest change)) (Refused DeltaTooLarge)
-    ∷ when (nat_le most_updates (length (draft_updates s))) (Refused (TooManyUpdates most_updates))
+    ∷ when (nat_le MOST_UPDATES (length (draft_updates s))) (Refused (TooManyUpdates MOST_UPDATES))
     ∷ [] in
-    let l = last_of refusals (look_up_outcome o (named change) (viewed s o)) Fine is (differs _ NotOpen, (differs _ WrongKind, (differs _ DeltaTooLarge, (differs _ (TooManyUpdates most_updates), tt)))) in
+    let l = last_of refusals (look_up_outcome o (named change) (viewed s o)) Fine is (differs _ NotOpen, (differs _ WrongKind, (differs _ DeltaTooLarge, (differs _ (TooManyUpdates MOST_UPDATES), tt)))) in
     record {
       opened = when_none _ _ l.0.0;
-      kind = same_sort-true (kind_of change) o.sort (not-false _ (when_none _ _ l.0.1.0));
+      kind = same_sort-true (sort_of_change change) o.sort (not-false _ (when_none _ _ l.0.1.0));
       small = not-false _ (when_none _ _ l.0.1.1.0);
-      room = leb-false most_updates (length (draft_updates s)) (when_none _ _ l.0.1.1.1.0);
+      room = leb-false MOST_UPDATES (length (draft_updates s)) (when_none _ _ l.0.1.1.1.0);
       found = l.1;
     }
 
@@ -160,7 +161,7 @@ pub record CanFollow (s : Client) (vector : List ℕ) (mine top : ℕ) : Type 0 
   pub closed : s.draft ≡ None
   pub width : length vector ≡ length s.vector
   pub covered : Covers vector s.vector
-  pub ranked : top ≤ most_rank
+  pub ranked : top ≤ MOST_NUMBER
   pub grows : s.mine ≤ mine
   pub made : mine ≤ s.own
 
@@ -169,14 +170,14 @@ pub can_follow-true : (s : Client) (vector : List ℕ) (mine top : ℕ) → can_
 can_follow-true s vector mine top is =
     let a = and_parts _ (nat_le mine s.own) is in
     let b = and_parts _ (nat_le s.mine mine) a.0 in
-    let c = and_parts _ (nat_le top most_rank) b.0 in
+    let c = and_parts _ (nat_le top MOST_NUMBER) b.0 in
     let d = and_parts _ (covers vector s.vector) c.0 in
     let e = and_parts (is_none s.draft) (length vector == length s.vector) d.0 in
     record {
       closed = is_none_true s.draft e.0;
       width = eqb-true (length vector) (length s.vector) e.1;
       covered = covers-true vector s.vector d.1;
-      ranked = leb-true top most_rank c.1;
+      ranked = leb-true top MOST_NUMBER c.1;
       grows = leb-true s.mine mine b.1;
       made = leb-true mine s.own a.1;
     }

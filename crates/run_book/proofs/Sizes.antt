@@ -10,7 +10,7 @@ use Rattle.ids_core.specs.declared.object.ObjectId.{ObjectId}
 use Rattle.ids_core.specs.Ids.{same_object}
 use Rattle.obj_counter.specs.Counter.{sizes}
 use Rattle.tx_core.specs.declared.tx.Update.{Update}
-use Rattle.tx_graph.specs.Values.{delta_of, deltas_of}
+use Rattle.tx_graph.specs.Values.{delta_of, change_of}
 
 -- the sizes of two lists together
 pub sizes-append : (xs ys : List ℤ) → sizes (xs ++ ys) ≡ sizes xs + sizes ys
@@ -30,10 +30,15 @@ sum_by_most f most xs each = sum_by-le f most xs (In-All (λ x. f x ≤ most) xs
 pub sum_by_filter : {X : Type 0} (f : X → ℕ) (p : X → Bool) (xs : List X) → sum_by f (filter p xs) ≤ sum_by f xs
 sum_by_filter f p xs = omega (arith, sum_by-filter_both p (λ x. not (p x)) (λ x. refl) f xs)
 
+-- the deltas that updates add to the object
+abbrev pub deltas_of : ObjectId → List Update → List ℤ
+deltas_of o [] = []
+deltas_of o (u ∷ us) = cond (same_object u.object o) (cons_option (delta_of (change_of u.op)) (deltas_of o us)) (deltas_of o us)
+
 -- the deltas of updates and of those behind them
 pub deltas_of-append : (o : ObjectId) (us vs : List Update) → deltas_of o (us ++ vs) ≡ deltas_of o us ++ deltas_of o vs
 deltas_of-append o [] vs = refl
-deltas_of-append o (u ∷ us) vs = go (same_object u.object o) (delta_of u.op) (deltas_of-append o us vs)
+deltas_of-append o (u ∷ us) vs = go (same_object u.object o) (delta_of (change_of u.op)) (deltas_of-append o us vs)
   where
     go : (b : Bool) (delta : Option ℤ) → deltas_of o (us ++ vs) ≡ deltas_of o us ++ deltas_of o vs → cond b (cons_option delta (deltas_of o (us ++ vs))) (deltas_of o (us ++ vs)) ≡ cond b (cons_option delta (deltas_of o us)) (deltas_of o us) ++ deltas_of o vs
     go true None rest = rest

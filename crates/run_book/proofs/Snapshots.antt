@@ -8,11 +8,11 @@ use Rattle.dc_talk.specs.declared.ask.Ask.{Ask}
 use Rattle.dc_talk.specs.declared.ask.Ask.TheVariants.{Hello, Refresh, Fetch, Commit as CommitAsk}
 use Rattle.dc_talk.specs.declared.say.Say.{Say}
 use Rattle.dc_talk.specs.declared.say.Say.TheVariants.{Welcome, Snap, Object, Known, Stamped}
-use Rattle.dc_talk.specs.declared.session.Call.{Call}
-use Rattle.dc_talk.specs.declared.session.Call.TheVariants.{Begin, Change as ChangeCall, Read, Commit, Abort}
-use Rattle.dc_talk.specs.declared.session.Outcome.{Outcome}
-use Rattle.dc_talk.specs.declared.session.Outcome.TheVariants.{Fine, Got, Number, Nothing, Refused}
-use Rattle.dc_talk.specs.declared.session.Refusal.TheVariants.{TooManyTags}
+use Rattle.dc_talk.specs.declared.calls.Call.{Call}
+use Rattle.dc_talk.specs.declared.calls.Call.TheVariants.{Begin, Change as ChangeCall, Read, Commit, Abort}
+use Rattle.dc_talk.specs.declared.calls.Outcome.{Outcome}
+use Rattle.dc_talk.specs.declared.calls.Outcome.TheVariants.{Fine, Got, Number, Nothing, Refused}
+use Rattle.dc_talk.specs.declared.calls.Refusal.TheVariants.{TooManyTags}
 use Rattle.dc_talk.specs.declared.log.Fate.TheVariants.{Heard}
 use Rattle.dc_talk.specs.declared.log.Deed.{Deed}
 use Rattle.dc_talk.specs.declared.log.Deed.TheVariants.{Did, Asked, Told}
@@ -22,6 +22,7 @@ use Rattle.dc_talk.specs.Clients.{Client}
 use Rattle.dc_talk.specs.Calls.{did}
 use Rattle.dc_talk.specs.Rule.{after, heard, takes, taken, is_linked, can_follow, Allows}
 use Rattle.dc_talk.proofs.ClientAnswers.{snap_by}
+use Rattle.run_book.specs.Setups.{Setup, centre_settings}
 use Rattle.run_book.specs.declared.book.Book.{Book}
 use Rattle.run_book.specs.Parts.{trail_of, notes_of, IsClient}
 use Rattle.run_book.specs.Fit.{FitsWith}
@@ -32,16 +33,21 @@ use Rattle.run_book.proofs.Pairing.{HasEntry, has_entry}
 
 -- ---- one deed
 
--- a call leaves the snapshot as it is
-pub did_vector : (s : Client) (call : Call) (outcome : Outcome) → (did s call outcome).vector ≡ s.vector
-did_vector s Begin Fine = refl
-did_vector s (ChangeCall o change) Fine = refl
-did_vector s (ChangeCall o change) (Refused (TooManyTags count)) = refl
-did_vector s (Read o) (Got value) = refl
-did_vector s Commit (Number number) = refl
-did_vector s Commit Nothing = refl
-did_vector s Abort Fine = refl
-did_vector s _ _ = refl
+-- the second client has the snapshot and the link of the first
+pub record IsKeptByCall (s t : Client) : Type 0 where
+  pub vector : t.vector ≡ s.vector
+  pub link : t.link ≡ s.link
+
+-- a call leaves them as they are
+pub did_keeps : (s : Client) (call : Call) (outcome : Outcome) → IsKeptByCall s (did s call outcome)
+did_keeps s Begin Fine = record { vector = refl; link = refl }
+did_keeps s (ChangeCall o change) Fine = record { vector = refl; link = refl }
+did_keeps s (ChangeCall o change) (Refused (TooManyTags count)) = record { vector = refl; link = refl }
+did_keeps s (Read o) (Got value) = record { vector = refl; link = refl }
+did_keeps s Commit (Number number) = record { vector = refl; link = refl }
+did_keeps s Commit Nothing = record { vector = refl; link = refl }
+did_keeps s Abort Fine = record { vector = refl; link = refl }
+did_keeps s _ _ = record { vector = refl; link = refl }
 
 -- the client hears a snapshot, and takes it: it has as many entries as the client's, and covers it
 pub record TakesSnapshot (s : Client) (deed : Deed) : Type 0 where
@@ -78,7 +84,7 @@ taken_vector s i _ _ is new = inl refl
 
 -- a deed leaves the snapshot, or takes one
 pub deed_vector : (s : Client) (deed : Deed) → ((after s deed).vector ≡ s.vector) ⊎ TakesSnapshot s deed
-deed_vector s (Did call outcome) = inl (did_vector s call outcome)
+deed_vector s (Did call outcome) = inl (did_keeps s call outcome).vector
 deed_vector s (Asked i ask (Heard say)) = go (takes s i ask say) refl
   where
     go : (t : Bool) → takes s i ask say ≡ t → ((heard s i ask say).vector ≡ s.vector) ⊎ TakesSnapshot s (Asked i ask (Heard say))
@@ -107,17 +113,17 @@ deed_width s deed = ⊎_elim (λ same. ap length same) (λ (t : TakesSnapshot s 
 pub same_refresh : (c d : ℕ) (v w : List ℕ) → Refresh c v ≡ Refresh d w → (c ≡ d) × (v ≡ w)
 same_refresh c d v w is = (cc, cc)
 
-module _ (b : Book) (clients limit capacity : ℕ) (fit : FitsWith b clients limit capacity) (a m : ℕ) (client : IsClient clients a) (note : Note) (there : slice_get (notes_of b a) m ≡ Some note) (takes : TakesSnapshot (client_at b capacity a m) note.deed) where
+module _ (b : Book) (setup : Setup) (fit : FitsWith b setup) (a m : ℕ) (client : IsClient setup a) (note : Note) (there : slice_get (notes_of b a) m ≡ Some note) (takes : TakesSnapshot (client_at b setup a m) note.deed) where
   -- the entry of a snapshot that a session takes at note m, which is the session's vector joined with what is stable there
   pub record IsJoined : Type 0 where
-    pub entry : HasEntry b limit a takes.centre (Refresh takes.client takes.here) (Snap takes.vector takes.own_number takes.top_rank) (take m (notes_of b a))
-    pub is : takes.vector ≡ join_of (client_at b capacity a m).vector (stable takes.centre b.n b.k (take entry.place (trail_of b takes.centre)))
+    pub entry : HasEntry b setup takes.centre (record { caller = a; ask = Refresh takes.client takes.here; say = Snap takes.vector takes.own_number takes.top_rank }) (take m (notes_of b a))
+    pub is : takes.vector ≡ join_of (client_at b setup a m).vector (stable (centre_settings b setup takes.centre) (take entry.place (trail_of b takes.centre)))
 
   -- each snapshot that a session takes is so
   pub is_joined : IsJoined
   is_joined =
-      let s = client_at b capacity a m in
-      let entry = has_entry b clients limit capacity fit a m note takes.centre (Refresh takes.client takes.here) (Heard (Snap takes.vector takes.own_number takes.top_rank)) (Snap takes.vector takes.own_number takes.top_rank) (omega (arith, client.low)) (omega (arith, client.high, fit.form.logs)) there takes.is refl in
-      let snap = snap_by takes.centre b.n b.k limit (take entry.place (trail_of b takes.centre)) takes.client takes.here takes.vector takes.own_number takes.top_rank entry.is in
-      let gives = heard_gives s (take m (notes_of b a)) takes.centre (Refresh takes.client takes.here) (Snap takes.vector takes.own_number takes.top_rank) (subst (λ d. Allows s (take m (notes_of b a)) d) takes.is ((fit.follows a client).by m note there)) in
-      record { entry = entry; is = snap.vector_is ∙ ap (λ v. join_of v (stable takes.centre b.n b.k (take entry.place (trail_of b takes.centre)))) (same_refresh takes.client s.client takes.here s.vector gives.0).1 }
+      let s = client_at b setup a m in
+      let entry = has_entry b setup fit a m note takes.centre (Refresh takes.client takes.here) (Heard (Snap takes.vector takes.own_number takes.top_rank)) (Snap takes.vector takes.own_number takes.top_rank) (omega (arith, client.low)) (omega (arith, client.high, fit.form.logs)) there takes.is refl in
+      let snap = snap_by (centre_settings b setup takes.centre) (take entry.place (trail_of b takes.centre)) takes.client takes.here takes.vector takes.own_number takes.top_rank entry.is in
+      let gives = heard_gives s (take m (notes_of b a)) takes.centre (Refresh takes.client takes.here) (Snap takes.vector takes.own_number takes.top_rank) (subst (λ d. Allows s (take m (notes_of b a)) d) takes.is ((fit.follows a client).holds m note there)) in
+      record { entry = entry; is = snap.vector_is ∙ ap (λ v. join_of v (stable (centre_settings b setup takes.centre) (take entry.place (trail_of b takes.centre)))) (same_refresh takes.client s.client takes.here s.vector gives.0).1 }

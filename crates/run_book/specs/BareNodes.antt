@@ -1,7 +1,7 @@
 -- Nodes without the identifiers that their operations are over.
 use Rattle.std.specs.Prelude.{Bool, true, false}
-use Rattle.dc_talk.specs.declared.session.Call.TheVariants.{Commit}
-use Rattle.dc_talk.specs.declared.session.Outcome.TheVariants.{Number}
+use Rattle.dc_talk.specs.declared.calls.Call.TheVariants.{Commit}
+use Rattle.dc_talk.specs.declared.calls.Outcome.TheVariants.{Number}
 use Rattle.dc_talk.specs.declared.log.Deed.{Deed}
 use Rattle.dc_talk.specs.declared.log.Deed.TheVariants.{Did}
 use Rattle.run_book.specs.declared.bare_nodes.BareNode.{BareNode}

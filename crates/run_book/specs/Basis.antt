@@ -7,7 +7,7 @@ use Rattle.dc_talk.specs.declared.ask.Ask.{Ask}
 use Rattle.dc_talk.specs.declared.ask.Ask.TheVariants.{Commit}
 use Rattle.dc_talk.specs.declared.say.Say.{Say}
 use Rattle.dc_talk.specs.declared.say.Say.TheVariants.{Stamped}
-use Rattle.dc_talk.specs.declared.trail.Entry.{Entry}
+use Rattle.dc_talk.specs.Entries.{Entry}
 use Rattle.run_book.specs.declared.book.Book.{Book}
 use Rattle.run_book.specs.declared.replay.Replay.{Replay}
 use Rattle.run_book.specs.Parts.{trail_of}

@@ -2,7 +2,7 @@
 use Rattle.std.specs.Prelude.{List, map}
 use Rattle.tx_core.specs.declared.tx.Update.{Update}
 use Rattle.run_book.specs.declared.edits.Edit.{Edit}
-use Rattle.tx_graph.specs.Acts.{change_of}
+use Rattle.tx_graph.specs.Values.{change_of}
 
 -- the edit of an update
 abbrev pub edit_of : Update → Edit

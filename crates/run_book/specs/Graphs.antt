@@ -12,6 +12,7 @@ use Rattle.dc_talk.specs.Clients.{Client, next_dot, draft_updates}
 use Rattle.dc_talk.specs.Rule.{client_after, commits_of}
 use Rattle.run_book.specs.declared.book.Book.{Book}
 use Rattle.tx_graph.specs.Nodes.{Node}
+use Rattle.run_book.specs.Setups.{Setup}
 use Rattle.run_book.specs.Parts.{trail_of, notes_of}
 
 -- the records that centre e stamped in the book, in order
@@ -32,24 +33,28 @@ abbrev pub node_of : Book → Tx → Node
 node_of b tx = record { dot = tx.dot; deps = cover b tx.snap ++ own_dots tx.dot.client (tx.dot.number - 1); rank = tx.rank; updates = tx.updates }
 
 -- the transactions that the clients committed, client by client
-abbrev pub committed : Book → ℕ → ℕ → List Tx
-committed b clients capacity = flat_map (λ client. commits_of b.n client capacity (notes_of b (client + 1))) (range_with_len 1 clients)
+abbrev pub committed : Book → Setup → List Tx
+committed b setup = flat_map (λ client. commits_of b.n client setup.capacity (notes_of b (client + 1))) (range_with_len 1 setup.clients)
 
--- the graph of a book with so many clients and a capacity of their caches
-abbrev pub graph : Book → ℕ → ℕ → List Node
-graph b clients capacity = map (node_of b) (committed b clients capacity)
+-- the graph of a book
+abbrev pub graph : Book → Setup → List Node
+graph b setup = map (node_of b) (committed b setup)
 
 -- what a session stands on: what its vector covers, and all that it committed
 abbrev pub basis : Book → Client → List Dot
 basis b s = cover b s.vector ++ own_dots s.client s.own
 
 -- the client of actor a after the first m notes of its log
-abbrev pub client_at : Book → ℕ → ℕ → ℕ → Client
-client_at b capacity a m = client_after b.n (a - 1) capacity (take m (notes_of b a))
+abbrev pub client_at : Book → Setup → ℕ → ℕ → Client
+client_at b setup a m = client_after b.n (a - 1) setup.capacity (take m (notes_of b a))
+
+-- the transactions that actor a committed by the first m notes of its log
+abbrev pub commits_at : Book → Setup → ℕ → ℕ → List Tx
+commits_at b setup a m = commits_of b.n (a - 1) setup.capacity (take m (notes_of b a))
 
 -- the basis of a read at note m of actor a
-abbrev pub basis_at : Book → ℕ → ℕ → ℕ → List Dot
-basis_at b capacity a m = basis b (client_at b capacity a m)
+abbrev pub basis_at : Book → Setup → ℕ → ℕ → List Dot
+basis_at b setup a m = basis b (client_at b setup a m)
 
 -- the node of a session's open transaction, behind all that the session stands on
 abbrev pub open_node : Book → Client → Node

@@ -1,4 +1,5 @@
 pub mod Books
+pub mod Setups
 pub mod Parts
 pub mod Fit
 pub mod Scripted

@@ -1,6 +1,8 @@
 -- The parts of a book, and how its logs and trails tell of one another.
-use Rattle.std.specs.Prelude.{ℕ, zero, suc, ◌+◌, ◌≤◌, Bool, true, cond, ◌==◌, length, take, filter, List, [], Option, Some, None, is_some, slice_get, slice_index_or}
+use Rattle.std.specs.Prelude.{ℕ, zero, suc, ◌+◌, ◌≤◌, cond, ◌==◌, take, filter, List, [], Option, Some, None, is_some, slice_index_or}
+use Rattle.std.specs.Option.{option_map}
 use Rattle.std.specs.List.{filter_map}
+use Rattle.tx_core.specs.declared.tx.Record.{Record}
 use Rattle.dc_talk.specs.declared.ask.Ask.{Ask}
 use Rattle.dc_talk.specs.declared.say.Say.{Say}
 use Rattle.dc_talk.specs.declared.log.Fate.{Fate}
@@ -8,27 +10,38 @@ use Rattle.dc_talk.specs.declared.log.Fate.TheVariants.{AskLost, ReplyLost, Hear
 use Rattle.dc_talk.specs.declared.log.Deed.{Deed}
 use Rattle.dc_talk.specs.declared.log.Deed.TheVariants.{Asked}
 use Rattle.dc_talk.specs.declared.log.Note.{Note}
-use Rattle.dc_talk.specs.declared.trail.Entry.{Entry}
+use Rattle.dc_talk.specs.Entries.{Entry}
 use Rattle.dc_talk.specs.Logs.{Logged}
+use Rattle.dc_talk.specs.Trails.{applied}
 use Rattle.run_book.specs.declared.book.Book.{Book}
+use Rattle.run_book.specs.Setups.{Setup}
 
 -- the trail of centre i, and no entries for a number that is no centre's
 abbrev pub trail_of : Book → ℕ → List Entry
 trail_of b zero = []
 trail_of b (suc i) = slice_index_or b.trails i []
 
--- the log of nobody
-abbrev pub no_log : Logged
-no_log = record { actor = 0; section = 0; step = 0; notes = [] }
+-- the records that centre i has applied by the first p entries of its trail
+abbrev pub applied_at : Book → ℕ → ℕ → List Record
+applied_at b i p = applied b.n (take p (trail_of b i))
 
--- the log of actor a
+-- a log without notes
+abbrev pub idle_log : ℕ → Logged
+idle_log actor = record { actor = actor; section = 0; step = 0; notes = [] }
+
+-- the log of actor a, and one without notes for a number that is no actor's
 abbrev pub log_of : Book → ℕ → Logged
-log_of b zero = no_log
-log_of b (suc a) = slice_index_or b.logs a no_log
+log_of b zero = idle_log 0
+log_of b (suc a) = slice_index_or b.logs a (idle_log 0)
 
 -- the notes of actor a
 abbrev pub notes_of : Book → ℕ → List Note
 notes_of b a = (log_of b a).notes
+
+-- actor a is one of the clients
+pub record IsClient (setup : Setup) (a : ℕ) : Type 0 where
+  pub low : 2 ≤ a
+  pub high : a ≤ setup.clients + 1
 
 -- what the centre answered, where the ask reached it
 abbrev pub answered : Fate → Option Say
@@ -37,14 +50,9 @@ answered (ReplyLost say) = Some say
 answered (Heard say) = Some say
 answered (Unheard say) = Some say
 
--- an ask with its answer, where it went to the centre and reached it
-abbrev pub exchange : Bool → Ask → Option Say → Option (Ask × Say)
-exchange true ask (Some say) = Some (ask, say)
-exchange _ ask _ = None
-
--- what a deed exchanged with centre i
+-- what a deed exchanged with centre i: the ask and the answer, where the ask went there and reached it
 abbrev pub exchanged_in : ℕ → Deed → Option (Ask × Say)
-exchanged_in i (Asked j ask fate) = exchange (j == i) ask (answered fate)
+exchanged_in i (Asked j ask fate) = cond (j == i) (option_map (λ say. (ask, say)) (answered fate)) None
 exchanged_in i _ = None
 
 -- what the notes exchanged with centre i, in order
@@ -55,20 +63,6 @@ exchanged i notes = filter_map (λ note. exchanged_in i note.deed) notes
 abbrev pub reached : ℕ → List Note → List Note
 reached i notes = filter (λ note. is_some (exchanged_in i note.deed)) notes
 
--- what an entry of caller a exchanged
-abbrev pub entry_by : ℕ → Entry → Option (Ask × Say)
-entry_by a entry = cond (entry.caller == a) (Some (entry.ask, entry.say)) None
-
 -- what the entries of caller a in a trail exchanged, in order
 abbrev pub entries_by : ℕ → List Entry → List (Ask × Say)
-entries_by a trail = filter_map (entry_by a) trail
-
--- the note of an entry at place p of trail i: as many asks of its caller reached the centre before it
--- as the caller has entries before p
-abbrev pub note_of : Book → ℕ → ℕ → Entry → Option Note
-note_of b i p entry = slice_get (reached i (notes_of b entry.caller)) (length (entries_by entry.caller (take p (trail_of b i))))
-
--- actor a is one of the clients, of whom there are so many
-pub record IsClient (clients a : ℕ) : Type 0 where
-  pub low : 2 ≤ a
-  pub high : a ≤ clients + 1
+entries_by a trail = filter_map (λ entry. cond (entry.caller == a) (Some (entry.ask, entry.say)) None) trail

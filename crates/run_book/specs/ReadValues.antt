@@ -1,16 +1,13 @@
 -- Which notes are reads with a value, and what the value has to be.
 use Rattle.std.specs.Prelude.{ℕ, Option, Some, None, slice_get}
 use Rattle.ids_core.specs.declared.object.ObjectId.{ObjectId}
-use Rattle.tx_core.specs.declared.state.Value.{Value}
-use Rattle.dc_talk.specs.declared.session.Call.TheVariants.{Read}
-use Rattle.dc_talk.specs.declared.session.Outcome.TheVariants.{Got}
+use Rattle.dc_talk.specs.declared.calls.Call.TheVariants.{Read}
+use Rattle.dc_talk.specs.declared.calls.Outcome.TheVariants.{Got}
 use Rattle.dc_talk.specs.declared.log.Deed.{Deed}
 use Rattle.dc_talk.specs.declared.log.Deed.TheVariants.{Did}
 use Rattle.dc_talk.specs.declared.log.Note.{Note}
 use Rattle.run_book.specs.declared.book.Book.{Book}
 use Rattle.run_book.specs.Parts.{notes_of}
-use Rattle.tx_graph.specs.Values.{IsValueOver}
-use Rattle.run_book.specs.Graphs.{graph, basis_at, client_at, open_node}
 
 -- the object that a deed read, where it got a value
 abbrev pub read_in : Deed → Option ObjectId
@@ -25,7 +22,3 @@ read_of (Some note) = read_in note.deed
 -- the object that actor a read at note m, where it got a value
 abbrev pub object_read : Book → ℕ → ℕ → Option ObjectId
 object_read b a m = read_of (slice_get (notes_of b a) m)
-
--- the value is that of the object over the basis of note m of actor a and the updates that were open then
-abbrev pub IsValueAt : Book → ℕ → ℕ → ℕ → ℕ → ObjectId → Value → Type 0
-IsValueAt b clients capacity a m o value = IsValueOver (graph b clients capacity) (basis_at b capacity a m) (open_node b (client_at b capacity a m)) o value

@@ -2,9 +2,9 @@
 use Rattle.std.specs.Prelude.{◌≡◌, ◌≤◌}
 use Rattle.std.specs.Option.{option_map}
 use Rattle.dc_talk.specs.Clients.{Client}
-use Rattle.dc_talk.specs.Calls.{most_rank}
 use Rattle.run_book.specs.declared.replay.Replay.{Replay}
 use Rattle.run_book.specs.Edits.{edits_of}
+use Rattle.ids_core.specs.declared.limits.TheConstants.{MOST_NUMBER}
 
 -- the replay shows the client: its snapshot, its numbers, the centre that it is connected to, and what
 -- its open transaction was asked for
@@ -19,5 +19,5 @@ pub record Shows (r : Replay) (s : Client) : Type 0 where
 
 -- neither the number of the client's commits nor its clock passes the greatest rank
 pub record IsInRange (s : Client) : Type 0 where
-  pub own : s.own ≤ most_rank
-  pub clock : s.clock ≤ most_rank
+  pub own : s.own ≤ MOST_NUMBER
+  pub clock : s.clock ≤ MOST_NUMBER

@@ -5,14 +5,15 @@ use Rattle.dc_talk.specs.declared.log.Fate.TheVariants.{Heard}
 use Rattle.dc_talk.specs.declared.log.Deed.{Deed}
 use Rattle.dc_talk.specs.declared.log.Deed.TheVariants.{Asked}
 use Rattle.dc_talk.specs.declared.log.Note.{Note}
-use Rattle.dc_talk.specs.declared.trail.Entry.{Entry}
-use Rattle.dc_talk.specs.Logs.{Logged, Ascend}
+use Rattle.dc_talk.specs.Entries.{Entry}
+use Rattle.dc_talk.specs.Logs.{Ascend, entry_of}
 use Rattle.dc_talk.specs.Answers.{History}
 use Rattle.dc_talk.specs.Clients.{new_client}
 use Rattle.dc_talk.specs.Rule.{Follows}
 use Rattle.script_text.specs.declared.steps.Step.{Step}
 use Rattle.script_text.specs.Steps.{IsCount, IsStepOf}
 use Rattle.run_book.specs.declared.book.Book.{Book}
+use Rattle.run_book.specs.Setups.{Setup}
 use Rattle.run_book.specs.Parts.{log_of, notes_of}
 use Rattle.run_book.specs.Scripted.{Plays, placed_from}
 
@@ -32,11 +33,6 @@ notes_by a all = filter_map (note_by a) all
 -- the notes of all actors, in order
 abbrev pub all_notes : List Happened → List Note
 all_notes all = map (λ h. h.note) all
-
--- the entry that a deed of an actor made in the trail of the only centre
-abbrev pub entry_of : ℕ → Deed → Option Entry
-entry_of actor (Asked i ask (Heard say)) = Some (record { caller = actor; ask = ask; say = say })
-entry_of actor _ = None
 
 abbrev pub entry_in : Happened → Option Entry
 entry_in h = entry_of h.actor h.note.deed
@@ -62,18 +58,14 @@ pub record IsOfStep (steps : List Step) (h : Happened) : Type 0 where
   pub first : h.note.step ≡ 1
   pub near : IsNear h.note.deed
 
--- this happened, in this order, as so many clients took these steps beside one centre
-pub record AreTogether (clients limit capacity : ℕ) (steps : List Step) (all : List Happened) : Type 0 where
-  pub history : History 1 1 1 limit (entries_in all)
-  pub within : All (IsStepOf clients) steps
+-- this happened, in this order, as the clients of a setup took these steps beside one centre
+pub record AreTogether (setup : Setup) (steps : List Step) (all : List Happened) : Type 0 where
+  pub history : History (record { me = 1; n = 1; k = 1; limit = setup.limit }) (entries_in all)
+  pub within : All (IsStepOf setup.clients) steps
   pub of_steps : All (IsOfStep steps) all
   pub ascend : Ascend 1 (length steps) (all_notes all)
-  pub follows : (client : ℕ) → IsCount clients client → Follows 1 client capacity (notes_by (client + 1) all)
-  pub plays : (client : ℕ) → IsCount clients client → Plays (new_client 1 client capacity) (placed_from client 1 steps) (notes_by (client + 1) all)
-
--- a log without notes
-abbrev pub idle_log : ℕ → Logged
-idle_log actor = record { actor = actor; section = 0; step = 0; notes = [] }
+  pub follows : (client : ℕ) → IsCount setup.clients client → Follows 1 client setup.capacity (notes_by (client + 1) all)
+  pub plays : (client : ℕ) → IsCount setup.clients client → Plays (new_client 1 client setup.capacity) (placed_from client 1 steps) (notes_by (client + 1) all)
 
 -- the book of one centre and so many clients, where this happened: the logs are those of the
 -- operator, the clients and the centre's four workers

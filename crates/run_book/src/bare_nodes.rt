@@ -2,6 +2,7 @@
 ghost use Rattle.std.specs.Prelude.{◌≡◌, ◌+◌, ◌-◌, ◌++◌, ℕ, length, map, OnOk, IfOk};
 ghost use Rattle.dc_talk.specs.Clients.{Client};
 ghost use Rattle.dc_talk.specs.Rule.{commit_in, commits_of};
+ghost use Rattle.run_book.specs.Setups.{Setup};
 ghost use Rattle.run_book.specs.Parts.{log_of, notes_of, IsClient};
 ghost use Rattle.run_book.specs.Fit.{FitsWith};
 ghost use Rattle.run_book.specs.Graphs.{node_of, graph, open_node};
@@ -31,7 +32,7 @@ impl Book {
     /// The graph of the transactions that the clients committed, client by client, each in the order of
     /// its log. Of a book that does not fit nothing is said.
     pub fn nodes(&self, alloc: Global) -> Result<Vec<BareNode>, NoMemory>
-        ensures { IfOk result (λ nodes. (clients limit capacity : ℕ) → FitsWith self.now clients limit capacity → nodes.items ≡ map bare_node (graph self.now clients capacity)) }
+        ensures { IfOk result (λ nodes. (setup : Setup) → FitsWith self.now setup → nodes.items ≡ map bare_node (graph self.now setup)) }
     {
         let mut nodes = Vec::new(alloc);
         // Behind the clients' logs there are those of four workers for each centre.
@@ -53,8 +54,8 @@ impl Book {
         client: usize,
         nodes: &mut Vec<BareNode>,
     ) -> Result<(), NoMemory>
-        ensures { OnOk result ((clients limit capacity : ℕ) → FitsWith self.now clients limit capacity → IsClient clients (client + 1) →
-            nodes.new.items ≡ nodes.old.items ++ map bare_node (map (node_of self.now) (commits_of self.now.n client capacity (notes_of self.now (client + 1))))) }
+        ensures { OnOk result ((setup : Setup) → FitsWith self.now setup → IsClient setup (client + 1) →
+            nodes.new.items ≡ nodes.old.items ++ map bare_node (map (node_of self.now) (commits_of self.now.n client setup.capacity (notes_of self.now (client + 1))))) }
     {
         match self.logs.as_slice().get(client) {
             None => Ok(()),
@@ -64,8 +65,8 @@ impl Book {
 
     // Puts the nodes of a client's log at the end.
     fn push_log(&self, alloc: Global, log: &Log, nodes: &mut Vec<BareNode>) -> Result<(), NoMemory>
-        ensures { OnOk result ((a clients limit capacity : ℕ) → FitsWith self.now clients limit capacity → IsClient clients a → log.now ≡ log_of self.now a →
-            nodes.new.items ≡ nodes.old.items ++ map bare_node (map (node_of self.now) (commits_of self.now.n (a - 1) capacity (notes_of self.now a)))) }
+        ensures { OnOk result ((a : ℕ) (setup : Setup) → FitsWith self.now setup → IsClient setup a → log.now ≡ log_of self.now a →
+            nodes.new.items ≡ nodes.old.items ++ map bare_node (map (node_of self.now) (commits_of self.now.n (a - 1) setup.capacity (notes_of self.now a)))) }
     {
         let mut replay = self.first_replay(log);
         let notes = log.as_slice();
@@ -84,7 +85,7 @@ impl Book {
         deed: &Deed,
         nodes: &mut Vec<BareNode>,
     ) -> Result<(), NoMemory>
-        ensures { OnOk result ((clients limit capacity : ℕ) (s : Client) → FitsWith self.now clients limit capacity → Shows replay.now s → IsInRange s → length s.vector ≡ self.now.n →
+        ensures { OnOk result ((setup : Setup) (s : Client) → FitsWith self.now setup → Shows replay.now s → IsInRange s → length s.vector ≡ self.now.n →
             nodes.new.items ≡ nodes.old.items ++ map bare_node (map (node_of self.now) (commit_in s deed.now))) }
     {
         if is_commit(deed) {
@@ -95,7 +96,7 @@ impl Book {
 
     /// The node of the open transaction, behind all that the client stands on.
     pub(crate) fn next_node(&self, alloc: Global, replay: &Replay) -> Result<BareNode, NoMemory>
-        ensures { IfOk result (λ node. (clients limit capacity : ℕ) (s : Client) → FitsWith self.now clients limit capacity → Shows replay.now s → IsInRange s → length s.vector ≡ self.now.n →
+        ensures { IfOk result (λ node. (setup : Setup) (s : Client) → FitsWith self.now setup → Shows replay.now s → IsInRange s → length s.vector ≡ self.now.n →
             node ≡ bare_node (open_node self.now s)) }
     {
         Ok(BareNode {

@@ -4,6 +4,7 @@ ghost use Rattle.std.specs.List.Sorted.{IsStrictlySortedBy};
 ghost use Rattle.list_core.specs.Members.{In};
 ghost use Rattle.ids_core.specs.declared.ids.Dot.{Dot};
 ghost use Rattle.ids_core.specs.Orders.{dot_cmp};
+ghost use Rattle.run_book.specs.Setups.{Setup};
 ghost use Rattle.run_book.specs.Parts.{trail_of, log_of, IsClient};
 ghost use Rattle.run_book.specs.Fit.{FitsWith};
 ghost use Rattle.run_book.specs.Graphs.{basis_at, client_at};
@@ -25,8 +26,8 @@ impl Book {
     pub fn basis(&self, alloc: Global, log: usize, note: usize) -> Result<Vec<Dot>, NoMemory>
         ensures absent { length self.now.logs ≤ log → IfOk result (λ dots. dots.items ≡ []) }
         ensures ascending { IfOk result (λ dots. IsStrictlySortedBy dot_cmp dots.items) }
-        ensures members { IfOk result (λ dots. (clients limit capacity : ℕ) → FitsWith self.now clients limit capacity → IsClient clients (log + 1) →
-            (d : Dot) → In d dots.items ↔ In d (basis_at self.now capacity (log + 1) note)) }
+        ensures members { IfOk result (λ dots. (setup : Setup) → FitsWith self.now setup → IsClient setup (log + 1) →
+            (d : Dot) → In d dots.items ↔ In d (basis_at self.now setup (log + 1) note)) }
     {
         match self.logs.as_slice().get(log) {
             None => Ok(Vec::new(alloc)),
@@ -41,7 +42,7 @@ impl Book {
 
     /// The client of a log before its first note.
     pub(crate) fn first_replay(&self, log: &Log) -> Replay
-        ensures { (a clients limit capacity : ℕ) → FitsWith self.now clients limit capacity → IsClient clients a → log.now ≡ log_of self.now a → Shows result (client_at self.now capacity a 0) }
+        ensures { (a : ℕ) (setup : Setup) → FitsWith self.now setup → IsClient setup a → log.now ≡ log_of self.now a → Shows result (client_at self.now setup a 0) }
     {
         // A vector has 1 to 8 entries, and a book that fits as many centres.
         Replay::new(self.n.clamp(1, 8), log.actor().saturating_sub(1))
@@ -49,8 +50,8 @@ impl Book {
 
     /// The client of a log after its first notes, of all where there are fewer.
     pub(crate) fn replay(&self, alloc: Global, log: &Log, many: usize) -> Result<Replay, NoMemory>
-        ensures { IfOk result (λ replay. (a clients limit capacity : ℕ) → FitsWith self.now clients limit capacity → IsClient clients a → log.now ≡ log_of self.now a →
-            Shows replay (client_at self.now capacity a many)) }
+        ensures { IfOk result (λ replay. (a : ℕ) (setup : Setup) → FitsWith self.now setup → IsClient setup a → log.now ≡ log_of self.now a →
+            Shows replay (client_at self.now setup a many)) }
     {
         let mut replay = self.first_replay(log);
         let notes = first_notes(log, many);

@@ -2,8 +2,11 @@
 ghost use Rattle.std.specs.Prelude.{◌≡◌, [], ◌∷◌, ◌++◌, OnOk, OnErr};
 ghost use Rattle.run_book.specs.Books.{entries_of};
 
-use dc_talk::{Log, Trail};
+use dc_centre::Centre;
+use dc_talk::Log;
+use hist_lock::Trail;
 use ids_core::NoMemory;
+use list_core::List;
 use std::alloc::Global;
 use std::marker::Model;
 
@@ -11,12 +14,12 @@ use std::marker::Model;
 /// entries.
 #[derive(Drop)]
 pub struct Trails {
-    items: Vec<Trail>,
+    items: Vec<Trail<Centre>>,
 }
 
 impl Model for Trails {
     ghost use Rattle.std.specs.Prelude.{List};
-    ghost use Rattle.dc_talk.specs.declared.trail.Entry.{Entry};
+    ghost use Rattle.dc_talk.specs.Entries.{Entry};
     ghost use Rattle.run_book.specs.Books.{entries_of};
     ghost use Rattle.std.specs.Coded.{codes};
     ghost use Rattle.obj_set.specs.Sets.{set_code};
@@ -29,25 +32,8 @@ impl Model for Trails {
     ghost view = { λ t. entries_of t.items.items };
 }
 
-/// The logs of the actors, the one of actor 1 first, seen as their list.
-#[derive(Drop)]
-pub struct Logs {
-    items: Vec<Log>,
-}
-
-impl Model for Logs {
-    ghost use Rattle.std.specs.Prelude.{List};
-    ghost use Rattle.dc_talk.specs.Logs.{Logged};
-    ghost use Rattle.std.specs.Coded.{codes};
-    ghost use Rattle.obj_set.specs.Sets.{set_code};
-    ghost use Rattle.obj_map.specs.Maps.{map_code};
-
-    ghost Value = { List Logged };
-
-    ghost coded = { Prim.hlevel (codes, set_code, map_code) };
-
-    ghost view = { λ l. l.items.items };
-}
+/// The logs of the actors, the one of actor 1 first.
+pub type Logs = List<Log>;
 
 /// What a run leaves: trail I is the one of centre I, and the J-th log is the one of actor J. Actor
 /// 1 is the operator, the clients are the actors behind it, and the workers those behind the
@@ -87,7 +73,7 @@ impl Trails {
     }
 
     /// The trails of a vector.
-    pub fn from_vec(items: Vec<Trail>) -> Self
+    pub fn from_vec(items: Vec<Trail<Centre>>) -> Self
         ensures { result ≡ entries_of items.items }
     {
         Trails { items }
@@ -95,7 +81,7 @@ impl Trails {
 
     /// Puts the trail of one more centre at the end. An `Err` leaves the trails as they were, and
     /// drops that one.
-    pub fn push(&mut self, trail: Trail) -> Result<(), NoMemory>
+    pub fn push(&mut self, trail: Trail<Centre>) -> Result<(), NoMemory>
         ensures ok { OnOk result (self.new ≡ self.old ++ trail.entries ∷ []) }
         ensures err { OnErr result (self.new ≡ self.old) }
     {
@@ -104,43 +90,8 @@ impl Trails {
     }
 
     /// The trails in the order of the centres.
-    pub fn as_slice(&self) -> &[Trail]
+    pub fn as_slice(&self) -> &[Trail<Centre>]
         ensures { entries_of result.now ≡ self.now }
-    {
-        self.items.as_slice()
-    }
-}
-
-impl Logs {
-    /// No logs.
-    pub fn new(alloc: Global) -> Self
-        ensures { result ≡ [] }
-    {
-        Logs {
-            items: Vec::new(alloc),
-        }
-    }
-
-    /// The logs of a vector.
-    pub fn from_vec(items: Vec<Log>) -> Self
-        ensures { result ≡ items.items }
-    {
-        Logs { items }
-    }
-
-    /// Puts the log of one more actor at the end. An `Err` leaves the logs as they were, and drops
-    /// that one.
-    pub fn push(&mut self, log: Log) -> Result<(), NoMemory>
-        ensures ok { OnOk result (self.new ≡ self.old ++ log ∷ []) }
-        ensures err { OnErr result (self.new ≡ self.old) }
-    {
-        self.items.push(log)?;
-        Ok(())
-    }
-
-    /// The logs in the order of the actors.
-    pub fn as_slice(&self) -> &[Log]
-        ensures { result.now ≡ self.now }
     {
         self.items.as_slice()
     }

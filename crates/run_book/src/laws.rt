@@ -8,17 +8,17 @@ ghost use Rattle.tx_core.specs.declared.tx.Record.{Record};
 ghost use Rattle.tx_core.specs.declared.state.State.{State};
 ghost use Rattle.tx_core.specs.Checks.{IsFit};
 ghost use Rattle.dc_talk.specs.declared.ask.Ask.TheVariants.{Hello, Refresh, Fetch, Commit, Deliver, Learn};
-ghost use Rattle.dc_talk.specs.declared.say.Say.{Say};
 ghost use Rattle.dc_talk.specs.declared.say.Say.TheVariants.{Misfit, Orphan, Object};
-ghost use Rattle.dc_talk.specs.declared.session.Link.{Link};
+ghost use Rattle.dc_talk.specs.declared.calls.Connection.{Connection};
 ghost use Rattle.dc_talk.specs.declared.log.Note.{Note};
-ghost use Rattle.dc_talk.specs.declared.trail.Entry.{Entry};
+ghost use Rattle.dc_talk.specs.Entries.{Entry};
 ghost use Rattle.dc_talk.specs.Rule.{takes, client_after, commits_of, Follows};
+ghost use Rattle.run_book.specs.Setups.{Setup};
 ghost use Rattle.run_book.specs.Parts.{notes_of, IsClient};
 ghost use Rattle.run_book.specs.Fit.{FitsWith};
-ghost use Rattle.run_book.specs.Graphs.{client_at};
-ghost use Rattle.run_book.specs.Causal.{commits_at, IsCausal};
-ghost use Rattle.run_book.specs.Refusals.{IsEntry, Makes, IsPushAnswer, IsNoRefusal, IsReached};
+ghost use Rattle.run_book.specs.Graphs.{client_at, commits_at};
+ghost use Rattle.run_book.specs.Causal.{IsCausal};
+ghost use Rattle.run_book.specs.Refusals.{IsEntry, Exchange, Makes, IsPushAnswer, IsNoRefusal, IsReached};
 ghost use Rattle.run_book.specs.Laws.{HasSoundVectors, HasOneList, HasClosedBases, KeepsSessions, HasKnownBases, HasValues, Agrees, TakesSnapshots};
 ghost use Rattle.run_book.specs.Numbers.{HasNumbers};
 
@@ -38,41 +38,41 @@ pub fn law_numbers()
 /// Where the book fits, its vectors are sound at each moment: none covers more than there is, and each
 /// covers what it covers depends on.
 pub fn law_sound(book: &Book)
-    ensures { (clients limit capacity : ℕ) → FitsWith book.now clients limit capacity → HasSoundVectors book.now clients capacity }
+    ensures { (setup : Setup) → FitsWith book.now setup → HasSoundVectors book.now setup }
 {}
 
 /// Where the book fits, all centres have one list of each centre's records, and records of one dot carry
 /// one transaction.
 pub fn law_one_list(book: &Book)
-    ensures { (clients limit capacity : ℕ) → FitsWith book.now clients limit capacity → HasOneList book.now }
+    ensures { (setup : Setup) → FitsWith book.now setup → HasOneList book.now }
 {}
 
 /// Where the book fits, its graph is well made, and each read stands on a causally closed set.
 pub fn law_closed(book: &Book)
-    ensures { (clients limit capacity : ℕ) → FitsWith book.now clients limit capacity → HasClosedBases book.now clients capacity }
+    ensures { (setup : Setup) → FitsWith book.now setup → HasClosedBases book.now setup }
 {}
 
 /// Where the book fits, the basis of a read holds those of the session's earlier reads and all that the
 /// session committed by then.
 pub fn law_session(book: &Book)
-    ensures { (clients limit capacity : ℕ) → FitsWith book.now clients limit capacity → KeepsSessions book.now clients capacity }
+    ensures { (setup : Setup) → FitsWith book.now setup → KeepsSessions book.now setup }
 {}
 
 /// Where the book fits, what a read stands on, and is not the session's own, was known to K centres at a
 /// snapshot that the session heard before.
 pub fn law_known(book: &Book)
-    ensures { (clients limit capacity : ℕ) → FitsWith book.now clients limit capacity → HasKnownBases book.now clients capacity }
+    ensures { (setup : Setup) → FitsWith book.now setup → HasKnownBases book.now setup }
 {}
 
 /// Where the book fits, each value that was read is that of its object over the basis of the read and the
 /// open updates, by which update sees which (Shapiro and others, INRIA RR-7506).
 pub fn law_value(book: &Book)
-    ensures { (clients limit capacity : ℕ) → FitsWith book.now clients limit capacity → HasValues book.now clients capacity }
+    ensures { (setup : Setup) → FitsWith book.now setup → HasValues book.now setup }
 {}
 
 /// Where the book fits, two reads of an object over equal bases, with nothing open, give one value.
 pub fn law_agree(book: &Book)
-    ensures { (clients limit capacity : ℕ) → FitsWith book.now clients limit capacity → Agrees book.now clients capacity }
+    ensures { (setup : Setup) → FitsWith book.now setup → Agrees book.now setup }
 {}
 
 /// Where the book fits, what is delivered and what is learned is taken for what it is: none is a misfit,
@@ -82,21 +82,21 @@ pub fn law_agree(book: &Book)
 /// centre; a refresh and a fetch neither with a misfit nor for what is lacking; a hello not with a misfit.
 /// A state is always taken, and a snapshot where it has no more of the session's commits than it had made.
 pub fn law_refusals(book: &Book)
-    ensures orphan { (clients limit capacity i number have : ℕ) (entry : Entry) → FitsWith book.now clients limit capacity → IsEntry book.now i entry → entry.say ≢ Orphan number have }
-    ensures deliver { (clients limit capacity i : ℕ) (entry : Entry) (item : Record) → FitsWith book.now clients limit capacity → IsEntry book.now i entry → entry.ask ≡ Deliver item → entry.say ≢ Misfit }
-    ensures learn { (clients limit capacity i from : ℕ) (entry : Entry) (news : List ℕ) → FitsWith book.now clients limit capacity → IsEntry book.now i entry → entry.ask ≡ Learn from news → entry.say ≢ Misfit }
-    ensures fit { (clients limit capacity a m : ℕ) (tx : Tx) → FitsWith book.now clients limit capacity → IsClient clients a → In tx (commits_at book.now capacity a m) → IsFit book.now.n tx }
-    ensures linked { (clients limit capacity a m : ℕ) (link : Link) → FitsWith book.now clients limit capacity → IsClient clients a → (client_at book.now capacity a m).link ≡ Some link → IsReached book.now a (take m (notes_of book.now a)) (client_at book.now capacity a m).vector link }
-    ensures push { (clients limit capacity a m i : ℕ) (tx : Tx) (say : Say) → FitsWith book.now clients limit capacity → Makes book.now clients capacity a m i (Commit tx) say → IsPushAnswer say }
-    ensures refresh { (clients limit capacity a m i client : ℕ) (here : List ℕ) (say : Say) → FitsWith book.now clients limit capacity → Makes book.now clients capacity a m i (Refresh client here) say → IsNoRefusal say }
-    ensures fetch { (clients limit capacity a m i : ℕ) (o : ObjectId) (here : List ℕ) (say : Say) → FitsWith book.now clients limit capacity → Makes book.now clients capacity a m i (Fetch o here) say → IsNoRefusal say }
-    ensures hello { (clients limit capacity a m i client : ℕ) (need : List ℕ) (say : Say) → FitsWith book.now clients limit capacity → Makes book.now clients capacity a m i (Hello client need) say → say ≢ Misfit }
-    ensures object { (clients limit capacity a m i : ℕ) (o : ObjectId) (here : List ℕ) (state : State) → FitsWith book.now clients limit capacity → Makes book.now clients capacity a m i (Fetch o here) (Object state) → takes (client_at book.now capacity a m) i (Fetch o here) (Object state) ≡ true }
-    ensures snap { (clients limit capacity : ℕ) → FitsWith book.now clients limit capacity → TakesSnapshots book.now clients capacity }
+    ensures orphan { (setup : Setup) (i number have : ℕ) (entry : Entry) → FitsWith book.now setup → IsEntry book.now i entry → entry.say ≢ Orphan number have }
+    ensures deliver { (setup : Setup) (i : ℕ) (entry : Entry) (item : Record) → FitsWith book.now setup → IsEntry book.now i entry → entry.ask ≡ Deliver item → entry.say ≢ Misfit }
+    ensures learn { (setup : Setup) (i from : ℕ) (entry : Entry) (news : List ℕ) → FitsWith book.now setup → IsEntry book.now i entry → entry.ask ≡ Learn from news → entry.say ≢ Misfit }
+    ensures fit { (setup : Setup) (a m : ℕ) (tx : Tx) → FitsWith book.now setup → IsClient setup a → In tx (commits_at book.now setup a m) → IsFit book.now.n tx }
+    ensures linked { (setup : Setup) (a m : ℕ) (link : Connection) → FitsWith book.now setup → IsClient setup a → (client_at book.now setup a m).link ≡ Some link → IsReached book.now a (take m (notes_of book.now a)) (client_at book.now setup a m).vector link }
+    ensures push { (setup : Setup) (x : Exchange) (tx : Tx) → FitsWith book.now setup → Makes book.now setup x → x.ask ≡ Commit tx → IsPushAnswer x.answer }
+    ensures refresh { (setup : Setup) (x : Exchange) (client : ℕ) (here : List ℕ) → FitsWith book.now setup → Makes book.now setup x → x.ask ≡ Refresh client here → IsNoRefusal x.answer }
+    ensures fetch { (setup : Setup) (x : Exchange) (o : ObjectId) (here : List ℕ) → FitsWith book.now setup → Makes book.now setup x → x.ask ≡ Fetch o here → IsNoRefusal x.answer }
+    ensures hello { (setup : Setup) (x : Exchange) (client : ℕ) (need : List ℕ) → FitsWith book.now setup → Makes book.now setup x → x.ask ≡ Hello client need → x.answer ≢ Misfit }
+    ensures object { (setup : Setup) (x : Exchange) (o : ObjectId) (here : List ℕ) (state : State) → FitsWith book.now setup → Makes book.now setup x → x.ask ≡ Fetch o here → x.answer ≡ Object state → takes (client_at book.now setup x.actor x.place) x.centre x.ask x.answer ≡ true }
+    ensures snap { (setup : Setup) → FitsWith book.now setup → TakesSnapshots book.now setup }
 {}
 
 /// A book that fits is causal (Zawirski and others, Middleware 2015). Asks and answers may be lost, and
 /// copies of commits may come late.
 pub fn law_causal(book: &Book)
-    ensures { (clients limit capacity : ℕ) → FitsWith book.now clients limit capacity → IsCausal book.now clients capacity }
+    ensures { (setup : Setup) → FitsWith book.now setup → IsCausal book.now setup }
 {}

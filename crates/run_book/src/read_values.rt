@@ -1,15 +1,13 @@
 // The values of objects over sets of transactions, and at reads.
-ghost use Rattle.std.specs.Prelude.{◌≡◌, ◌+◌, ◌↔◌, ℕ, [], None, slice_get, IfOk, IfSome, IsNone};
-ghost use Rattle.ids_core.specs.declared.object.ObjectId.{ObjectId};
-ghost use Rattle.tx_core.specs.declared.state.Value.{Value};
-ghost use Rattle.tx_graph.specs.Nodes.{Node};
+ghost use Rattle.std.specs.Prelude.{◌≡◌, ◌+◌, ◌↔◌, ℕ, None, slice_get, IfOk, IfSome, IsNone};
+ghost use Rattle.run_book.specs.Setups.{Setup};
 ghost use Rattle.run_book.specs.Parts.{IsClient};
 ghost use Rattle.run_book.specs.Fit.{FitsWith};
 ghost use Rattle.tx_graph.specs.Values.{IsValueOver};
 ghost use Rattle.run_book.specs.Graphs.{graph, client_at, open_node};
-ghost use Rattle.run_book.specs.Causal.{Reads};
+ghost use Rattle.run_book.specs.Causal.{ValueRead, Reads, IsValueAt};
 ghost use Rattle.run_book.specs.BareNodes.{bare_node};
-ghost use Rattle.run_book.specs.ReadValues.{read_in, read_of, object_read, IsValueAt};
+ghost use Rattle.run_book.specs.ReadValues.{read_in, read_of, object_read};
 
 use crate::bare_nodes::BareNode;
 use crate::book::Book;
@@ -29,8 +27,7 @@ impl Book {
         object: &ObjectId,
         dots: &[Dot],
     ) -> Result<Value, NoMemory>
-        ensures { IfOk result (λ value. (clients limit capacity : ℕ) (last : Node) → FitsWith self.now clients limit capacity → last.updates ≡ [] →
-            IsValueOver (graph self.now clients capacity) dots.now last object.now value) }
+        ensures { IfOk result (λ value. (setup : Setup) → FitsWith self.now setup → IsValueOver (graph self.now setup) dots.now object.now value) }
     {
         let nodes = self.nodes(alloc)?;
         let acts = acts_over(alloc, &nodes, dots, object)?;
@@ -47,10 +44,10 @@ impl Book {
         note: usize,
     ) -> Result<Option<Value>, NoMemory>
         ensures none { IfOk result (λ found. IsNone found ↔ (object_read self.now (log + 1) note ≡ None)) }
-        ensures value { IfOk result (λ found. IfSome found (λ value. (clients limit capacity : ℕ) (o : ObjectId) (got : Value) → FitsWith self.now clients limit capacity → Reads self.now clients (log + 1) note o got →
-            IsValueAt self.now clients capacity (log + 1) note o value)) }
-        ensures same { IfOk result (λ found. IfSome found (λ value. (clients limit capacity : ℕ) (o : ObjectId) (got : Value) → FitsWith self.now clients limit capacity → Reads self.now clients (log + 1) note o got →
-            value ≡ got)) }
+        ensures value { IfOk result (λ found. IfSome found (λ value. (setup : Setup) (read : ValueRead) → FitsWith self.now setup → Reads self.now setup read → read.actor ≡ log + 1 → read.place ≡ note →
+            IsValueAt self.now setup (record read { value = value }))) }
+        ensures same { IfOk result (λ found. IfSome found (λ value. (setup : Setup) (read : ValueRead) → FitsWith self.now setup → Reads self.now setup read → read.actor ≡ log + 1 → read.place ≡ note →
+            value ≡ read.value)) }
     {
         match self.logs.as_slice().get(log) {
             None => Ok(None),
@@ -73,8 +70,8 @@ impl Book {
         object: &ObjectId,
         last: &BareNode,
     ) -> Result<Value, NoMemory>
-        ensures { IfOk result (λ value. (clients limit capacity a m : ℕ) → FitsWith self.now clients limit capacity → IsClient clients a → last.now ≡ bare_node (open_node self.now (client_at self.now capacity a m)) →
-            IsValueAt self.now clients capacity a m object.now value) }
+        ensures { IfOk result (λ value. (setup : Setup) (a m : ℕ) → FitsWith self.now setup → IsClient setup a → last.now ≡ bare_node (open_node self.now (client_at self.now setup a m)) →
+            IsValueAt self.now setup (record { actor = a; place = m; object = object.now; value = value })) }
     {
         let nodes = self.nodes(alloc)?;
         let mut acts = acts_over(alloc, &nodes, last.deps.as_slice(), object)?;

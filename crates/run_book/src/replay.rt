@@ -6,14 +6,11 @@ ghost use Rattle.dc_talk.specs.Rule.{is_linked, can_follow, heard, after};
 ghost use Rattle.run_book.specs.Edits.{edits_of};
 ghost use Rattle.run_book.specs.Replay.{Shows, IsInRange};
 
-use crate::edits::Edits;
+use crate::edits::{Edit, Edits};
 use dc_talk::{Ask, Call, Change, Deed, Fate, Outcome, Say};
-use ids_core::{NoMemory, ObjectId};
+use ids_core::{MOST_NUMBER, NoMemory, ObjectId};
 use std::alloc::Global;
 use vv_core::Vector;
-
-// The greatest rank.
-const MOST_RANK: u64 = 1 << 62;
 
 /// A client after some notes of its log: what its snapshot, its numbers and its open transaction depend
 /// on. It has no cache, since the log tells how each call ended.
@@ -75,7 +72,7 @@ impl Replay {
     {
         match &self.open {
             None => Ok(Edits::new(alloc)),
-            Some(edits) => edits.copy(),
+            Some(edits) => Ok(edits.copy()?),
         }
     }
 
@@ -115,14 +112,20 @@ impl Replay {
         ensures err { OnErr result (self.new ≡ self.old) }
     {
         match &mut self.open {
-            Some(edits) => edits.push(*object, *change),
+            Some(edits) => edits.push(Edit {
+                object: *object,
+                change: *change,
+            })?,
             None => {
                 let mut edits = Edits::new(alloc);
-                edits.push(*object, *change)?;
+                edits.push(Edit {
+                    object: *object,
+                    change: *change,
+                })?;
                 self.open = Some(edits);
-                Ok(())
             }
         }
+        Ok(())
     }
 
     // The client after a commit that ended so. No number of a book that fits passes 2^62.
@@ -195,7 +198,7 @@ impl Replay {
         self.open.is_none()
             && vector.width() == self.vector.width()
             && vector.covers(&self.vector)
-            && top <= MOST_RANK
+            && top <= MOST_NUMBER
             && self.mine <= mine
             && mine <= self.own
     }

@@ -1,6 +1,8 @@
 // Books of several centres, made by hand: a client's commit was stamped more than once, since an answer
 // was lost and a copy came late.
-use dc_talk::{Ask, Call, Change, Deed, Fate, Log, Outcome, Records, Refusal, Say, Trail};
+use dc_centre::Centre;
+use dc_talk::{Ask, Call, Change, Deed, Fate, Log, Outcome, Records, Refusal, Say};
+use hist_lock::Trail;
 use ids_core::{Dot, NoMemory, ObjectId};
 use run_book::{
     Book, law_agree, law_causal, law_closed, law_known, law_numbers, law_one_list, law_refusals,
@@ -20,7 +22,7 @@ const DOT: Dot = Dot {
 // The trails of the centres, and the logs of the operator and of client 1, as they grow.
 #[derive(Drop)]
 struct Hand {
-    trails: Vec<Trail>,
+    trails: Vec<Trail<Centre>>,
     operator: Log,
     client: Log,
 }

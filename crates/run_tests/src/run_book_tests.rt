@@ -1,6 +1,8 @@
 // Books, and what they can be asked for.
 use crate::world_core_tests::played;
-use dc_talk::{Log, Trail};
+use dc_centre::Centre;
+use dc_talk::Log;
+use hist_lock::Trail;
 use ids_core::{Dot, NoMemory};
 use run_book::{
     Book, Logs, Trails, law_agree, law_causal, law_closed, law_known, law_numbers, law_one_list,
@@ -30,7 +32,8 @@ fn take_laws(book: &Book) {
 fn fill(alloc: Global, book: &mut Book) -> Result<(), NoMemory> {
     book.trails.push(Trail::new(alloc))?;
     book.logs.push(Log::new(alloc, 1))?;
-    book.logs.push(Log::new(alloc, 2))
+    book.logs.push(Log::new(alloc, 2))?;
+    Ok(())
 }
 
 // How many trails a book has, and how many logs.

@@ -7,9 +7,7 @@ use world_core::{Run, play_steps};
 /// The run of a script.
 pub fn played(alloc: Global, text: &[u8]) -> Result<Run, Fail> {
     let script = parse(alloc, &Input::of(text.to_vec(alloc)?))?;
-    let cache = script.cache as usize;
-    let steps = script.steps.as_slice();
-    Ok(play_steps(alloc, script.clients, cache, script.limit, steps)?)
+    Ok(play_steps(alloc, &script)?)
 }
 
 #[test]

@@ -11,9 +11,9 @@ use Rattle.list_core.proofs.Members.{In_left, In_right, In_either}
 use Rattle.ids_core.specs.declared.ids.Mark.{Mark}
 use Rattle.ids_core.specs.Orders.{mark_cmp, mark_cmp_total}
 use Rattle.ids_core.proofs.Orders.{not_below_itself, at_most_through, at_most_from_below, at_most_from_not_below}
-use Rattle.tx_core.specs.declared.op.Op.{Op}
-use Rattle.tx_core.specs.declared.op.Op.TheVariants.{Inc, Write, Add, Remove, Put, Erase}
-use Rattle.tx_graph.specs.Values.{Act, Writes, IsLastWord}
+use Rattle.dc_talk.specs.declared.calls.Change.{Change}
+use Rattle.dc_talk.specs.declared.calls.Change.TheVariants.{Write}
+use Rattle.tx_graph.specs.Values.{Act, change_of, Writes, IsLastWord}
 use Rattle.tx_graph.specs.Unseen.{written, marked_write, IsLast, IsLastOf, is_later}
 use Rattle.list_core.proofs.Passing.{In_filter_map, In_from_filter_map}
 
@@ -72,29 +72,25 @@ last_more words i last new next within at is step =
 record IsWriteOf (acts : List Act) (write : Mark × List ℕ) : Type 0 where
   act : Act
   there : In act acts
-  writes : act.op ≡ Write write.1
+  writes : change_of act.op ≡ Write write.1
   mark : act.mark ≡ write.0
 
 -- a member of the marked writes is one of an act
 act_of_write : (acts : List Act) (write : Mark × List ℕ) → In write (filter_map marked_write acts) → IsWriteOf acts write
 act_of_write acts write i =
     let r = In_from_filter_map marked_write acts write i in
-    go r.0 r.1 r.0.op refl r.2
+    go r.0 r.1 (change_of r.0.op) refl r.2
   where
-    made : (act : Act) → In act acts → (word : List ℕ) → act.op ≡ Write word → (act.mark, word) ≡ write → IsWriteOf acts write
-    made act i word op is = record { act = act; there = i; writes = op ∙ ap Write (ap (λ w. w.1) is); mark = ap (λ w. w.0) is }
+    made : (act : Act) → In act acts → (word : List ℕ) → change_of act.op ≡ Write word → (act.mark, word) ≡ write → IsWriteOf acts write
+    made act i word writes is = record { act = act; there = i; writes = writes ∙ ap Write (ap (λ w. w.1) is); mark = ap (λ w. w.0) is }
 
-    go : (act : Act) → In act acts → (op : Op) → act.op ≡ op → option_map (λ word. (act.mark, word)) (written op) ≡ Some write → IsWriteOf acts write
-    go act i (Write word) op is = made act i word op (same_Some (act.mark, word) write is)
-    go act i (Inc delta) op is = absurd (none-some write is)
-    go act i (Add word over) op is = absurd (none-some write is)
-    go act i (Remove word over) op is = absurd (none-some write is)
-    go act i (Put key word over) op is = absurd (none-some write is)
-    go act i (Erase key over) op is = absurd (none-some write is)
+    go : (act : Act) → In act acts → (change : Change) → change_of act.op ≡ change → option_map (λ word. (act.mark, word)) (written change) ≡ Some write → IsWriteOf acts write
+    go act i (Write word) writes is = made act i word writes (same_Some (act.mark, word) write is)
+    go act i _ writes is = absurd (none-some write is)
 
 -- the write of an act is among them
-of_write : (acts : List Act) (act : Act) (word : List ℕ) → In act acts → act.op ≡ Write word → In (act.mark, word) (filter_map marked_write acts)
-of_write acts act word i is = In_filter_map marked_write acts act (act.mark, word) i (ap (λ op. option_map (λ word. (act.mark, word)) (written op)) is)
+of_write : (acts : List Act) (act : Act) (word : List ℕ) → In act acts → change_of act.op ≡ Write word → In (act.mark, word) (filter_map marked_write acts)
+of_write acts act word i is = In_filter_map marked_write acts act (act.mark, word) i (ap (λ change. option_map (λ word. (act.mark, word)) (written change)) is)
 
 -- the last of the writes is the value of the register
 pub last_word : (acts : List Act) (writes : List (Mark × List ℕ)) (last : Mark × List ℕ) → writes ≡ filter_map marked_write acts → IsLast writes last → IsLastWord acts last.1

@@ -1,4 +1,4 @@
-pub mod BareActs
+pub mod Deltas
 pub mod SameValues
 pub mod LastWords
 pub mod PairsOfPuts

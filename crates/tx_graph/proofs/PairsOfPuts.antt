@@ -14,7 +14,8 @@ use Rattle.list_core.proofs.Members.{In_either, In_map, In_from_map}
 use Rattle.ids_core.specs.declared.ids.Mark.{Mark}
 use Rattle.ids_core.specs.Orders.{mark_cmp, name_cmp}
 use Rattle.tx_graph.specs.declared.unseen.UnseenPut.{UnseenPut}
-use Rattle.tx_graph.specs.Values.{Act, put, IsUnseenPut, IsWordAt, IsMapOver}
+use Rattle.dc_talk.specs.declared.calls.Change.TheVariants.{Put}
+use Rattle.tx_graph.specs.Values.{Act, change_of, IsUnseenPut, IsWordAt, IsMapOver}
 use Rattle.tx_graph.specs.Acts.{HasUniqueMarks}
 use Rattle.tx_graph.specs.Unseen.{unseen_put, word_under, IsLast, ArePairsOf}
 use Rattle.list_core.proofs.Passing.{In_filter_map, In_from_filter_map}
@@ -85,17 +86,20 @@ module _ (acts : List Act) (unique : HasUniqueMarks acts) where
       let mark_is : a.act.mark ≡ mark = a.mark ∙ ap (λ w. w.0) u.is in
       record {
         act = a.act;
-        is = subst (λ key. IsUnseenPut acts key word a.act) u.key_is (subst (λ word. IsUnseenPut acts u.kept.key word a.act) (ap (λ w. w.1) u.is) a.is);
+        unseen = subst (λ key. IsUnseenPut acts key word a.act) u.key_is (subst (λ word. IsUnseenPut acts u.kept.key word a.act) (ap (λ w. w.1) u.is) a.unseen);
         above = λ other other_word v. ap (λ m. is_le (mark_cmp other.mark m)) mark_is ∙ last.above (other.mark, other_word) (is_under puts (kept_of acts other (key, other_word)) (of_put acts key other_word other v));
       }
+
+  -- equal puts are of one word
+  one_put : (key v w : List ℕ) → Put key v ≡ Put key w → v ≡ w
+  one_put key v w same = cc
 
   -- a key has one greatest put
   one_word : (key v w : List ℕ) → IsWordAt acts key v → IsWordAt acts key w → v ≡ w
   one_word key v w a b =
-      let marks = one_mark a.act.mark b.act.mark (b.above a.act v a.is) (a.above b.act w b.is) in
-      let same = unique.by a.act b.act a.is.there b.is.there marks in
-      let puts : Some (key, v) ≡ Some (key, w) = sym a.is.puts ∙ (ap (λ (act : Act). put act.op) same ∙ b.is.puts) in
-      ap (λ pair. pair.1) (same_Some (key, v) (key, w) puts)
+      let marks = one_mark a.act.mark b.act.mark (b.above a.act v a.unseen) (a.above b.act w b.unseen) in
+      let same = unique.one_act a.act b.act a.unseen.there b.unseen.there marks in
+      one_put key v w (sym a.unseen.puts ∙ (ap (λ (act : Act). change_of act.op) same ∙ b.unseen.puts))
 
   -- pairs of those keys, with the last words under them, are the value
   pub map_over : (keys : List (List ℕ)) (pairs : List (List ℕ × List ℕ)) → IsStrictlySortedBy name_cmp keys → ((key : List ℕ) → In key keys ↔ In key (map (λ (kept : UnseenPut). kept.key) puts)) → ArePairsOf puts keys pairs → IsMapOver acts pairs
@@ -106,7 +110,7 @@ module _ (acts : List Act) (unique : HasUniqueMarks acts) where
     where
       to : (key word : List ℕ) → IsWordAt acts key word → In (key, word) pairs
       to key word w =
-          let there = (same key).1 (In_map (λ (kept : UnseenPut). kept.key) puts (kept_of acts w.act (key, word)) (of_put acts key word w.act w.is)) in
+          let there = (same key).1 (In_map (λ (kept : UnseenPut). kept.key) puts (kept_of acts w.act (key, word)) (of_put acts key word w.act w.unseen)) in
           let p = In_from_map (λ (pair : List ℕ × List ℕ). pair.0) pairs key (subst (λ l. In key l) (sym are.keys_are) there) in
           let i : In (key, p.0.1) pairs = subst (λ key. In (key, p.0.1) pairs) (sym p.2) p.1 in
           let l = are.words key p.0.1 i in

@@ -1,9 +1,8 @@
 -- Acts that differ in what their operations are over alone have the same values.
 use Rattle.std.proofs.Common.{◌≡◌, ◌<◌, ◌^◌, ℕ, ℤ, Bool, false, List, [], ◌∷◌, map, Option, Some, None, refl, sym, ap, ◌∙◌, subst}
 use Rattle.std.specs.Int.{w128, int_wrap}
-use Rattle.std.specs.List.{cons_option}
+use Rattle.std.specs.List.{cons_option, filter_map}
 use Rattle.std.specs.Ordering.{is_le}
-use Rattle.std.proofs.lemmas.Option.{none-some, same_Some}
 use Rattle.list_core.specs.Members.{In}
 use Rattle.list_core.proofs.Members.{In_map, In_from_map}
 use Rattle.ids_core.specs.declared.object.Sort.{Sort}
@@ -12,45 +11,21 @@ use Rattle.ids_core.specs.Orders.{mark_cmp}
 use Rattle.obj_counter.specs.Counter.{total, sizes}
 use Rattle.obj_counter.specs.Laws.{fold-added}
 use Rattle.obj_counter.proofs.Totals.{fold-added_exact}
-use Rattle.tx_core.specs.declared.op.Op.{Op}
-use Rattle.tx_core.specs.declared.op.Op.TheVariants.{Inc, Write, Add, Remove, Put, Erase}
 use Rattle.tx_core.specs.declared.state.Value.{Value}
 use Rattle.tx_core.specs.declared.state.Value.TheVariants.{Number, Word, Words, Pairs}
-use Rattle.dc_talk.specs.declared.session.Change.{Change}
-use Rattle.dc_talk.specs.declared.session.Change.TheVariants as change
+use Rattle.dc_talk.specs.declared.calls.Change.{Change}
+use Rattle.dc_talk.specs.declared.calls.Change.TheVariants as change
+use Rattle.dc_talk.specs.declared.calls.Change.TheVariants.{Write, Add, Remove, Put, Erase}
 use Rattle.dc_talk.specs.Calls.{op_of}
 use Rattle.tx_graph.specs.declared.acts.BareAct.{BareAct}
-use Rattle.tx_graph.specs.Values.{Act, delta_of, sees, IsRegisterOver, added, removed, IsUnseenAdd, IsSetOver, put, erased, IsUnseenPut, IsWordAt, IsMapOver, IsValueBy}
-use Rattle.tx_graph.specs.Acts.{change_of, bare_of, act_of, deltas_in, sum_of, HasUniqueMarks}
-use Rattle.tx_graph.specs.Unseen.{written}
+use Rattle.tx_graph.specs.Values.{Act, change_of, delta_of, deltas_in, sees, IsRegisterOver, IsUnseenAdd, IsSetOver, IsUnseenPut, IsWordAt, IsMapOver, IsValueBy}
+use Rattle.tx_graph.specs.Acts.{bare_of, act_of, sum_of, HasUniqueMarks}
 
 -- ---- what does not look at the identifiers that an operation is over
 
--- all that values look at in an operation
-record Told : Type 0 where
-  delta : Option ℤ
-  writes : Option (List ℕ)
-  adds : Option (List ℕ)
-  removes : Option (List ℕ)
-  puts : Option (List ℕ × List ℕ)
-  erases : Option (List ℕ)
-
--- what an operation tells
-abbrev told : Op → Told
-told op = record { delta = delta_of op; writes = written op; adds = added op; removes = removed op; puts = put op; erases = erased op }
-
--- it is that of the change, over nothing
-told_blind : (op : Op) → told op ≡ told (op_of (change_of op) [])
-told_blind (Inc delta) = refl
-told_blind (Write word) = refl
-told_blind (Add word over) = refl
-told_blind (Remove word over) = refl
-told_blind (Put key word over) = refl
-told_blind (Erase key over) = refl
-
--- acts that are the same without identifiers tell the same
-same_told : (p q : Act) → bare_of p ≡ bare_of q → told p.op ≡ told q.op
-same_told p q same = told_blind p.op ∙ (ap (λ (bare : BareAct). told (op_of bare.change [])) same ∙ sym (told_blind q.op))
+-- acts that are the same without identifiers are one change
+same_change : (p q : Act) → bare_of p ≡ bare_of q → change_of p.op ≡ change_of q.op
+same_change p q same = ap (λ (bare : BareAct). bare.change) same
 
 -- and they have one mark
 same_mark : (p q : Act) → bare_of p ≡ bare_of q → p.mark ≡ q.mark
@@ -62,15 +37,6 @@ same_sees p q r s first second = ap (λ bare. bare_sees bare (bare_of r)) first 
   where
     bare_sees : BareAct → BareAct → Bool
     bare_sees later earlier = sees (act_of later) (act_of earlier)
-
--- an operation that writes the word is its write
-write_of : (op : Op) (word : List ℕ) → written op ≡ Some word → op ≡ Write word
-write_of (Inc delta) word is = absurd (none-some word is)
-write_of (Write other) word is = ap Write (same_Some other word is)
-write_of (Add other over) word is = absurd (none-some word is)
-write_of (Remove other over) word is = absurd (none-some word is)
-write_of (Put key other over) word is = absurd (none-some word is)
-write_of (Erase key over) word is = absurd (none-some word is)
 
 -- ---- two lists of acts that are the same without identifiers
 
@@ -95,33 +61,34 @@ like acts others alike act i =
     record { act' = m.0; there = m.1; same = m.2 }
 
 module _ (acts others : List Act) (alike : AreAlike acts others) where
+  -- each act of the other list has its like here
   here : (act : Act) → In act others → HasLike acts act
   here = like others acts (turned acts others alike)
 
-  -- where no act that takes out a name sees an act, none sees its like in the other list
-  clear : (takes : Told → Option (List ℕ)) (name : List ℕ) (p q : Act) → bare_of p ≡ bare_of q → ((other : Act) → In other acts → takes (told other.op) ≡ Some name → sees other p ≡ false) → (other : Act) → In other others → takes (told other.op) ≡ Some name → sees other q ≡ false
-  clear takes name p q same none other i named =
+  -- where no act of a change sees an act, none sees its like in the other list
+  clear : (taking : Change) (p q : Act) → bare_of p ≡ bare_of q → ((other : Act) → In other acts → change_of other.op ≡ taking → sees other p ≡ false) → (other : Act) → In other others → change_of other.op ≡ taking → sees other q ≡ false
+  clear taking p q same none other i takes =
       let l = here other i in
-      same_sees other l.act' q p l.same (sym same) ∙ none l.act' l.there (sym (ap takes (same_told other l.act' l.same)) ∙ named)
+      same_sees other l.act' q p l.same (sym same) ∙ none l.act' l.there (sym (same_change other l.act' l.same) ∙ takes)
 
-  -- the like of a write is a write
-  write_like : (p q : Act) (word : List ℕ) → bare_of p ≡ bare_of q → p.op ≡ Write word → q.op ≡ Write word
-  write_like p q word same writes = write_of q.op word (sym (ap (λ (t : Told). t.writes) (same_told p q same)) ∙ ap written writes)
+  -- the like of a change is that change
+  change_like : (p q : Act) (change : Change) → bare_of p ≡ bare_of q → change_of p.op ≡ change → change_of q.op ≡ change
+  change_like p q change same is = sym (same_change p q same) ∙ is
 
   -- ---- by kind
 
   -- the value of a register is one of the other list
   register_like : (word : Option (List ℕ)) → IsRegisterOver acts word → IsRegisterOver others word
-  register_like None none = λ act word i writes. let l = here act i in none l.act' word l.there (write_like act l.act' word l.same writes)
+  register_like None none = λ act word i writes. let l = here act i in none l.act' word l.there (change_like act l.act' (Write word) l.same writes)
   register_like (Some word) last =
       let l = like acts others alike last.act last.there in
       record {
         act = l.act';
         there = l.there;
-        writes = write_like last.act l.act' word l.same last.writes;
+        writes = change_like last.act l.act' (Write word) l.same last.writes;
         above = λ other other_word i writes.
             let m = here other i in
-            let is = last.above m.act' other_word m.there (write_like other m.act' other_word m.same writes) in
+            let is = last.above m.act' other_word m.there (change_like other m.act' (Write other_word) m.same writes) in
             ap (λ mark. is_le (mark_cmp mark l.act'.mark)) (same_mark other m.act' m.same) ∙ (ap (λ mark. is_le (mark_cmp m.act'.mark mark)) (sym (same_mark last.act l.act' l.same)) ∙ is);
       }
 
@@ -132,8 +99,8 @@ module _ (acts others : List Act) (alike : AreAlike acts others) where
         l.act',
         record {
           there = l.there;
-          adds = sym (ap (λ (t : Told). t.adds) (same_told act l.act' l.same)) ∙ add.adds;
-          unseen = clear (λ t. t.removes) word act l.act' l.same add.unseen;
+          adds = change_like act l.act' (Add word) l.same add.adds;
+          unseen = clear (Remove word) act l.act' l.same add.unseen;
         },
       )
 
@@ -141,11 +108,12 @@ module _ (acts others : List Act) (alike : AreAlike acts others) where
   put_like : (key word : List ℕ) (act act' : Act) → bare_of act ≡ bare_of act' → In act' others → IsUnseenPut acts key word act → IsUnseenPut others key word act'
   put_like key word act act' same there is = record {
     there = there;
-    puts = sym (ap (λ (t : Told). t.puts) (same_told act act' same)) ∙ is.puts;
-    unseen = clear (λ t. t.erases) key act act' same is.unseen;
+    puts = change_like act act' (Put key word) same is.puts;
+    unseen = clear (Erase key) act act' same is.unseen;
   }
 
 module _ (acts others : List Act) (alike : AreAlike acts others) where
+  -- the lists are alike the other way round
   back : AreAlike others acts
   back = turned acts others alike
 
@@ -162,10 +130,10 @@ module _ (acts others : List Act) (alike : AreAlike acts others) where
   -- the word of the greatest put of a key is that of the other list
   word_like : (key word : List ℕ) → IsWordAt acts key word → IsWordAt others key word
   word_like key word w =
-      let l = like acts others alike w.act w.is.there in
+      let l = like acts others alike w.act w.unseen.there in
       record {
         act = l.act';
-        is = put_like acts others alike key word w.act l.act' l.same l.there w.is;
+        unseen = put_like acts others alike key word w.act l.act' l.same l.there w.unseen;
         above = λ other other_word u.
             let m = like others acts back other u.there in
             let is = w.above m.act' other_word (put_like others acts back key other_word other m.act' m.same m.there u) in
@@ -183,24 +151,23 @@ module _ (acts others : List Act) (alike : AreAlike acts others) where
     );
   }
 
-  -- a value of the one list is one of the other
-  pub value_like : (s : Sort) (sum : ℤ) (value : Value) → IsValueBy s sum acts value → IsValueBy s sum others value
-  value_like sort.Counter sum (Number number) is = is
-  value_like sort.Register sum (Word word) is = register_like acts others alike word is
-  value_like sort.Set sum (Words words) is = set_like acts others alike words is
-  value_like sort.Map sum (Pairs pairs) is = map_like pairs is
-  value_like _ sum _ is = absurd is
-
 -- alike lists have the same deltas
-pub deltas_like : (acts others : List Act) → map bare_of acts ≡ map bare_of others → deltas_in acts ≡ deltas_in others
+deltas_like : (acts others : List Act) → map bare_of acts ≡ map bare_of others → deltas_in acts ≡ deltas_in others
 deltas_like acts others same = by_bare acts ∙ (ap bare_deltas same ∙ sym (by_bare others))
   where
     bare_deltas : List BareAct → List ℤ
-    bare_deltas bares = deltas_in (map act_of bares)
+    bare_deltas bares = filter_map (λ bare. delta_of bare.change) bares
 
     by_bare : (acts : List Act) → deltas_in acts ≡ bare_deltas (map bare_of acts)
     by_bare [] = refl
-    by_bare (act ∷ acts) = ap (λ o. cons_option o (deltas_in acts)) (ap (λ (t : Told). t.delta) (told_blind act.op)) ∙ ap (λ l. cons_option (delta_of (op_of (change_of act.op) [])) l) (by_bare acts)
+    by_bare (act ∷ acts) = ap (λ l. cons_option (delta_of (change_of act.op)) l) (by_bare acts)
+
+-- the value that is computed: as it is defined, but that the sum of a counter is wrapped
+abbrev pub IsComputed : Sort → List Act → Value → Type 0
+IsComputed sort.Counter acts value = value ≡ Number (int_wrap w128 (sum_of acts))
+IsComputed sort.Register acts value = IsValueBy sort.Register acts value
+IsComputed sort.Set acts value = IsValueBy sort.Set acts value
+IsComputed sort.Map acts value = IsValueBy sort.Map acts value
 
 -- ---- bare acts, and any acts that they are
 
@@ -232,7 +199,7 @@ module _ (bares : List BareAct) (whole : List Act) (same : bares ≡ map bare_of
 
   -- marks are unique without identifiers too
   unique_like : HasUniqueMarks whole → HasUniqueMarks (map act_of bares)
-  unique_like unique = record { by = go }
+  unique_like unique = record { one_act = go }
     where
       go : (p q : Act) → In p (map act_of bares) → In q (map act_of bares) → p.mark ≡ q.mark → p ≡ q
       go p q i j marks =
@@ -240,23 +207,31 @@ module _ (bares : List BareAct) (whole : List Act) (same : bares ≡ map bare_of
           let n = In_from_map act_of bares q j in
           let l = like (map act_of bares) whole alike (act_of m.0) (In_map act_of bares m.0 m.1) in
           let k = like (map act_of bares) whole alike (act_of n.0) (In_map act_of bares n.0 n.1) in
-          let one = unique.by l.act' k.act' l.there k.there (sym (same_mark (act_of m.0) l.act' l.same) ∙ (ap (λ (a : Act). a.mark) (sym m.2) ∙ (marks ∙ (ap (λ (a : Act). a.mark) n.2 ∙ same_mark (act_of n.0) k.act' k.same)))) in
+          let one = unique.one_act l.act' k.act' l.there k.there (sym (same_mark (act_of m.0) l.act' l.same) ∙ (ap (λ (a : Act). a.mark) (sym m.2) ∙ (marks ∙ (ap (λ (a : Act). a.mark) n.2 ∙ same_mark (act_of n.0) k.act' k.same)))) in
           m.2 ∙ (ap act_of (sym (again m.0) ∙ (l.same ∙ (ap bare_of one ∙ (sym k.same ∙ again n.0)))) ∙ sym n.2)
 
-  -- what is a value of acts that are over nothing is one of any acts that they are: wrapped
-  value_wraps : (s : Sort) (value : Value) → ((s ≡ sort.Map → HasUniqueMarks (map act_of bares)) → IsValueBy s (int_wrap w128 (sum_of (map act_of bares))) (map act_of bares) value) → (s ≡ sort.Map → HasUniqueMarks whole) → IsValueBy s (int_wrap w128 (sum_of whole)) whole value
-  value_wraps s value is unique = subst (λ sum. IsValueBy s (int_wrap w128 sum) whole value) sums_like (value_like (map act_of bares) whole alike s (int_wrap w128 (sum_of (map act_of bares))) value (is (λ e. unique_like (unique e))))
-
-  -- and exact, where the sizes of the deltas are small together
-  value_exact : (s : Sort) (value : Value) → ((s ≡ sort.Map → HasUniqueMarks (map act_of bares)) → IsValueBy s (int_wrap w128 (sum_of (map act_of bares))) (map act_of bares) value) → (s ≡ sort.Map → HasUniqueMarks whole) → sizes (deltas_in whole) < 2 ^ 127 → IsValueBy s (sum_of whole) whole value
-  value_exact s value is unique small = subst (λ sum. IsValueBy s sum whole value) (sym (fold-added (deltas_in whole)) ∙ fold-added_exact (deltas_in whole) small) (value_wraps s value is unique)
+  -- what is computed of acts that are over nothing is the value of any acts that they are, where the sum of
+  -- a counter is not wrapped
+  pub exact_like : (s : Sort) (value : Value) → ((s ≡ sort.Map → HasUniqueMarks (map act_of bares)) → IsComputed s (map act_of bares) value) → (s ≡ sort.Map → HasUniqueMarks whole) → (s ≡ sort.Counter → sizes (deltas_in whole) < 2 ^ 127) → IsValueBy s whole value
+  exact_like sort.Counter value is unique small =
+      subst (λ value. IsValueBy sort.Counter whole value) (sym (is (λ e. unique_like (unique e))))
+      (ap (int_wrap w128) sums_like ∙ (sym (fold-added (deltas_in whole)) ∙ fold-added_exact (deltas_in whole) (small refl)))
+  exact_like sort.Register (Word word) is unique small = register_like (map act_of bares) whole alike word (is (λ e. unique_like (unique e)))
+  exact_like sort.Set (Words words) is unique small = set_like (map act_of bares) whole alike words (is (λ e. unique_like (unique e)))
+  exact_like sort.Map (Pairs pairs) is unique small = map_like (map act_of bares) whole alike pairs (is (λ e. unique_like (unique e)))
+  exact_like _ value is unique small = absurd (is (λ e. unique_like (unique e)))
 
 -- both together
-pub values_like : (bares : List BareAct) (s : Sort) (value : Value) → ((s ≡ sort.Map → HasUniqueMarks (map act_of bares)) → IsValueBy s (int_wrap w128 (sum_of (map act_of bares))) (map act_of bares) value) → record {
-  wraps : (whole : List Act) → bares ≡ map bare_of whole → (s ≡ sort.Map → HasUniqueMarks whole) → IsValueBy s (int_wrap w128 (sum_of whole)) whole value;
-  exact : (whole : List Act) → bares ≡ map bare_of whole → (s ≡ sort.Map → HasUniqueMarks whole) → sizes (deltas_in whole) < 2 ^ 127 → IsValueBy s (sum_of whole) whole value;
+pub values_like : (bares : List BareAct) (s : Sort) (value : Value) → ((s ≡ sort.Map → HasUniqueMarks (map act_of bares)) → IsComputed s (map act_of bares) value) → record {
+  wraps : (whole : List Act) → bares ≡ map bare_of whole → s ≡ sort.Counter → value ≡ Number (int_wrap w128 (sum_of whole));
+  exact : (whole : List Act) → bares ≡ map bare_of whole → (s ≡ sort.Map → HasUniqueMarks whole) → (s ≡ sort.Counter → sizes (deltas_in whole) < 2 ^ 127) → IsValueBy s whole value;
 }
 values_like bares s value is = record {
-  wraps = λ whole same. value_wraps bares whole same s value is;
-  exact = λ whole same. value_exact bares whole same s value is;
+  wraps = λ whole same counter.
+      let counted : (s ≡ sort.Map → HasUniqueMarks (map act_of bares)) → value ≡ Number (int_wrap w128 (sum_of (map act_of bares))) = subst (λ k. (s ≡ sort.Map → HasUniqueMarks (map act_of bares)) → IsComputed k (map act_of bares) value) counter is in
+      counted (λ e. absurd (no_map s counter e)) ∙ ap (λ sum. Number (int_wrap w128 sum)) (sums_like bares whole same);
+  exact = λ whole same. exact_like bares whole same s value is;
 }
+  where
+    no_map : (s : Sort) → s ≡ sort.Counter → s ≡ sort.Map → ⊥
+    no_map s counter is_map = cc

@@ -13,12 +13,12 @@ pub record Node : Type 0 where
 
 -- each dot of xs is in ys
 pub record Within (xs ys : List Dot) : Type 0 where
-  pub by : (d : Dot) → In d xs → In d ys
+  pub each : (d : Dot) → In d xs → In d ys
 
 -- a set of dots of the graph is closed: it has the dependencies of its members
 pub record Closed (nodes : List Node) (set : List Dot) : Type 0 where
-  pub are : (d : Dot) → In d set → (t : Node) × In t nodes × (t.dot ≡ d)
-  pub down : (t : Node) → In t nodes → In t.dot set → Within t.deps set
+  pub in_graph : (d : Dot) → In d set → (t : Node) × In t nodes × (t.dot ≡ d)
+  pub dependencies : (t : Node) → In t nodes → In t.dot set → Within t.deps set
 
 -- a graph is well made: dots differ, dependency sets are closed, and ranks grow along dependencies
 pub record WellMade (nodes : List Node) : Type 0 where

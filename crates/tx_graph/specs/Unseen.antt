@@ -9,10 +9,30 @@ use Rattle.list_core.specs.Choices.{when}
 use Rattle.ids_core.specs.declared.ids.Mark.{Mark}
 use Rattle.ids_core.specs.Orders.{mark_cmp}
 use Rattle.tally_core.specs.Sees.{any}
-use Rattle.tx_core.specs.declared.op.Op.{Op}
-use Rattle.tx_core.specs.declared.op.Op.TheVariants.{Write}
+use Rattle.dc_talk.specs.declared.calls.Change.{Change}
+use Rattle.dc_talk.specs.declared.calls.Change.TheVariants.{Write, Add, Remove, Put, Erase}
 use Rattle.tx_graph.specs.declared.unseen.UnseenPut.{UnseenPut}
-use Rattle.tx_graph.specs.Values.{Act, sees, added, removed, put, erased}
+use Rattle.tx_graph.specs.Values.{Act, change_of, sees}
+
+-- ---- what changes give and take out
+
+-- the word that a change adds, and the one that it removes
+abbrev pub added : Change → Option (List ℕ)
+added (Add word) = Some word
+added _ = None
+
+abbrev pub removed : Change → Option (List ℕ)
+removed (Remove word) = Some word
+removed _ = None
+
+-- the key and the word of a put, and the key of an erase
+abbrev pub put : Change → Option (List ℕ × List ℕ)
+put (Put key word) = Some (key, word)
+put _ = None
+
+abbrev pub erased : Change → Option (List ℕ)
+erased (Erase key) = Some key
+erased _ = None
 
 -- ---- what nothing takes out
 
@@ -22,12 +42,12 @@ is_name None name = false
 is_name (Some other) name = bytes_eq other name
 
 -- some act that takes out the name sees the act
-abbrev pub is_taken : (Op → Option (List ℕ)) → List Act → List ℕ → Act → Bool
-is_taken takes acts name act = any (λ other. is_name (takes other.op) name && sees other act) acts
+abbrev pub is_taken : (Change → Option (List ℕ)) → List Act → List ℕ → Act → Bool
+is_taken takes acts name act = any (λ other. is_name (takes (change_of other.op)) name && sees other act) acts
 
 -- what an act gives under a name, where no act that takes out the name sees it
-abbrev pub unseen : {Y : Type 0} → (Op → Option Y) → (Y → List ℕ) → (Op → Option (List ℕ)) → List Act → Act → Option Y
-unseen gives name takes acts act = option_and_then (λ y. when (not (is_taken takes acts (name y) act)) y) (gives act.op)
+abbrev pub unseen : {Y : Type 0} → (Change → Option Y) → (Y → List ℕ) → (Change → Option (List ℕ)) → List Act → Act → Option Y
+unseen gives name takes acts act = option_and_then (λ y. when (not (is_taken takes acts (name y) act)) y) (gives (change_of act.op))
 
 -- the word of an add that no remove of it sees
 abbrev pub unseen_add : List Act → Act → Option (List ℕ)
@@ -39,14 +59,14 @@ unseen_put acts act = option_map (λ put. record { mark = act.mark; key = put.0;
 
 -- ---- marked words
 
--- the word that an operation writes
-abbrev pub written : Op → Option (List ℕ)
+-- the word that a change writes
+abbrev pub written : Change → Option (List ℕ)
 written (Write word) = Some word
 written _ = None
 
 -- a write with its mark
 abbrev pub marked_write : Act → Option (Mark × List ℕ)
-marked_write act = option_map (λ word. (act.mark, word)) (written act.op)
+marked_write act = option_map (λ word. (act.mark, word)) (written (change_of act.op))
 
 -- the word of a put of the key, with its mark
 abbrev pub word_under : List ℕ → UnseenPut → Option (Mark × List ℕ)

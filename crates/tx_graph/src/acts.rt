@@ -1,9 +1,9 @@
 // Acts, as values by dependency sets need them.
 ghost use Rattle.std.specs.Prelude.{◌≡◌, IfOk};
-ghost use Rattle.tx_graph.specs.Values.{sees};
-ghost use Rattle.tx_graph.specs.Acts.{change_of, act_of};
+ghost use Rattle.tx_graph.specs.Values.{change_of, sees};
+ghost use Rattle.tx_graph.specs.Acts.{act_of};
 
-use crate::dot_set::DotSet;
+use crate::dot_set::{DotSet, is_in};
 use dc_talk::Change;
 use ids_core::{Mark, NoMemory};
 use tx_core::Op;
@@ -35,7 +35,7 @@ impl BareAct {
         ensures { result ≡ sees (act_of self.now) (act_of other.now) }
     {
         let (seer, seen) = (&self.mark.id, &other.mark.id);
-        self.deps.has(&seen.dot) || (seen.dot == seer.dot && seen.place < seer.place)
+        is_in(&seen.dot, self.deps.as_slice()) || (seen.dot == seer.dot && seen.place < seer.place)
     }
 
     /// The same act again.

@@ -2,9 +2,9 @@
 ghost use Rattle.std.specs.Prelude.{◌≡◌, [], IfOk, map};
 ghost use Rattle.std.specs.List.{filter_map};
 ghost use Rattle.dc_talk.specs.Calls.{op_of};
-ghost use Rattle.tx_graph.specs.Values.{removed, erased};
+ghost use Rattle.tx_graph.specs.Values.{change_of};
 ghost use Rattle.tx_graph.specs.Acts.{act_of};
-ghost use Rattle.tx_graph.specs.Unseen.{is_name, is_taken, unseen_add, unseen_put};
+ghost use Rattle.tx_graph.specs.Unseen.{removed, erased, is_name, is_taken, unseen_add, unseen_put};
 
 use crate::acts::BareAct;
 use dc_talk::Change;
@@ -77,8 +77,9 @@ fn is_erased(act: &BareAct, key: &Name, acts: &[BareAct]) -> bool
     false
 }
 
+// Whether a change removes the word.
 fn removes(change: &Change, word: &Name) -> bool
-    ensures { result ≡ is_name (removed (op_of change.now [])) word.now }
+    ensures { result ≡ is_name (removed (change_of (op_of change.now []))) word.now }
 {
     match change {
         Change::Remove { word: other } => *other == *word,
@@ -86,8 +87,9 @@ fn removes(change: &Change, word: &Name) -> bool
     }
 }
 
+// Whether a change erases the key.
 fn erases(change: &Change, key: &Name) -> bool
-    ensures { result ≡ is_name (erased (op_of change.now [])) key.now }
+    ensures { result ≡ is_name (erased (change_of (op_of change.now []))) key.now }
 {
     match change {
         Change::Erase { key: other } => *other == *key,

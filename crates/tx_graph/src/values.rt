@@ -6,8 +6,8 @@ ghost use Rattle.std.specs.List.Sorted.{IsStrictlySortedBy};
 ghost use Rattle.list_core.specs.Members.{In};
 ghost use Rattle.ids_core.specs.Orders.{name_cmp};
 ghost use Rattle.obj_counter.specs.Counter.{sizes};
-ghost use Rattle.tx_graph.specs.Values.{Act, IsRegisterOver, IsSetOver, IsMapOver, IsValueBy};
-ghost use Rattle.tx_graph.specs.Acts.{bare_of, act_of, deltas_in, sum_of, HasUniqueMarks};
+ghost use Rattle.tx_graph.specs.Values.{Act, deltas_in, IsRegisterOver, IsSetOver, IsMapOver, IsValueBy};
+ghost use Rattle.tx_graph.specs.Acts.{bare_of, act_of, sum_of, HasUniqueMarks};
 ghost use Rattle.tx_graph.specs.Unseen.{marked_write, word_under, ArePairsOf};
 
 use crate::acts::BareAct;
@@ -24,10 +24,10 @@ use tx_core::{NamePairs, Names, Value};
 /// at the ends of an `i128`; it is exact where the sizes of the deltas together stay below 2^127. The
 /// value of a map is defined only where acts with one mark are one.
 pub fn value_by_sees(alloc: Global, sort: Sort, acts: &[BareAct]) -> Result<Value, NoMemory>
-    ensures wraps { (whole : List Act) → acts.now ≡ map bare_of whole → (sort ≡ Sort.Map → HasUniqueMarks whole) →
-        IfOk result (IsValueBy sort (int_wrap w128 (sum_of whole)) whole) }
+    ensures wraps { (whole : List Act) → acts.now ≡ map bare_of whole → sort ≡ Sort.Counter →
+        IfOk result (λ value. value ≡ Value.Number (int_wrap w128 (sum_of whole))) }
     ensures exact { (whole : List Act) → acts.now ≡ map bare_of whole → (sort ≡ Sort.Map → HasUniqueMarks whole) →
-        sizes (deltas_in whole) < 2 ^ 127 → IfOk result (IsValueBy sort (sum_of whole) whole) }
+        (sort ≡ Sort.Counter → sizes (deltas_in whole) < 2 ^ 127) → IfOk result (IsValueBy sort whole) }
 {
     match sort {
         Sort::Counter => Ok(Value::Number(sum_of(acts))),

@@ -16,17 +16,18 @@ use Rattle.ids_core.specs.declared.ids.Dot.{Dot}
 use Rattle.tx_core.specs.declared.tx.Tx.{Tx}
 use Rattle.dc_talk.specs.declared.log.Deed.{Deed}
 use Rattle.dc_talk.specs.declared.log.Note.{Note}
-use Rattle.dc_talk.specs.declared.trail.Entry.{Entry}
-use Rattle.dc_centre.specs.Desk.{Keeps}
-use Rattle.dc_talk.specs.Logs.{Logged, Ascend}
+use Rattle.dc_talk.specs.Entries.{Entry}
+use Rattle.dc_centre.specs.Desk.{DeskView}
+use Rattle.dc_talk.specs.Logs.{Logged, Ascend, entry_of, noted}
 use Rattle.dc_talk.specs.Clients.{Client, new_client}
 use Rattle.dc_talk.specs.Rule.{after, client_after, commits_of, Allows, Follows}
 use Rattle.script_text.specs.declared.steps.Step.{Step}
 use Rattle.script_text.specs.Steps.{IsStepOf}
 use Rattle.script_text.specs.Deeds.{StepDeeds}
 use Rattle.print_text.specs.Text.{told_text, notes_text}
-use Rattle.run_book.specs.Scripted.{Placed, placed_from, Plays, IsAt, after_notes}
-use Rattle.run_book.specs.Together.{Happened, note_by, notes_by, all_notes, entry_of, entry_in, entries_in, IsOfStep}
+use Rattle.run_book.specs.Setups.{Setup}
+use Rattle.run_book.specs.Scripted.{Placed, placed_from, Plays, no_steps, first_step, IsAt, after_notes}
+use Rattle.run_book.specs.Together.{Happened, note_by, notes_by, all_notes, entry_in, entries_in, IsOfStep}
 use Rattle.run_book.proofs.Numbered.{numbered_at}
 use Rattle.run_book.proofs.Held.{dot_at, held_after}
 use Rattle.world_core.specs.declared.table.Table.{Table}
@@ -38,13 +39,13 @@ use Rattle.world_core.proofs.Near.{AreNear, step_near, link_near}
 -- ---- a client's log
 
 -- deeds that the rule allows behind notes that follow it
-follows_more : (client capacity section step : ℕ) (before : List Note) (s : Client) (deeds : List Deed) → s ≡ client_after 1 client capacity before → Follows 1 client capacity before → AllowsAll section step s before deeds → Follows 1 client capacity (before ++ map (marked section step) deeds)
-follows_more client capacity section step before s [] is follows allowed = subst (Follows 1 client capacity) (sym (append-nil before)) follows
-follows_more client capacity section step before s (deed ∷ deeds) is follows allowed =
-    let note : Note = marked section step deed in
-    let one : Follows 1 client capacity (before ++ note ∷ []) = each_more (λ (before : List Note) (note : Note). Allows (client_after 1 client capacity before) before note.deed) before note follows (subst (λ (s : Client). Allows s before deed) is allowed.0) in
-    let next : after s deed ≡ client_after 1 client capacity (before ++ note ∷ []) = ap (λ (s : Client). after s deed) is ∙ sym (fold-append (λ (s : Client) (note : Note). after s note.deed) (new_client 1 client capacity) before (note ∷ [])) in
-    subst (Follows 1 client capacity) (append_assoc before (note ∷ []) (map (marked section step) deeds)) (follows_more client capacity section step (before ++ note ∷ []) (after s deed) deeds next one allowed.1)
+follows_more : (client capacity : ℕ) (log : Logged) (s : Client) (deeds : List Deed) → s ≡ client_after 1 client capacity log.notes → Follows 1 client capacity log.notes → AllowsAll s log deeds → Follows 1 client capacity (log.notes ++ map (marked log.section log.step) deeds)
+follows_more client capacity log s [] is follows allowed = subst (Follows 1 client capacity) (sym (append-nil log.notes)) follows
+follows_more client capacity log s (deed ∷ deeds) is follows allowed =
+    let note : Note = marked log.section log.step deed in
+    let one : Follows 1 client capacity (log.notes ++ note ∷ []) = each_more (λ (before : List Note) (note : Note). Allows (client_after 1 client capacity before) before note.deed) log.notes note follows (subst (λ (s : Client). Allows s log.notes deed) is allowed.0) in
+    let next : after s deed ≡ client_after 1 client capacity (log.notes ++ note ∷ []) = ap (λ (s : Client). after s deed) is ∙ sym (fold-append (λ (s : Client) (note : Note). after s note.deed) (new_client 1 client capacity) log.notes (note ∷ [])) in
+    subst (Follows 1 client capacity) (append_assoc log.notes (note ∷ []) (map (marked log.section log.step) deeds)) (follows_more client capacity (noted log deed) (after s deed) deeds next one allowed.1)
 
 -- the client after notes and deeds
 client_more : (client capacity section step : ℕ) (notes : List Note) (deeds : List Deed) → client_after 1 client capacity (notes ++ map (marked section step) deeds) ≡ after_all (client_after 1 client capacity notes) deeds
@@ -57,18 +58,18 @@ deeds_of : (section step : ℕ) (deeds : List Deed) → map (λ (note : Note). n
 deeds_of section step [] = refl
 deeds_of section step (deed ∷ deeds) = ap (λ ds. deed ∷ ds) (deeds_of section step deeds)
 
-all_at : (section step : ℕ) (deeds : List Deed) → All (IsAt section step) (map (marked section step) deeds)
-all_at section step [] = All-nil (IsAt section step)
-all_at section step (deed ∷ deeds) = All-cons (IsAt section step) (marked section step deed) (map (marked section step) deeds) (record { section_is = refl; step_is = refl }) (all_at section step deeds)
+-- they are at the section and place of their step
+all_at : (line : Placed) (deeds : List Deed) → All (IsAt line) (map (marked line.section line.step) deeds)
+all_at line [] = All-nil (IsAt line)
+all_at line (deed ∷ deeds) = All-cons (IsAt line) (marked line.section line.step deed) (map (marked line.section line.step) deeds) (record { section_is = refl; step_is = refl }) (all_at line deeds)
 
-plays_more : (s : Client) (lines : List Placed) (line : Placed) (notes mine : List Note) → Plays s lines notes → All (IsAt line.section line.step) mine → StepDeeds (after_notes s notes) line.does (map (λ (note : Note). note.deed) mine) → Plays s (lines ++ line ∷ []) (notes ++ mine)
-plays_more s [] line notes mine none here deeds =
-    subst (λ (ns : List Note). StepDeeds (after_notes s ns) line.does (map (λ (note : Note). note.deed) mine) → Plays s (line ∷ []) (ns ++ mine)) (sym none)
-    (λ deeds. (mine, [], sym (append-nil mine), here, deeds, refl)) deeds
-plays_more s (first ∷ lines) line notes mine (now, later, parts, there, first_deeds, rest) here deeds =
+-- the notes of one step more
+plays_more : (s : Client) (lines : List Placed) (line : Placed) (notes mine : List Note) → Plays s lines notes → All (IsAt line) mine → StepDeeds (after_notes s notes) line.does (map (λ (note : Note). note.deed) mine) → Plays s (lines ++ line ∷ []) (notes ++ mine)
+plays_more s _ line _ mine no_steps here deeds = first_step mine [] (sym (append-nil mine)) here deeds no_steps
+plays_more s (first ∷ lines) line notes mine (first_step now later parts there first_deeds rest) here deeds =
     let whole : notes ++ mine ≡ now ++ (later ++ mine) = ap (λ (ns : List Note). ns ++ mine) parts ∙ append_assoc now later mine in
     let after_is : after_notes s notes ≡ after_notes (after_notes s now) later = ap (after_notes s) parts ∙ fold-append (λ (s : Client) (note : Note). after s note.deed) s now later in
-    (now, later ++ mine, whole, there, first_deeds, plays_more (after_notes s now) lines line later mine rest here (subst (λ (s : Client). StepDeeds s line.does (map (λ (note : Note). note.deed) mine)) after_is deeds))
+    first_step now (later ++ mine) whole there first_deeds (plays_more (after_notes s now) lines line later mine rest here (subst (λ (s : Client). StepDeeds s line.does (map (λ (note : Note). note.deed) mine)) after_is deeds))
 
 -- the steps of a client with one step more
 abbrev placed_last : ℕ → ℕ → Step → List Placed
@@ -148,7 +149,7 @@ put_in (w ∷ xs) (suc at) zero x y z there found = inr ((λ e. omega (arith, e)
 put_in (w ∷ xs) (suc at) (suc place) x y z there found = ⊎_elim (λ same. inl (ap suc same.0, same.1)) (λ other. inr ((λ e. other.0 (omega (arith, e))), other.1)) (put_in xs at place x y z there found)
 
 -- the client that took the step
-seat_taken : (client capacity section : ℕ) (steps : List Step) (step : Step) (all : List Happened) (old new : Seated) (deeds : List Deed) (desk later : Keeps) → step.client ≡ client → section ≡ 1 + length steps → AreNear deeds → IsSeat client capacity steps all old → StepDeeds old.client step.does deeds → Grows (at_section (beside old desk) section) (beside new later) deeds → IsSeat client capacity (steps ++ step ∷ []) (all ++ happening (client + 1) section deeds) new
+seat_taken : (client capacity section : ℕ) (steps : List Step) (step : Step) (all : List Happened) (old new : Seated) (deeds : List Deed) (desk later : DeskView) → step.client ≡ client → section ≡ 1 + length steps → AreNear deeds → IsSeat client capacity steps all old → StepDeeds old.client step.does deeds → Grows (at_section (beside old desk) section) (beside new later) deeds → IsSeat client capacity (steps ++ step ∷ []) (all ++ happening (client + 1) section deeds) new
 seat_taken client capacity section steps step all old new deeds desk later who same near seat are grows =
     let more : List Note = map (marked section 1) deeds in
     let notes : new.log.notes ≡ old.log.notes ++ more = ap (λ (log : Logged). log.notes) grows.log in
@@ -158,13 +159,13 @@ seat_taken client capacity section steps step all old new deeds desk later who s
     let lines : placed_from client 1 (steps ++ step ∷ []) ≡ placed_from client 1 steps ++ line ∷ [] = placed_more client 1 steps step ∙ (ap (λ test. placed_from client 1 steps ++ cond test (record { section = 1 + length steps; step = 1; does = step.does } ∷ []) []) mine ∙ ap (λ n. placed_from client 1 steps ++ record { section = n; step = 1; does = step.does } ∷ []) (sym same)) in
     let step_deeds : StepDeeds (after_notes first old.log.notes) step.does (map (λ (note : Note). note.deed) more) =
     subst (λ ds. StepDeeds (after_notes first old.log.notes) step.does ds) (sym (deeds_of section 1 deeds)) (subst (λ (s : Client). StepDeeds s step.does deeds) seat.client_is are) in
-    let plays : Plays first (placed_from client 1 steps ++ line ∷ []) (old.log.notes ++ more) = plays_more first (placed_from client 1 steps) line old.log.notes more seat.plays (all_at section 1 deeds) step_deeds in
+    let plays : Plays first (placed_from client 1 steps ++ line ∷ []) (old.log.notes ++ more) = plays_more first (placed_from client 1 steps) line old.log.notes more seat.plays (all_at line deeds) step_deeds in
     record {
       actor = ap (λ (log : Logged). log.actor) grows.log ∙ seat.actor;
       notes = notes ∙ (ap (λ ns. ns ++ more) seat.notes ∙ (ap (λ ns. notes_by (client + 1) all ++ ns) (sym (mine_happening (client + 1) section deeds)) ∙ sym (filter_map-append (note_by (client + 1)) all (happening (client + 1) section deeds))));
       client_is = grows.client ∙ (ap (λ (s : Client). after_all s deeds) seat.client_is ∙ (sym (client_more client capacity section 1 old.log.notes deeds) ∙ ap (client_after 1 client capacity) (sym notes)));
       linked = subst (λ (s : Client). IsNearLink s.link) (sym grows.client) (link_near old.client deeds near seat.linked);
-      follows = subst (Follows 1 client capacity) (sym notes) (follows_more client capacity section 1 old.log.notes old.client deeds seat.client_is seat.follows grows.allowed);
+      follows = subst (Follows 1 client capacity) (sym notes) (follows_more client capacity (at_section (beside old desk) section).log old.client deeds seat.client_is seat.follows grows.allowed);
       plays = subst (λ (ns : List Note). Plays first (placed_from client 1 (steps ++ step ∷ [])) ns) (sym notes) (subst (λ (ls : List Placed). Plays first ls (old.log.notes ++ more)) (sym lines) plays);
     }
 
@@ -193,36 +194,33 @@ new_more clients capacity seats seat are new = record {
 }
 
 -- at first there are no steps
-pub none_played : (clients limit capacity : ℕ) (table : Table) → IsNewTable clients limit capacity table → HasPlayed clients limit capacity [] table
-none_played clients limit capacity table new = record {
-  me = ap (λ (d : Keeps). d.me) new.desk;
-  n = ap (λ (d : Keeps). d.n) new.desk;
-  k = ap (λ (d : Keeps). d.k) new.desk;
-  limit_is = ap (λ (d : Keeps). d.limit) new.desk;
+pub none_played : (setup : Setup) (table : Table) → IsNewTable setup table → HasPlayed setup [] table
+none_played setup table new = record {
+  settings = ap (λ (d : DeskView). d.settings) new.desk;
   count = new.seats.count;
   all = [];
   text = new.text;
-  entries = ap (λ (d : Keeps). d.entries) new.desk;
+  entries = ap (λ (d : DeskView). d.entries) new.desk;
   of_steps = All-nil (IsOfStep []);
   ascend = tt;
-  seats = λ at seat there. subst (IsSeat (at + 1) capacity [] []) (sym (new.seats.each at seat there)) (record {
+  seats = λ at seat there. subst (IsSeat (at + 1) setup.capacity [] []) (sym (new.seats.each at seat there)) (record {
     actor = refl;
     notes = refl;
     client_is = refl;
     linked = tt;
     follows = each_none _;
-    plays = refl;
+    plays = no_steps;
   });
 }
 
 -- a client takes one step more
-one_more_played : (clients limit capacity section at : ℕ) (steps : List Step) (step : Step) (t u : Table) → IsStepOf clients step → at ≡ step.client - 1 → section ≡ 1 + length steps → HasPlayed clients limit capacity steps t → TakesAt section at step.does t u → HasPlayed clients limit capacity (steps ++ step ∷ []) u
-one_more_played clients limit capacity section at steps step t u is place same h k =
+one_more_played : (setup : Setup) (section at : ℕ) (steps : List Step) (step : Step) (t u : Table) → IsStepOf setup.clients step → at ≡ step.client - 1 → section ≡ 1 + length steps → HasPlayed setup steps t → TakesAt section at step.does t u → HasPlayed setup (steps ++ step ∷ []) u
+one_more_played setup section at steps step t u is place same h k =
     let deeds : List Deed = k.takes.deeds in
     let grows : Grows (at_section (beside k.seat t.desk) section) (beside k.later u.desk) deeds = k.takes.grows in
     let who : step.client ≡ at + 1 = omega (arith, place, is.client.0) in
-    let seat : IsSeat (at + 1) capacity steps h.all k.seat = h.seats at k.seat k.there in
-    let near : AreNear deeds = step_near k.seat.client step.does deeds is.does seat.linked k.takes.are in
+    let seat : IsSeat (at + 1) setup.capacity steps h.all k.seat = h.seats at k.seat k.there in
+    let near : AreNear deeds = step_near k.seat.client step.does deeds is.does seat.linked k.takes.such in
     let actor : k.seat.log.actor ≡ step.client + 1 = seat.actor ∙ ap (λ n. n + 1) (sym who) in
     let new : List Happened = happening (step.client + 1) section deeds in
     let notes : k.later.log.notes ≡ k.seat.log.notes ++ map (marked section 1) deeds = ap (λ (log : Logged). log.notes) grows.log in
@@ -230,14 +228,11 @@ one_more_played clients limit capacity section at steps step t u is place same h
     let whole : all_notes (h.all ++ new) ≡ all_notes h.all ++ map (marked section 1) deeds = map-append (λ (h : Happened). h.note) h.all new ∙ ap (λ ns. all_notes h.all ++ ns) (noted_happening (step.client + 1) section deeds) in
     let longer : length (steps ++ step ∷ []) ≡ section = omega (arith, same, length-append steps (step ∷ [])) in
     record {
-      me = ap (λ (d : Keeps). d.me) grows.desk ∙ h.me;
-      n = ap (λ (d : Keeps). d.n) grows.desk ∙ h.n;
-      k = ap (λ (d : Keeps). d.k) grows.desk ∙ h.k;
-      limit_is = ap (λ (d : Keeps). d.limit) grows.desk ∙ h.limit_is;
+      settings = ap (λ (d : DeskView). d.settings) grows.desk ∙ h.settings;
       count = ap (λ (seats : List Seated). length seats) k.seats ∙ (length-set t.seats.items at k.later ∙ h.count);
       all = h.all ++ new;
       text = k.told ∙ (ap (λ ns. t.text.items ++ notes_text ns) told ∙ (ap (λ bytes. bytes ++ notes_text (map (marked section 1) deeds)) h.text ∙ (sym (flat_map-append (λ (note : Note). told_text note.deed) (all_notes h.all) (map (marked section 1) deeds)) ∙ ap notes_text (sym whole))));
-      entries = ap (λ (d : Keeps). d.entries) grows.desk
+      entries = ap (λ (d : DeskView). d.entries) grows.desk
           ∙ (ap (λ n. t.desk.entries ++ filter_map (entry_of n) deeds) actor
           ∙ (ap (λ (es : List Entry). es ++ filter_map (entry_of (step.client + 1)) deeds) h.entries
           ∙ (ap (λ (es : List Entry). entries_in h.all ++ es) (sym (entered_happening (step.client + 1) section deeds))
@@ -247,22 +242,22 @@ one_more_played clients limit capacity section at steps step t u is place same h
           (steps_happening (steps ++ step ∷ []) step (length steps) section deeds (last_step steps step) (omega (arith, same)) near);
       ascend = subst (λ last. Ascend 1 last (all_notes (h.all ++ new))) (sym longer) (subst (Ascend 1 section) (sym whole) (ascend_then 1 (length steps) section (all_notes h.all) deeds (omega (arith, same)) (omega (arith, same)) h.ascend));
       seats = λ other found there. ⊎_elim
-          (λ here. subst (λ n. IsSeat (n + 1) capacity (steps ++ step ∷ []) (h.all ++ new) found) (sym here.0)
-          (subst (IsSeat (at + 1) capacity (steps ++ step ∷ []) (h.all ++ new)) here.1
-          (subst (λ n. IsSeat (at + 1) capacity (steps ++ step ∷ []) (h.all ++ happening (n + 1) section deeds) k.later) (sym who)
-          (seat_taken (at + 1) capacity section steps step h.all k.seat k.later deeds t.desk u.desk who same near seat k.takes.are grows))))
-          (λ away. seat_waited (other + 1) capacity section steps step h.all found deeds (λ e. away.0 (omega (arith, e, who))) (h.seats other found away.1))
+          (λ here. subst (λ n. IsSeat (n + 1) setup.capacity (steps ++ step ∷ []) (h.all ++ new) found) (sym here.0)
+          (subst (IsSeat (at + 1) setup.capacity (steps ++ step ∷ []) (h.all ++ new)) here.1
+          (subst (λ n. IsSeat (at + 1) setup.capacity (steps ++ step ∷ []) (h.all ++ happening (n + 1) section deeds) k.later) (sym who)
+          (seat_taken (at + 1) setup.capacity section steps step h.all k.seat k.later deeds t.desk u.desk who same near seat k.takes.such grows))))
+          (λ away. seat_waited (other + 1) setup.capacity section steps step h.all found deeds (λ e. away.0 (omega (arith, e, who))) (h.seats other found away.1))
           (put_in t.seats.items at other k.later found k.seat k.there (subst (λ (seats : List Seated). slice_get seats other ≡ Some found) k.seats there));
     }
 
 -- a client takes the next step
-pub next_played : (clients limit capacity section index at : ℕ) (steps : List Step) (step : Step) (t u : Table) → All (IsStepOf clients) steps → index < length steps → step ≡ get_or steps index step → at ≡ step.client - 1 → section ≡ 1 + index → HasPlayed clients limit capacity (take index steps) t → TakesAt section at step.does t u → HasPlayed clients limit capacity (take (index + 1) steps) u
-next_played clients limit capacity section index at steps step t u all low is place same h k =
-    let here : IsStepOf clients step = subst (IsStepOf clients) (sym is) (all index step low) in
+pub next_played : (setup : Setup) (section index at : ℕ) (steps : List Step) (step : Step) (t u : Table) → All (IsStepOf setup.clients) steps → index < length steps → step ≡ get_or steps index step → at ≡ step.client - 1 → section ≡ 1 + index → HasPlayed setup (take index steps) t → TakesAt section at step.does t u → HasPlayed setup (take (index + 1) steps) u
+next_played setup section index at steps step t u all low is place same h k =
+    let here : IsStepOf setup.clients step = subst (IsStepOf setup.clients) (sym is) (all index step low) in
     let one : index + 1 ≡ suc index = omega arith in
     let behind : section ≡ 1 + length (take index steps) = omega (arith, same, low, length-take index steps) in
     let more : take (index + 1) steps ≡ take index steps ++ step ∷ [] = ap (λ n. take n steps) one ∙ (take-suc steps index step low ∙ ap (λ (s : Step). take index steps ++ s ∷ []) (sym is)) in
-    subst (λ (l : List Step). HasPlayed clients limit capacity l u) (sym more) (one_more_played clients limit capacity section at (take index steps) step t u here place behind h k)
+    subst (λ (l : List Step). HasPlayed setup l u) (sym more) (one_more_played setup section at (take index steps) step t u here place behind h k)
 
 -- ---- the commits that a client has to push
 

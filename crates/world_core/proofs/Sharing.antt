@@ -8,25 +8,28 @@ use Rattle.std.proofs.lemmas.List.{length-append, length-map, get_or_append_left
 use Rattle.list_core.specs.Members.{In}
 use Rattle.list_core.proofs.Gets.{get_within, get_In}
 use Rattle.list_core.proofs.Members.{In_from_map, All-In}
+use Rattle.dc_talk.specs.declared.settings.Settings.{Settings}
 use Rattle.dc_talk.specs.declared.log.Note.{Note}
-use Rattle.dc_talk.specs.declared.trail.Entry.{Entry}
+use Rattle.dc_talk.specs.Entries.{Entry}
 use Rattle.dc_talk.specs.Logs.{Logged}
 use Rattle.dc_talk.specs.Clients.{new_client}
 use Rattle.dc_talk.specs.Answers.{History}
 use Rattle.dc_talk.specs.Rule.{Follows}
+use Rattle.script_text.specs.declared.script.Script.{Script}
 use Rattle.script_text.specs.declared.steps.Step.{Step}
 use Rattle.script_text.specs.Steps.{IsCount, IsStepOf}
 use Rattle.print_text.specs.Text.{told_text, notes_text, section_text, last_section, text_of}
 use Rattle.print_text.proofs.Texts.{own_section, other_section, IsToldBy, text_shared, most_within, section_within}
 use Rattle.run_book.specs.declared.book.Book.{Book}
-use Rattle.run_book.specs.Parts.{no_log, log_of, notes_of}
+use Rattle.run_book.specs.Parts.{idle_log, log_of, notes_of}
+use Rattle.run_book.specs.Setups.{setup_of}
 use Rattle.run_book.specs.Scripted.{Plays, placed_from}
-use Rattle.run_book.specs.Together.{Happened, notes_by, all_notes, IsOfStep, AreTogether, IsBookOf, idle_log}
+use Rattle.run_book.specs.Together.{Happened, notes_by, all_notes, IsOfStep, AreTogether, IsBookOf}
 use Rattle.run_book.proofs.Happened.{noted_none, actor_within}
 use Rattle.world_core.specs.declared.table.Table.{Table}
 use Rattle.client_stub.specs.Playing.{Seated}
 use Rattle.world_core.specs.Seating.{IsSeat, HasPlayed}
-use Rattle.world_core.specs.Shared.{IsSharedRun, logs_beside}
+use Rattle.world_core.specs.Shared.{IsInRange, IsSharedRun, logs_beside}
 
 -- ---- the lines of a section
 
@@ -90,105 +93,105 @@ image_at f (y ∷ xs) (suc place) x other there = image_at f xs place x other th
 abbrev workers : ℕ → List Logged
 workers clients = idle_log (clients + 2) ∷ (idle_log (clients + 3) ∷ (idle_log (clients + 4) ∷ (idle_log (clients + 5) ∷ [])))
 
-worker_notes : (clients place : ℕ) → (get_or (workers clients) place no_log).notes ≡ []
+worker_notes : (clients place : ℕ) → (get_or (workers clients) place (idle_log 0)).notes ≡ []
 worker_notes clients zero = refl
 worker_notes clients (suc zero) = refl
 worker_notes clients (suc (suc zero)) = refl
 worker_notes clients (suc (suc (suc zero))) = refl
 worker_notes clients (suc (suc (suc (suc place)))) = refl
 
-worker_actor : (clients place : ℕ) → place ≤ 3 → (get_or (workers clients) place no_log).actor ≡ clients + 2 + place
+worker_actor : (clients place : ℕ) → place ≤ 3 → (get_or (workers clients) place (idle_log 0)).actor ≡ clients + 2 + place
 worker_actor clients zero low = omega arith
 worker_actor clients (suc zero) low = omega arith
 worker_actor clients (suc (suc zero)) low = omega arith
 worker_actor clients (suc (suc (suc zero))) low = omega arith
 worker_actor clients (suc (suc (suc (suc place)))) low = absurd (omega (arith, low))
 
-module _ (clients limit capacity : ℕ) (steps : List Step) (table : Table) (some : IsCount 1024 clients) (within : All (IsStepOf clients) steps) (h : HasPlayed clients limit capacity steps table) where
-  -- the logs of the clients, and with those of the workers
+module _ (script : Script) (table : Table) (range : IsInRange script) (h : HasPlayed (setup_of script) script.steps table) where
+  -- the logs of the script.clients, and with those of the workers
   abbrev mine : List Logged
   mine = map (λ (seat : Seated). seat.log) table.seats.items
 
   abbrev others : List Logged
-  others = mine ++ workers clients
+  others = mine ++ workers script.clients
 
-  -- the actors are clients
-  acts : (it : Happened) → In it h.all → (2 ≤ it.actor) × (it.actor ≤ clients + 1)
-  acts it i = actor_within clients steps it within (All-In (IsOfStep steps) h.all it h.of_steps i)
+  -- the actors are script.clients
+  acts : (it : Happened) → In it h.all → (2 ≤ it.actor) × (it.actor ≤ script.clients + 1)
+  acts it i = actor_within script.clients script.steps it range.steps (All-In (IsOfStep script.steps) h.all it h.of_steps i)
 
-  idle : (a : ℕ) → ((2 ≤ a) × (a ≤ clients + 1) → ⊥) → notes_by a h.all ≡ []
+  idle : (a : ℕ) → ((2 ≤ a) × (a ≤ script.clients + 1) → ⊥) → notes_by a h.all ≡ []
   idle a out = noted_none a h.all (λ it i e. out (let who = acts it i in (omega (arith, who.0, e), omega (arith, who.1, e))))
 
   -- the log of a client, and of a worker
-  count : length (map (λ (seat : Seated). seat.log) table.seats.items) ≡ clients
+  count : length (map (λ (seat : Seated). seat.log) table.seats.items) ≡ script.clients
   count = length-map table.seats.items (λ (seat : Seated). seat.log) ∙ h.count
 
-  client_log : (place : ℕ) (low : place < clients) → (seat : Seated) × IsSeat (place + 1) capacity steps h.all seat × (get_or others place no_log ≡ seat.log)
+  client_log : (place : ℕ) (low : place < script.clients) → (seat : Seated) × IsSeat (place + 1) script.cache script.steps h.all seat × (get_or others place (idle_log 0) ≡ seat.log)
   client_log place low =
       let found = get_within table.seats.items place (omega (arith, low, h.count)) in
-      (found.0, h.seats place found.0 found.1, get_or_append_left mine (workers clients) no_log place (omega (arith, low, count)) ∙ image_at (λ (seat : Seated). seat.log) table.seats.items place found.0 no_log found.1)
+      (found.0, h.seats place found.0 found.1, get_or_append_left mine (workers script.clients) (idle_log 0) place (omega (arith, low, count)) ∙ image_at (λ (seat : Seated). seat.log) table.seats.items place found.0 (idle_log 0) found.1)
 
-  worker_log : (place : ℕ) → clients ≤ place → get_or others place no_log ≡ get_or (workers clients) (place - clients) no_log
-  worker_log place high = get_or-append_right mine (workers clients) clients place no_log count high
+  worker_log : (place : ℕ) → script.clients ≤ place → get_or others place (idle_log 0) ≡ get_or (workers script.clients) (place - script.clients) (idle_log 0)
+  worker_log place high = get_or-append_right mine (workers script.clients) script.clients place (idle_log 0) count high
 
-  other_notes : (place : ℕ) → (get_or others place no_log).notes ≡ notes_by (place + 2) h.all
+  other_notes : (place : ℕ) → (get_or others place (idle_log 0)).notes ≡ notes_by (place + 2) h.all
   other_notes place = ⊎_elim
       (λ low. let log = client_log place low in ap (λ (l : Logged). l.notes) log.2 ∙ (log.1.notes ∙ ap (λ a. notes_by a h.all) (omega arith)))
-      (λ high. ap (λ (l : Logged). l.notes) (worker_log place high) ∙ (worker_notes clients (place - clients) ∙ sym (idle (place + 2) (λ who. let top = who.1 in omega (arith, high, top)))))
-      (cases_lt place clients)
+      (λ high. ap (λ (l : Logged). l.notes) (worker_log place high) ∙ (worker_notes script.clients (place - script.clients) ∙ sym (idle (place + 2) (λ who. let top = who.1 in omega (arith, high, top)))))
+      (cases_lt place script.clients)
 
-  other_actor : (place : ℕ) → place ≤ clients + 3 → (get_or others place no_log).actor ≡ place + 2
+  other_actor : (place : ℕ) → place ≤ script.clients + 3 → (get_or others place (idle_log 0)).actor ≡ place + 2
   other_actor place top = ⊎_elim
       (λ low. let log = client_log place low in ap (λ (l : Logged). l.actor) log.2 ∙ (log.1.actor ∙ omega arith))
-      (λ high. ap (λ (l : Logged). l.actor) (worker_log place high) ∙ (worker_actor clients (place - clients) (omega (arith, high, top)) ∙ omega (arith, high)))
-      (cases_lt place clients)
+      (λ high. ap (λ (l : Logged). l.actor) (worker_log place high) ∙ (worker_actor script.clients (place - script.clients) (omega (arith, high, top)) ∙ omega (arith, high)))
+      (cases_lt place script.clients)
 
   -- ---- the book
 
   abbrev book : Book
-  book = record { n = 1; k = 1; trails = table.desk.entries ∷ []; logs = logs_beside clients mine }
+  book = record { n = 1; k = 1; trails = table.desk.entries ∷ []; logs = logs_beside script.clients mine }
 
   notes_at : (a : ℕ) → notes_of book a ≡ notes_by a h.all
   notes_at zero = sym (idle 0 (λ who. omega (arith, who.0)))
   notes_at (suc zero) = sym (idle 1 (λ who. omega (arith, who.0)))
   notes_at (suc (suc place)) = other_notes place ∙ ap (λ a. notes_by a h.all) (omega arith)
 
-  actor_at : (a : ℕ) → 1 ≤ a → a ≤ clients + 5 → (log_of book a).actor ≡ a
+  actor_at : (a : ℕ) → 1 ≤ a → a ≤ script.clients + 5 → (log_of book a).actor ≡ a
   actor_at zero low high = absurd (omega (arith, low))
   actor_at (suc zero) low high = refl
   actor_at (suc (suc place)) low high = other_actor place (omega (arith, high)) ∙ omega arith
 
-  book_is : IsBookOf book clients h.all
+  book_is : IsBookOf book script.clients h.all
   book_is = record {
     n = refl;
     k = refl;
     trails = ap (λ es. es ∷ []) h.entries;
-    count = let all = length-append mine (workers clients) in omega (arith, all, count);
+    count = let all = length-append mine (workers script.clients) in omega (arith, all, count);
     actors = actor_at;
     notes = notes_at;
   }
 
   -- ---- what each client did
 
-  seat_of : (client : ℕ) → IsCount clients client → (seat : Seated) × IsSeat client capacity steps h.all seat
+  seat_of : (client : ℕ) → IsCount script.clients client → (seat : Seated) × IsSeat client script.cache script.steps h.all seat
   seat_of client is =
       let log = client_log (client - 1) (omega (arith, is.0, is.1)) in
-      (log.0, subst (λ c. IsSeat c capacity steps h.all log.0) (omega (arith, is.0)) log.1)
+      (log.0, subst (λ c. IsSeat c script.cache script.steps h.all log.0) (omega (arith, is.0)) log.1)
 
-  follows : (client : ℕ) → IsCount clients client → Follows 1 client capacity (notes_by (client + 1) h.all)
-  follows client is = let seat = seat_of client is in subst (Follows 1 client capacity) seat.1.notes seat.1.follows
+  follows : (client : ℕ) → IsCount script.clients client → Follows 1 client script.cache (notes_by (client + 1) h.all)
+  follows client is = let seat = seat_of client is in subst (Follows 1 client script.cache) seat.1.notes seat.1.follows
 
-  plays : (client : ℕ) → IsCount clients client → Plays (new_client 1 client capacity) (placed_from client 1 steps) (notes_by (client + 1) h.all)
-  plays client is = let seat = seat_of client is in subst (λ ns. Plays (new_client 1 client capacity) (placed_from client 1 steps) ns) seat.1.notes seat.1.plays
+  plays : (client : ℕ) → IsCount script.clients client → Plays (new_client 1 client script.cache) (placed_from client 1 script.steps) (notes_by (client + 1) h.all)
+  plays client is = let seat = seat_of client is in subst (λ ns. Plays (new_client 1 client script.cache) (placed_from client 1 script.steps) ns) seat.1.notes seat.1.plays
 
-  together : History table.desk.me table.desk.n table.desk.k table.desk.limit table.desk.entries → AreTogether clients limit capacity steps h.all
+  -- the settings of the only centre
+  abbrev only_centre : Settings
+  only_centre = record { me = 1; n = 1; k = 1; limit = script.limit }
+
+  together : History table.desk.settings table.desk.entries → AreTogether (setup_of script) script.steps h.all
   together history = record {
-    history = subst (History 1 1 1 limit) h.entries
-        (subst (λ m. History 1 1 1 m table.desk.entries) h.limit_is
-        (subst (λ k. History 1 1 k table.desk.limit table.desk.entries) h.k
-        (subst (λ n. History 1 n table.desk.k table.desk.limit table.desk.entries) h.n
-        (subst (λ me. History me table.desk.n table.desk.k table.desk.limit table.desk.entries) h.me history))));
-    within = within;
+    history = subst (λ (es : List Entry). History only_centre es) h.entries (subst (λ (s : Settings). History s table.desk.entries) h.settings history);
+    within = range.steps;
     of_steps = h.of_steps;
     ascend = h.ascend;
     follows = follows;
@@ -198,14 +201,14 @@ module _ (clients limit capacity : ℕ) (steps : List Step) (table : Table) (som
   -- ---- the text
 
   -- the log of an actor that is a client
-  log_at : (a : ℕ) → 2 ≤ a → a ≤ clients + 1 → (log : Logged) × (slice_get others (a - 2) ≡ Some log)
-  log_at a low high = let all = length-append mine (workers clients) in get_within others (a - 2) (omega (arith, low, high, all, count))
+  log_at : (a : ℕ) → 2 ≤ a → a ≤ script.clients + 1 → (log : Logged) × (slice_get others (a - 2) ≡ Some log)
+  log_at a low high = let all = length-append mine (workers script.clients) in get_within others (a - 2) (omega (arith, low, high, all, count))
 
   noted_at : (place : ℕ) (log : Logged) → slice_get others place ≡ Some log → log.notes ≡ notes_by (place + 2) h.all
-  noted_at place log there = ap (λ (l : Logged). l.notes) (sym (get_or_from_slice_get others place log no_log there)) ∙ other_notes place
+  noted_at place log there = ap (λ (l : Logged). l.notes) (sym (get_or_from_slice_get others place log (idle_log 0) there)) ∙ other_notes place
 
   -- a section in which one client alone noted anything
-  told_by : (section a : ℕ) → 2 ≤ a → a ≤ clients + 1 → ((it : Happened) → In it h.all → it.note.section ≡ section → it.actor ≡ a) → IsToldBy section others (all_notes h.all)
+  told_by : (section a : ℕ) → 2 ≤ a → a ≤ script.clients + 1 → ((it : Happened) → In it h.all → it.note.section ≡ section → it.actor ≡ a) → IsToldBy section others (all_notes h.all)
   told_by section a low high own =
       let found = log_at a low high in
       let here : a - 2 + 2 ≡ a = omega (arith, low) in
@@ -218,41 +221,41 @@ module _ (clients limit capacity : ℕ) (steps : List Step) (table : Table) (som
       }
 
   -- the client of a section's step
-  told_in : (section place : ℕ) (o : Option Step) → section ≡ place + 1 → slice_get steps place ≡ o → IsToldBy section others (all_notes h.all)
-  told_in section place None same none = told_by section 2 (omega arith) (omega (arith, some.0)) (λ it i e. absurd (let of = All-In (IsOfStep steps) h.all it h.of_steps i in let at : of.place ≡ place = omega (arith, of.section, e, same) in none-some of.step (sym none ∙ (ap (slice_get steps) (sym at) ∙ of.there))))
+  told_in : (section place : ℕ) (o : Option Step) → section ≡ place + 1 → slice_get script.steps place ≡ o → IsToldBy section others (all_notes h.all)
+  told_in section place None same none = told_by section 2 (omega arith) (omega (arith, range.clients.0)) (λ it i e. absurd (let of = All-In (IsOfStep script.steps) h.all it h.of_steps i in let at : of.place ≡ place = omega (arith, of.section, e, same) in none-some of.step (sym none ∙ (ap (slice_get script.steps) (sym at) ∙ of.there))))
   told_in section place (Some step) same there =
-      let is = All-In (IsStepOf clients) steps step within (get_In steps place step there) in
+      let is = All-In (IsStepOf script.clients) script.steps step range.steps (get_In script.steps place step there) in
       told_by section (step.client + 1) (omega (arith, is.client.0)) (omega (arith, is.client.1)) (λ it i e.
-      let of = All-In (IsOfStep steps) h.all it h.of_steps i in
+      let of = All-In (IsOfStep script.steps) h.all it h.of_steps i in
       let at : of.place ≡ place = omega (arith, of.section, e, same) in
-      of.actor ∙ ap (λ (s : Step). s.client + 1) (same_Some of.step step (sym of.there ∙ (ap (slice_get steps) at ∙ there))))
+      of.actor ∙ ap (λ (s : Step). s.client + 1) (same_Some of.step step (sym of.there ∙ (ap (slice_get script.steps) at ∙ there))))
 
   told : (section : ℕ) → IsToldBy section others (all_notes h.all)
-  told zero = told_by 0 2 (omega arith) (omega (arith, some.0)) (λ it i e. absurd (let of = All-In (IsOfStep steps) h.all it h.of_steps i in omega (arith, of.section, e)))
-  told (suc place) = told_in (suc place) place (slice_get steps place) (omega arith) refl
+  told zero = told_by 0 2 (omega arith) (omega (arith, range.clients.0)) (λ it i e. absurd (let of = All-In (IsOfStep script.steps) h.all it h.of_steps i in omega (arith, of.section, e)))
+  told (suc place) = told_in (suc place) place (slice_get script.steps place) (omega arith) refl
 
   -- the sections of the notes are within the greatest
-  within_last : (note : Note) → In note (all_notes h.all) → note.section ≤ last_section (logs_beside clients mine)
+  within_last : (note : Note) → In note (all_notes h.all) → note.section ≤ last_section (logs_beside script.clients mine)
   within_last note i =
       let from = In_from_map (λ (it : Happened). it.note) h.all note i in
       let who = acts from.0 from.1 in
       let found = log_at from.0.actor who.0 who.1 in
       let here : from.0.actor - 2 + 2 ≡ from.0.actor = omega (arith, who.0) in
       let mine : In note (notes_by from.0.actor h.all) = subst (λ n. In n (notes_by from.0.actor h.all)) (sym from.2) (own_note from.0.actor h.all from.0 from.1 refl) in
-      section_within (logs_beside clients (map (λ (seat : Seated). seat.log) table.seats.items)) (suc (from.0.actor - 2)) found.0 note found.1 (subst (In note) (sym (noted_at (from.0.actor - 2) found.0 found.1 ∙ ap (λ a. notes_by a h.all) here)) mine)
+      section_within (logs_beside script.clients (map (λ (seat : Seated). seat.log) table.seats.items)) (suc (from.0.actor - 2)) found.0 note found.1 (subst (In note) (sym (noted_at (from.0.actor - 2) found.0 found.1 ∙ ap (λ a. notes_by a h.all) here)) mine)
 
-  text_is : notes_text (all_notes h.all) ≡ text_of (logs_beside clients mine)
-  text_is = sym (text_shared (length steps) (idle_log 1) others (all_notes h.all) refl told (most_within (last_section (logs_beside clients mine)) (all_notes h.all) within_last) h.ascend)
+  text_is : notes_text (all_notes h.all) ≡ text_of (logs_beside script.clients mine)
+  text_is = sym (text_shared (length script.steps) (idle_log 1) others (all_notes h.all) refl told (most_within (last_section (logs_beside script.clients mine)) (all_notes h.all) within_last) h.ascend)
 
   -- the run
-  pub shared : History table.desk.me table.desk.n table.desk.k table.desk.limit table.desk.entries → IsSharedRun clients limit capacity steps book table.text.items
+  pub shared : History table.desk.settings table.desk.entries → IsSharedRun script book table.text.items
   shared history = record { all = h.all; together = together history; book_is = book_is; text_is = h.text ∙ text_is }
 
 -- what was played makes a run
-pub shared_run : (clients limit capacity : ℕ) (steps : List Step) (table : Table) (trail : List Entry) (seats : List Seated) (text : List ℕ) (b : Book) → IsCount 1024 clients → All (IsStepOf clients) steps → HasPlayed clients limit capacity steps table → trail ≡ table.desk.entries → seats ≡ table.seats.items → text ≡ table.text.items → History table.desk.me table.desk.n table.desk.k table.desk.limit trail → b ≡ record { n = 1; k = 1; trails = trail ∷ []; logs = logs_beside clients (map (λ (seat : Seated). seat.log) seats) } → IsSharedRun clients limit capacity steps b text
-shared_run clients limit capacity steps table trail seats text b some within h trail_is seats_is text_is history b_is =
-    let spelled : b ≡ record { n = 1; k = 1; trails = table.desk.entries ∷ []; logs = logs_beside clients (map (λ (seat : Seated). seat.log) table.seats.items) } =
-    b_is ∙ (ap (λ es. record { n = 1; k = 1; trails = es ∷ []; logs = logs_beside clients (map (λ (seat : Seated). seat.log) seats) }) trail_is ∙ ap (λ (ss : List Seated). record { n = 1; k = 1; trails = table.desk.entries ∷ []; logs = logs_beside clients (map (λ (seat : Seated). seat.log) ss) }) seats_is) in
-    subst (λ b. IsSharedRun clients limit capacity steps b text) (sym spelled)
-    (subst (λ bytes. IsSharedRun clients limit capacity steps (record { n = 1; k = 1; trails = table.desk.entries ∷ []; logs = logs_beside clients (map (λ (seat : Seated). seat.log) table.seats.items) }) bytes) (sym text_is)
-    (shared clients limit capacity steps table some within h (subst (λ es. History table.desk.me table.desk.n table.desk.k table.desk.limit es) trail_is history)))
+pub shared_run : (script : Script) (table : Table) (trail : List Entry) (seats : List Seated) (text : List ℕ) (b : Book) → IsInRange script → HasPlayed (setup_of script) script.steps table → trail ≡ table.desk.entries → seats ≡ table.seats.items → text ≡ table.text.items → History table.desk.settings trail → b ≡ record { n = 1; k = 1; trails = trail ∷ []; logs = logs_beside script.clients (map (λ (seat : Seated). seat.log) seats) } → IsSharedRun script b text
+shared_run script table trail seats text b range h trail_is seats_is text_is history b_is =
+    let spelled : b ≡ record { n = 1; k = 1; trails = table.desk.entries ∷ []; logs = logs_beside script.clients (map (λ (seat : Seated). seat.log) table.seats.items) } =
+    b_is ∙ (ap (λ es. record { n = 1; k = 1; trails = es ∷ []; logs = logs_beside script.clients (map (λ (seat : Seated). seat.log) seats) }) trail_is ∙ ap (λ (ss : List Seated). record { n = 1; k = 1; trails = table.desk.entries ∷ []; logs = logs_beside script.clients (map (λ (seat : Seated). seat.log) ss) }) seats_is) in
+    subst (λ b. IsSharedRun script b text) (sym spelled)
+    (subst (λ bytes. IsSharedRun script (record { n = 1; k = 1; trails = table.desk.entries ∷ []; logs = logs_beside script.clients (map (λ (seat : Seated). seat.log) table.seats.items) }) bytes) (sym text_is)
+    (shared script table range h (subst (λ es. History table.desk.settings es) trail_is history)))

@@ -1,11 +1,12 @@
 -- Clients beside one centre, and what they did.
 use Rattle.std.specs.Prelude.{◌≡◌, ℕ, ◌+◌, length, drop, List, [], ◌++◌, All, Option, Some, None, slice_get, slice_set}
-use Rattle.dc_talk.specs.declared.session.Link.{Link}
+use Rattle.dc_talk.specs.declared.calls.Connection.{Connection}
 use Rattle.dc_talk.specs.Logs.{Ascend}
 use Rattle.dc_talk.specs.Clients.{new_client}
 use Rattle.dc_talk.specs.Rule.{client_after, Follows}
 use Rattle.script_text.specs.declared.steps.ClientStep.{ClientStep}
 use Rattle.script_text.specs.declared.steps.Step.{Step}
+use Rattle.run_book.specs.Setups.{Setup}
 use Rattle.run_book.specs.Scripted.{Plays, placed_from}
 use Rattle.run_book.specs.Together.{Happened, notes_by, all_notes, entries_in, IsOfStep}
 use Rattle.print_text.specs.Text.{notes_text}
@@ -22,7 +23,7 @@ pub record TakesAt (section at : ℕ) (does : ClientStep) (old new : Table) : Ty
   pub told : new.text.items ≡ old.text.items ++ notes_text (drop (length seat.log.notes) later.log.notes)
 
 -- there is no link, or one to centre 1
-abbrev pub IsNearLink : Option Link → Type 0
+abbrev pub IsNearLink : Option Connection → Type 0
 IsNearLink None = Unit {0}
 IsNearLink (Some link) = link.centre ≡ 1
 
@@ -31,10 +32,10 @@ pub record AreNew (clients capacity : ℕ) (seats : List Seated) : Type 0 where
   pub count : length seats ≡ clients
   pub each : (at : ℕ) (seat : Seated) → slice_get seats at ≡ Some seat → seat ≡ new_seat (at + 1) 1 capacity
 
--- the only centre and so many clients, all at first
-pub record IsNewTable (clients limit capacity : ℕ) (table : Table) : Type 0 where
-  pub desk : table.desk ≡ record { me = 1; n = 1; k = 1; limit = limit; entries = [] }
-  pub seats : AreNew clients capacity table.seats.items
+-- the only centre and the clients of a setup, all at first
+pub record IsNewTable (setup : Setup) (table : Table) : Type 0 where
+  pub desk : table.desk ≡ record { settings = record { me = 1; n = 1; k = 1; limit = setup.limit }; entries = [] }
+  pub seats : AreNew setup.clients setup.capacity table.seats.items
   pub text : table.text.items ≡ []
 
 -- a client's seat once these steps were taken and this happened
@@ -47,15 +48,12 @@ pub record IsSeat (client capacity : ℕ) (steps : List Step) (all : List Happen
   pub plays : Plays (new_client 1 client capacity) (placed_from client 1 steps) seat.log.notes
 
 -- the clients took these steps beside the only centre, each in a section of its own
-pub record HasPlayed (clients limit capacity : ℕ) (steps : List Step) (table : Table) : Type 0 where
-  pub me : table.desk.me ≡ 1
-  pub n : table.desk.n ≡ 1
-  pub k : table.desk.k ≡ 1
-  pub limit_is : table.desk.limit ≡ limit
-  pub count : length table.seats.items ≡ clients
+pub record HasPlayed (setup : Setup) (steps : List Step) (table : Table) : Type 0 where
+  pub settings : table.desk.settings ≡ record { me = 1; n = 1; k = 1; limit = setup.limit }
+  pub count : length table.seats.items ≡ setup.clients
   pub all : List Happened
   pub text : table.text.items ≡ notes_text (all_notes all)
   pub entries : table.desk.entries ≡ entries_in all
   pub of_steps : All (IsOfStep steps) all
   pub ascend : Ascend 1 (length steps) (all_notes all)
-  pub seats : (at : ℕ) (seat : Seated) → slice_get table.seats.items at ≡ Some seat → IsSeat (at + 1) capacity steps all seat
+  pub seats : (at : ℕ) (seat : Seated) → slice_get table.seats.items at ≡ Some seat → IsSeat (at + 1) setup.capacity steps all seat

@@ -1,5 +1,6 @@
 // The clients of a script beside the one centre.
 ghost use Rattle.std.specs.Prelude.{◌≡◌, ◌≤◌, ◌<◌, ◌++◌, length, drop, Some, IfOk, OnOk, slice_get};
+ghost use Rattle.ids_core.specs.declared.limits.TheConstants.{MOST_CLIENTS, MOST_RECORDS};
 ghost use Rattle.dc_talk.specs.Answers.{History};
 ghost use Rattle.print_text.specs.Text.{notes_text};
 ghost use Rattle.client_stub.specs.Playing.{Seated};
@@ -7,8 +8,9 @@ ghost use Rattle.client_stub.specs.Flushing.{IsInTurn};
 ghost use Rattle.world_core.specs.Seating.{AreNew, IsNewTable, TakesAt};
 
 use client_stub::Seat;
-use dc_centre::Desk;
-use dc_talk::{Note, Trail};
+use dc_centre::{Centre, Desk};
+use dc_talk::{Note, Settings};
+use hist_lock::Trail;
 use ids_core::NoMemory;
 use print_text::write_notes;
 use script_text::ClientStep;
@@ -26,13 +28,13 @@ pub struct Table {
 impl Table {
     /// So many clients beside the one centre, all at first.
     pub fn new(alloc: Global, clients: u32, cache: usize, limit: u64) -> Result<Table, NoMemory>
-        requires clients { clients ≤ 1024 }
+        requires clients { clients ≤ MOST_CLIENTS }
         requires cache { 1 ≤ cache }
-        requires most { (1 ≤ limit) × (limit ≤ 1000000) }
-        ensures { IfOk result (λ table. IsNewTable clients limit cache table) }
+        requires most { (1 ≤ limit) × (limit ≤ MOST_RECORDS) }
+        ensures { IfOk result (IsNewTable (record { clients = clients; limit = limit; capacity = cache })) }
     {
         Ok(Table {
-            desk: Desk::new(alloc, 1, 1, 1, limit)?,
+            desk: Desk::new(alloc, only_centre(limit))?,
             seats: new_seats(alloc, clients, cache)?,
             text: Vec::new(alloc),
         })
@@ -58,9 +60,9 @@ impl Table {
     }
 
     /// The trail of the centre, a history of it, the clients, and the text.
-    pub fn into_parts(self) -> (Trail, Vec<Seat>, Vec<u8>)
+    pub fn into_parts(self) -> (Trail<Centre>, Vec<Seat>, Vec<u8>)
         ensures trail { result.0.entries ≡ self.desk.entries }
-        ensures history { History self.desk.me self.desk.n self.desk.k self.desk.limit result.0.entries }
+        ensures history { History self.desk.settings result.0.entries }
         ensures seats { result.1 ≡ self.seats }
         ensures text { result.2 ≡ self.text }
     {
@@ -68,9 +70,21 @@ impl Table {
     }
 }
 
+// The settings of the only centre, which stamps at most `limit` transactions.
+fn only_centre(limit: u64) -> Settings
+    ensures { result ≡ record { me = 1; n = 1; k = 1; limit = limit } }
+{
+    Settings {
+        me: 1,
+        n: 1,
+        k: 1,
+        limit,
+    }
+}
+
 // So many clients at first, with caches for so many entries.
 fn new_seats(alloc: Global, clients: u32, cache: usize) -> Result<Vec<Seat>, NoMemory>
-    requires clients { clients ≤ 1024 }
+    requires clients { clients ≤ MOST_CLIENTS }
     requires cache { 1 ≤ cache }
     ensures { IfOk result (λ seats. AreNew clients cache seats.items) }
 {

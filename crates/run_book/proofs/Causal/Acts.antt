@@ -15,7 +15,7 @@ use Rattle.tx_core.specs.declared.op.Op.{Op}
 use Rattle.tx_core.specs.declared.tx.Update.{Update}
 use Rattle.dc_talk.specs.Objects.{mark, ops_from}
 use Rattle.tx_graph.specs.Nodes.{Node}
-use Rattle.tx_graph.specs.Values.{Act, acts_from, acts_of, acts_over, nodes_in}
+use Rattle.tx_graph.specs.Values.{Act, acts_from, acts_of, nodes_in, acts_over}
 use Rattle.run_book.proofs.Causal.InView.{node_ops, ops_in, ops_over, with_first}
 use Rattle.run_book.proofs.Causal.SetNodes.{StandsIn, over_from}
 
@@ -49,8 +49,12 @@ flat_acts_are o (t ∷ ts) =
     ∙ (ap (λ l. l ++ map op_of_act (flat_map (acts_of o) ts)) (node_acts_are o t)
     ∙ ap (λ l. node_ops o t ++ l) (flat_acts_are o ts))
 
+-- the acts over a set of dots, and those of an open node behind them
+abbrev pub acts_with : List Node → List Dot → Node → ObjectId → List Act
+acts_with nodes set last o = acts_over nodes set o ++ acts_of o last
+
 -- the acts over a set and an open node are the operations over them
-pub acts_over_are : (nodes : List Node) (set : List Dot) (last : Node) (o : ObjectId) → map op_of_act (acts_over nodes set last o) ≡ ops_over nodes set last o
+pub acts_over_are : (nodes : List Node) (set : List Dot) (last : Node) (o : ObjectId) → map op_of_act (acts_with nodes set last o) ≡ ops_over nodes set last o
 acts_over_are nodes set last o =
     map-append op_of_act (flat_map (acts_of o) (nodes_in nodes set)) (acts_of o last)
     ∙ (ap (λ l. l ++ map op_of_act (acts_of o last)) (flat_acts_are o (nodes_in nodes set))
@@ -151,7 +155,7 @@ pub record IsActIn (nodes : List Node) (set : List Dot) (last : Node) (o : Objec
   pub update : IsActOf o node act
 
 -- each act over a set and an open node is one
-pub act_in : (nodes : List Node) (set : List Dot) (last : Node) (o : ObjectId) (act : Act) → In act (acts_over nodes set last o) → IsActIn nodes set last o act
+pub act_in : (nodes : List Node) (set : List Dot) (last : Node) (o : ObjectId) (act : Act) → In act (acts_with nodes set last o) → IsActIn nodes set last o act
 act_in nodes set last o act i = let r = over_from (acts_of o) nodes set last act i in record { node = r.0; stands = r.1; own = r.2; update = is_act_of o r.0 act r.2 }
 
 -- ---- the first updates of a node

@@ -8,13 +8,13 @@ use Rattle.tx_core.specs.declared.tx.Update.{Update}
 use Rattle.tx_core.specs.declared.state.State.{State}
 use Rattle.tx_core.specs.States.{tags_of}
 use Rattle.tx_core.specs.Ops.{sort_of_op, over_of, name_of}
-use Rattle.dc_talk.specs.declared.session.Change.{Change}
-use Rattle.dc_talk.specs.declared.session.Change.TheVariants.{Inc, Write}
-use Rattle.dc_talk.specs.declared.session.Outcome.TheVariants.{Fine, Refused}
-use Rattle.dc_talk.specs.declared.session.Refusal.TheVariants.{NeedsFetch}
+use Rattle.dc_talk.specs.declared.calls.Change.{Change}
+use Rattle.dc_talk.specs.declared.calls.Change.TheVariants.{Inc, Write}
+use Rattle.dc_talk.specs.declared.calls.Outcome.TheVariants.{Fine, Refused}
+use Rattle.dc_talk.specs.declared.calls.Refusal.TheVariants.{NeedsFetch}
 use Rattle.dc_talk.specs.declared.log.Note.{Note}
 use Rattle.dc_talk.specs.Clients.{Client, draft_updates, cached, view}
-use Rattle.dc_talk.specs.Calls.{kind_of, named, op_of, viewed, tags_in, over, look_up_outcome}
+use Rattle.dc_talk.specs.Calls.{sort_of_change, named, op_of, viewed, tags_in, over, look_up_outcome}
 use Rattle.dc_talk.specs.Rule.{client_after, commits_of, Follows}
 use Rattle.run_book.proofs.Sessions.{change_fine}
 use Rattle.run_book.proofs.Causal.Operations.{HasKinds}
@@ -23,7 +23,7 @@ use Rattle.run_book.proofs.Causal.Drafts.{IsOfDrafts, HoldsOf, holds_after}
 -- ---- one change
 
 -- its operation is of its kind
-pub kind_of_op : (change : Change) (ids : List OpId) → sort_of_op (op_of change ids) ≡ kind_of change
+pub kind_of_op : (change : Change) (ids : List OpId) → sort_of_op (op_of change ids) ≡ sort_of_change change
 kind_of_op (Inc delta) ids = refl
 kind_of_op _ ids = refl
 

@@ -27,24 +27,23 @@ use Rattle.dc_talk.specs.declared.ask.Ask.{Ask}
 use Rattle.dc_talk.specs.declared.ask.Ask.TheVariants.{Hello, Refresh, Fetch, Commit}
 use Rattle.dc_talk.specs.declared.say.Say.{Say}
 use Rattle.dc_talk.specs.declared.say.Say.TheVariants.{Misfit, Lacks, Object}
-use Rattle.dc_talk.specs.declared.session.Link.{Link}
-use Rattle.dc_talk.specs.declared.trail.Entry.{Entry}
+use Rattle.dc_talk.specs.declared.calls.Connection.{Connection}
+use Rattle.dc_talk.specs.Entries.{Entry}
 use Rattle.dc_talk.specs.Records.{vector, guard, inside, has, firsts}
 use Rattle.dc_talk.specs.Objects.{state_at, ops_of}
 use Rattle.dc_talk.specs.Trails.{stable}
-use Rattle.dc_talk.specs.Answers.{fits, is_client_number, lacking, snap_at, row}
+use Rattle.dc_talk.specs.Answers.{fits, lacking, snap_at, row}
 use Rattle.dc_talk.specs.Clients.{Client, settled, same_vector}
 use Rattle.dc_talk.specs.Rule.{takes, IsLinked, Sends, next_commit}
 use Rattle.dc_talk.proofs.Answers.{lack_fails, commit_holds, answer_holds, no_misfit}
 use Rattle.dc_talk.proofs.ClientAnswers.{object_by}
 use Rattle.dc_talk.proofs.Counts.{in_guard}
 use Rattle.dc_talk.proofs.Growth.{later_covers, later_guard}
+use Rattle.run_book.specs.Setups.{Setup, centre_settings}
 use Rattle.run_book.specs.declared.book.Book.{Book}
-use Rattle.run_book.specs.Parts.{trail_of, notes_of, IsClient}
+use Rattle.run_book.specs.Parts.{trail_of, notes_of, IsClient, applied_at}
 use Rattle.run_book.specs.Fit.{FitsWith}
-use Rattle.run_book.specs.Graphs.{cover, client_at}
-use Rattle.run_book.specs.Causal.{commits_at}
-use Rattle.run_book.specs.Laws.{applied_at}
+use Rattle.run_book.specs.Graphs.{cover, client_at, commits_at}
 use Rattle.run_book.specs.Refusals.{Makes, IsPushAnswer, IsNoRefusal}
 use Rattle.run_book.proofs.Numbered.{numbered_at}
 use Rattle.run_book.proofs.Held.{Held, dot_at, held_after}
@@ -55,6 +54,8 @@ use Rattle.run_book.proofs.Causal.OneList.{covered_inside}
 use Rattle.run_book.proofs.Causal.SessionStates.{standing}
 use Rattle.run_book.proofs.Causal.Links.{same_hello, no_sooner, linked}
 use Rattle.run_book.proofs.Causal.FitCommits.{commits_fit}
+use Rattle.ids_core.specs.declared.limits.TheConstants.{MOST_CLIENTS}
+use Rattle.tx_core.specs.Checks.{is_within}
 
 -- ---- states and vectors
 
@@ -81,49 +82,49 @@ same_vector-itself v w is = (pointwise_decides Decides-eqb v w).1 is
 no_refusal : (say : Say) → (say ≡ Misfit → ⊥) → ((centre need have : ℕ) → say ≡ Lacks centre need have → ⊥) → IsNoRefusal say
 no_refusal say fits lacks = record { fits = fits; lacks = lacks }
 
-module _ (b : Book) (clients limit capacity : ℕ) (fit : FitsWith b clients limit capacity) (a m : ℕ) (client : IsClient clients a) where
+module _ (b : Book) (setup : Setup) (fit : FitsWith b setup) (a m : ℕ) (client : IsClient setup a) where
   -- ---- what the centre has
 
   -- the entry of an ask that the client makes
-  entry_of : (i : ℕ) (ask : Ask) (say : Say) → Makes b clients capacity a m i ask say → HasEntry b limit a i ask say (take m (notes_of b a))
-  entry_of i ask say x = has_entry b clients limit capacity fit a m x.note i ask x.fate say (omega (arith, client.low)) (omega (arith, client.high, fit.form.logs)) x.there x.is x.told
+  entry_of : (i : ℕ) (ask : Ask) (say : Say) → Makes b setup (record { actor = a; place = m; centre = i; ask = ask; answer = say }) → HasEntry b setup i (record { caller = a; ask = ask; say = say }) (take m (notes_of b a))
+  entry_of i ask say x = has_entry b setup fit a m x.note i ask x.fate say (omega (arith, client.low)) (omega (arith, client.high, fit.form.logs)) x.there x.deed_is x.told
 
   -- the client is the actor's
-  who : (client_at b capacity a m).client ≡ a - 1
-  who = (held_after b.n (a - 1) capacity (notes_of b a) (fit.follows a client) m).who
+  who : (client_at b setup a m).client ≡ a - 1
+  who = (held_after b.n (a - 1) setup.capacity (notes_of b a) (fit.follows a client) m).who
 
   -- its number is in range
-  is_numbered : (c : ℕ) → c ≡ (client_at b capacity a m).client → is_client_number c ≡ true
-  is_numbered c same = and_from (nat_le 1 c) (nat_le c 1024) (le-leb 1 c (omega (arith, same, who, client.low))) (le-leb c 1024 (omega (arith, same, who, client.low, client.high, fit.form.clients_range.1)))
+  is_numbered : (c : ℕ) → c ≡ (client_at b setup a m).client → is_within 1 MOST_CLIENTS c ≡ true
+  is_numbered c same = and_from (nat_le 1 c) (nat_le c MOST_CLIENTS) (le-leb 1 c (omega (arith, same, who, client.low))) (le-leb c MOST_CLIENTS (omega (arith, same, who, client.low, client.high, fit.form.clients_range.1)))
 
   -- its vector has an entry for each centre
-  is_wide : (here : List ℕ) → here ≡ (client_at b capacity a m).vector → (length here == b.n) ≡ true
-  is_wide here same = eq-eqb (length here) b.n (ap length same ∙ wide_after b.n (a - 1) capacity (take m (notes_of b a)))
+  is_wide : (here : List ℕ) → here ≡ (client_at b setup a m).vector → (length here == b.n) ≡ true
+  is_wide here same = eq-eqb (length here) b.n (ap length same ∙ wide_after b.n (a - 1) setup.capacity (take m (notes_of b a)))
 
   -- at an exchange the connected centre has what the session's vector covers, and what the link says
-  record HasLinked (link : Link) (place : ℕ) : Type 0 where
-    covered : Covers (vector b.n (applied_at b link.centre place)) (client_at b capacity a m).vector
+  record HasLinked (link : Connection) (place : ℕ) : Type 0 where
+    covered : Covers (vector b.n (applied_at b link.centre place)) (client_at b setup a m).vector
     sent : link.sent ≤ guard (a - 1) (applied_at b link.centre place)
 
   -- so it is at each exchange
-  has_linked : (link : Link) → (client_at b capacity a m).link ≡ Some link → (ask : Ask) (say : Say) (x : HasEntry b limit a link.centre ask say (take m (notes_of b a))) → HasLinked link x.place
+  has_linked : (link : Connection) → (client_at b setup a m).link ≡ Some link → (ask : Ask) (say : Say) (x : HasEntry b setup link.centre (record { caller = a; ask = ask; say = say }) (take m (notes_of b a))) → HasLinked link x.place
   has_linked link is ask say x =
-      let r = linked b clients limit capacity fit a client m link is in
-      let le = no_sooner b limit a (take m (notes_of b a)) (client_at b capacity a m).vector link ask say x r in
+      let r = linked b setup fit a client m link is in
+      let le = no_sooner b setup a (take m (notes_of b a)) (client_at b setup a m).vector link ask say x r in
       record {
         covered = Covers_trans _ _ _ (later_covers b.n (trail_of b link.centre) r.place x.place le) r.covered;
         sent = omega (arith, r.sent, later_guard b.n (a - 1) (trail_of b link.centre) r.place x.place le);
       }
 
   -- a centre that can serve the session's vector has the client's commits within its snapshot
-  mine_there : (i p : ℕ) → 1 ≤ i → i ≤ b.n → Covers (vector b.n (applied_at b i p)) (client_at b capacity a m).vector → (k : ℕ) → k ≡ (client_at b capacity a m).mine → k ≤ guard (a - 1) (applied_at b i p)
+  mine_there : (i p : ℕ) → 1 ≤ i → i ≤ b.n → Covers (vector b.n (applied_at b i p)) (client_at b setup a m).vector → (k : ℕ) → k ≡ (client_at b setup a m).mine → k ≤ guard (a - 1) (applied_at b i p)
   mine_there i p low high le zero is = omega arith
   mine_there i p low high le (suc k) is =
       let A = applied_at b i p in
-      let v = (client_at b capacity a m).vector in
+      let v = (client_at b setup a m).vector in
       let d = dot_at (a - 1) (suc k) in
-      let here : In d (cover b v) = (standing b clients limit capacity fit a client m).own_all (suc k) (omega arith) (omega (arith, is)) in
-      let f = In_from_map (λ (r : Record). r.tx.dot) (filter (λ (r : Record). within r.stamp v) A) d (covered_inside b clients limit capacity fit i p low high v d le here) in
+      let here : In d (cover b v) = (standing b setup fit a client m).own_all (suc k) (omega arith) (omega (arith, is)) in
+      let f = In_from_map (λ (r : Record). r.tx.dot) (filter (λ (r : Record). within r.stamp v) A) d (covered_inside b setup fit i p low high v d le here) in
       let g = In_from_filter (λ (r : Record). within r.stamp v) A f.0 f.1 in
       let same : guard f.0.tx.dot.client A ≡ guard (a - 1) A = sym (ap (λ (d : Dot). guard d.client A) f.2) in
       omega (arith, in_guard A f.0 g.0, same, ap (λ (d : Dot). d.number) f.2)
@@ -131,8 +132,8 @@ module _ (b : Book) (clients limit capacity : ℕ) (fit : FitsWith b clients lim
   -- ---- a push
 
   -- the next commit of a session, at the connected centre
-  push_at : (link : Link) (tx : Tx) (say : Say) → (client_at b capacity a m).link ≡ Some link → next_commit (client_at b capacity a m) link ≡ Some tx → HasEntry b limit a link.centre (Commit tx) say (take m (notes_of b a)) → IsPushAnswer say
-  push_at link tx say is next x = subst IsPushAnswer (sym x.is) (answer_holds IsPushAnswer link.centre b.n b.k limit X (Commit tx) fits_it tt (commit_holds IsPushAnswer link.centre b.n limit A tx (
+  push_at : (link : Connection) (tx : Tx) (say : Say) → (client_at b setup a m).link ≡ Some link → next_commit (client_at b setup a m) link ≡ Some tx → HasEntry b setup link.centre (record { caller = a; ask = Commit tx; say = say }) (take m (notes_of b a)) → IsPushAnswer say
+  push_at link tx say is next x = subst IsPushAnswer (sym x.is) (answer_holds IsPushAnswer (centre_settings b setup link.centre) X (Commit tx) fits_it tt (commit_holds IsPushAnswer (centre_settings b setup link.centre) A tx (
     when_holds _ _ _ (λ t. tt),
     λ known. (
       when_fails _ _ _ (lt-leb (guard tx.dot.client A + 2) tx.dot.number (omega (arith, in_order))),
@@ -141,7 +142,7 @@ module _ (b : Book) (clients limit capacity : ℕ) (fit : FitsWith b clients lim
   )))
     where
       s : Client
-      s = client_at b capacity a m
+      s = client_at b setup a m
 
       X : List Entry
       X = take x.place (trail_of b link.centre)
@@ -150,10 +151,10 @@ module _ (b : Book) (clients limit capacity : ℕ) (fit : FitsWith b clients lim
       A = applied_at b link.centre x.place
 
       C : List Tx
-      C = commits_at b capacity a m
+      C = commits_at b setup a m
 
       held : Held (a - 1) s C
-      held = held_after b.n (a - 1) capacity (notes_of b a) (fit.follows a client) m
+      held = held_after b.n (a - 1) setup.capacity (notes_of b a) (fit.follows a client) m
 
       centre_has : HasLinked link x.place
       centre_has = has_linked link is (Commit tx) say x
@@ -174,63 +175,63 @@ module _ (b : Book) (clients limit capacity : ℕ) (fit : FitsWith b clients lim
       in_order = omega (arith, same, ap (λ (d : Dot). d.number) dot, centre_has.sent, mine_there link.centre x.place x.low x.high centre_has.covered s.mine refl)
 
       snap : Covers (vector b.n A) tx.snap
-      snap = Covers_trans _ _ _ centre_has.covered ((standing b clients limit capacity fit a client m).snaps tx (get_In C place tx there))
+      snap = Covers_trans _ _ _ centre_has.covered ((standing b setup fit a client m).snaps tx (get_In C place tx there))
 
       fits_it : fits b.n (Commit tx) ≡ true
-      fits_it = ap is_none (none-fault_of b.n tx (commits_fit b clients limit capacity fit a m tx client (get_In C place tx there)))
+      fits_it = ap is_none (none-fault_of b.n tx (commits_fit b setup fit a m tx client (get_In C place tx there)))
 
   -- a push is answered with a stamp, or as known, for want of room, or by a stopped centre
-  pub push : (i : ℕ) (tx : Tx) (say : Say) → Makes b clients capacity a m i (Commit tx) say → IsPushAnswer say
+  pub push : (i : ℕ) (tx : Tx) (say : Say) → Makes b setup (record { actor = a; place = m; centre = i; ask = Commit tx; answer = say }) → IsPushAnswer say
   push i tx say x =
-      let sends : Sends (client_at b capacity a m) i tx = x.gives in
-      push_at sends.link tx say sends.is sends.next (subst (λ i. HasEntry b limit a i (Commit tx) say (take m (notes_of b a))) (sym sends.centre) (entry_of i (Commit tx) say x))
+      let sends : Sends (client_at b setup a m) i tx = x.gives in
+      push_at sends.link tx say sends.linked sends.next (subst (λ i. HasEntry b setup i (record { caller = a; ask = Commit tx; say = say }) (take m (notes_of b a))) (sym sends.centre) (entry_of i (Commit tx) say x))
 
   -- ---- a refresh and a fetch
 
   -- an ask at the session's vector, of the connected centre, where only what is lacking could be refused
-  linked_at : (link : Link) (ask : Ask) (say last : Say) → (client_at b capacity a m).link ≡ Some link → fits b.n ask ≡ true → (x : HasEntry b limit a link.centre ask say (take m (notes_of b a))) → row link.centre b.n b.k limit (take x.place (trail_of b link.centre)) ask ≡ first_of (lacking (vector b.n (applied_at b link.centre x.place)) (client_at b capacity a m).vector ∷ []) last → IsNoRefusal last → IsNoRefusal say
+  linked_at : (link : Connection) (ask : Ask) (say last : Say) → (client_at b setup a m).link ≡ Some link → fits b.n ask ≡ true → (x : HasEntry b setup link.centre (record { caller = a; ask = ask; say = say }) (take m (notes_of b a))) → row (centre_settings b setup link.centre) (take x.place (trail_of b link.centre)) ask ≡ first_of (lacking Lacks (vector b.n (applied_at b link.centre x.place)) (client_at b setup a m).vector ∷ []) last → IsNoRefusal last → IsNoRefusal say
   linked_at link ask say last is fits_it x row_is fine =
-      let v = (client_at b capacity a m).vector in
+      let v = (client_at b setup a m).vector in
       let A = applied_at b link.centre x.place in
       let covered = (has_linked link is ask say x).covered in
-      let by_row : IsNoRefusal (first_of (lacking (vector b.n A) v ∷ []) last) = first_of_holds IsNoRefusal (lacking (vector b.n A) v ∷ []) last (lack_fails IsNoRefusal Lacks (vector b.n A) v covered, λ none. fine) in
-      subst IsNoRefusal (sym x.is) (answer_holds IsNoRefusal link.centre b.n b.k limit (take x.place (trail_of b link.centre)) ask fits_it (no_refusal _ (λ e. cc) (λ c n h e. cc)) (subst IsNoRefusal (sym row_is) by_row))
+      let by_row : IsNoRefusal (first_of (lacking Lacks (vector b.n A) v ∷ []) last) = first_of_holds IsNoRefusal (lacking Lacks (vector b.n A) v ∷ []) last (lack_fails IsNoRefusal Lacks (vector b.n A) v covered, λ none. fine) in
+      subst IsNoRefusal (sym x.is) (answer_holds IsNoRefusal (centre_settings b setup link.centre) (take x.place (trail_of b link.centre)) ask fits_it (no_refusal _ (λ e. cc) (λ c n h e. cc)) (subst IsNoRefusal (sym row_is) by_row))
 
   -- a refresh is answered neither with a misfit nor with a refusal for what is lacking
-  pub refresh : (i c : ℕ) (here : List ℕ) (say : Say) → Makes b clients capacity a m i (Refresh c here) say → IsNoRefusal say
+  pub refresh : (i c : ℕ) (here : List ℕ) (say : Say) → Makes b setup (record { actor = a; place = m; centre = i; ask = Refresh c here; answer = say }) → IsNoRefusal say
   refresh i c here say made =
-      let same = same_refresh c (client_at b capacity a m).client here (client_at b capacity a m).vector made.gives.0 in
-      let g : IsLinked (client_at b capacity a m) i = made.gives.1 in
-      let x = subst (λ i. HasEntry b limit a i (Refresh c here) say (take m (notes_of b a))) (sym g.centre) (entry_of i (Refresh c here) say made) in
-      linked_at g.link (Refresh c here) say _ g.is (and_from (is_client_number c) (length here == b.n) (is_numbered c same.0) (is_wide here same.1)) x
-      (ap (λ v. first_of (lacking (vector b.n (applied_at b g.link.centre x.place)) v ∷ []) (snap_at (applied_at b g.link.centre x.place) c (join_of here (stable g.link.centre b.n b.k (take x.place (trail_of b g.link.centre)))))) same.1)
+      let same = same_refresh c (client_at b setup a m).client here (client_at b setup a m).vector made.gives.0 in
+      let g : IsLinked (client_at b setup a m) i = made.gives.1 in
+      let x = subst (λ i. HasEntry b setup i (record { caller = a; ask = Refresh c here; say = say }) (take m (notes_of b a))) (sym g.centre) (entry_of i (Refresh c here) say made) in
+      linked_at g.link (Refresh c here) say _ g.linked (and_from (is_within 1 MOST_CLIENTS c) (length here == b.n) (is_numbered c same.0) (is_wide here same.1)) x
+      (ap (λ v. first_of (lacking Lacks (vector b.n (applied_at b g.link.centre x.place)) v ∷ []) (snap_at (applied_at b g.link.centre x.place) c (join_of here (stable (centre_settings b setup g.link.centre) (take x.place (trail_of b g.link.centre)))))) same.1)
       (no_refusal _ (λ e. cc) (λ c n h e. cc))
 
   -- nor is a fetch
-  pub fetch : (i : ℕ) (o : ObjectId) (here : List ℕ) (say : Say) → Makes b clients capacity a m i (Fetch o here) say → IsNoRefusal say
+  pub fetch : (i : ℕ) (o : ObjectId) (here : List ℕ) (say : Say) → Makes b setup (record { actor = a; place = m; centre = i; ask = Fetch o here; answer = say }) → IsNoRefusal say
   fetch i o here say made =
-      let same = same_fetch o o here (client_at b capacity a m).vector made.gives.0 in
-      let g : IsLinked (client_at b capacity a m) i = made.gives.1 in
-      let x = subst (λ i. HasEntry b limit a i (Fetch o here) say (take m (notes_of b a))) (sym g.centre) (entry_of i (Fetch o here) say made) in
-      linked_at g.link (Fetch o here) say _ g.is (is_wide here same) x
-      (ap (λ v. first_of (lacking (vector b.n (applied_at b g.link.centre x.place)) v ∷ []) (Object (state_at o (applied_at b g.link.centre x.place) here))) same)
+      let same = same_fetch o o here (client_at b setup a m).vector made.gives.0 in
+      let g : IsLinked (client_at b setup a m) i = made.gives.1 in
+      let x = subst (λ i. HasEntry b setup i (record { caller = a; ask = Fetch o here; say = say }) (take m (notes_of b a))) (sym g.centre) (entry_of i (Fetch o here) say made) in
+      linked_at g.link (Fetch o here) say _ g.linked (is_wide here same) x
+      (ap (λ v. first_of (lacking Lacks (vector b.n (applied_at b g.link.centre x.place)) v ∷ []) (Object (state_at o (applied_at b g.link.centre x.place) here))) same)
       (no_refusal _ (λ e. cc) (λ c n h e. cc))
 
   -- ---- a hello, and a state
 
   -- a hello is not answered with a misfit
-  pub hello : (i c : ℕ) (need : List ℕ) (say : Say) → Makes b clients capacity a m i (Hello c need) say → say ≡ Misfit → ⊥
+  pub hello : (i c : ℕ) (need : List ℕ) (say : Say) → Makes b setup (record { actor = a; place = m; centre = i; ask = Hello c need; answer = say }) → say ≡ Misfit → ⊥
   hello i c need say made is =
-      let same = same_hello c (client_at b capacity a m).client need (client_at b capacity a m).vector made.gives in
+      let same = same_hello c (client_at b setup a m).client need (client_at b setup a m).vector made.gives in
       let x = entry_of i (Hello c need) say made in
-      no_misfit i b.n b.k limit (take x.place (trail_of b i)) (Hello c need) (and_from (is_client_number c) (length need == b.n) (is_numbered c same.0) (is_wide need same.1)) (sym x.is ∙ is)
+      no_misfit (centre_settings b setup i) (take x.place (trail_of b i)) (Hello c need) (and_from (is_within 1 MOST_CLIENTS c) (length need == b.n) (is_numbered c same.0) (is_wide need same.1)) (sym x.is ∙ is)
 
   -- a state that answers a fetch is taken
-  pub object : (i : ℕ) (o : ObjectId) (here : List ℕ) (state : State) → Makes b clients capacity a m i (Fetch o here) (Object state) → takes (client_at b capacity a m) i (Fetch o here) (Object state) ≡ true
+  pub object : (i : ℕ) (o : ObjectId) (here : List ℕ) (state : State) → Makes b setup (record { actor = a; place = m; centre = i; ask = Fetch o here; answer = Object state }) → takes (client_at b setup a m) i (Fetch o here) (Object state) ≡ true
   object i o here state made =
-      let same = same_fetch o o here (client_at b capacity a m).vector made.gives.0 in
+      let same = same_fetch o o here (client_at b setup a m).vector made.gives.0 in
       let x = entry_of i (Fetch o here) (Object state) made in
-      let by = object_by i b.n b.k limit (take x.place (trail_of b i)) o here state x.is in
+      let by = object_by (centre_settings b setup i) (take x.place (trail_of b i)) o here state x.is in
       let kind : sort_of state ≡ o.sort = ap sort_of by.is ∙ sort_of_state o (applied_at b i x.place) here in
-      and_from (same_vector here (client_at b capacity a m).vector) (same_sort (sort_of state) o.sort) (same_vector-itself here (client_at b capacity a m).vector same)
+      and_from (same_vector here (client_at b setup a m).vector) (same_sort (sort_of state) o.sort) (same_vector-itself here (client_at b setup a m).vector same)
       (ap (λ k. same_sort k o.sort) kind ∙ same_sort-itself o.sort)

@@ -1,16 +1,16 @@
 -- Over each closed set the fold of the operations has the value that is defined by what sees what.
-use Rattle.std.proofs.Common.{◌≡◌, ℕ, ◌+◌, ◌≤◌, max, inl, inr, List, [], ◌∷◌, ◌++◌, refl, sym, ap, subst, arith}
-use Rattle.std.specs.Prelude.{flat_map}
+use Rattle.std.proofs.Common.{◌≡◌, ℕ, ◌+◌, ◌≤◌, max, inl, inr, List, [], ◌∷◌, refl, ap, subst, arith}
 use Rattle.std.proofs.lemmas.List.{append-nil}
 use Rattle.std.proofs.lemmas.Option.{none-some}
 use Rattle.list_core.specs.Members.{In}
 use Rattle.list_core.proofs.Members.{In_from_map}
 use Rattle.ids_core.specs.declared.ids.Dot.{Dot}
 use Rattle.ids_core.specs.declared.object.ObjectId.{ObjectId}
+use Rattle.run_book.specs.Setups.{Setup}
 use Rattle.run_book.specs.declared.book.Book.{Book}
 use Rattle.run_book.specs.Fit.{FitsWith}
 use Rattle.tx_graph.specs.Nodes.{Node, Closed}
-use Rattle.tx_graph.specs.Values.{acts_from, acts_of, counter_over, nodes_in, IsValueBy, IsValueOver}
+use Rattle.tx_graph.specs.Values.{IsValueBy, IsValueOver, acts_over}
 use Rattle.run_book.specs.Graphs.{node_of, committed, graph}
 use Rattle.run_book.proofs.Sessions.{modest_none}
 use Rattle.run_book.proofs.Causal.Commits.{committed_is}
@@ -19,6 +19,7 @@ use Rattle.run_book.proofs.Causal.OpenNodes.{IsOpenOver}
 use Rattle.run_book.proofs.Causal.Sums.{sum_fits}
 use Rattle.run_book.proofs.Causal.FoldedValues.{folded, folded_over}
 use Rattle.run_book.proofs.Causal.Views.{well_issued}
+use Rattle.run_book.proofs.Causal.Acts.{acts_with}
 
 -- the greatest rank of the nodes, and 0 of none
 abbrev top_rank : List Node → ℕ
@@ -31,10 +32,10 @@ below_top [] t i = absurd i
 below_top (u ∷ ts) t (inl same) = omega (arith, ap (λ (t : Node). t.rank) same)
 below_top (u ∷ ts) t (inr i) = omega (arith, below_top ts t i)
 
-module _ (b : Book) (clients limit capacity : ℕ) (fit : FitsWith b clients limit capacity) (set : List Dot) (closed : Closed (graph b clients capacity) set) (o : ObjectId) where
+module _ (b : Book) (setup : Setup) (fit : FitsWith b setup) (set : List Dot) (closed : Closed (graph b setup) set) (o : ObjectId) where
   -- the graph of the book
   abbrev nodes : List Node
-  nodes = graph b clients capacity
+  nodes = graph b setup
 
   -- a node of nobody, without updates, that depends on the set
   abbrev nobody : Node
@@ -43,9 +44,9 @@ module _ (b : Book) (clients limit capacity : ℕ) (fit : FitsWith b clients lim
   -- it is not in the set, since clients are numbered from 1
   nobody_fresh : In nobody.dot set → ⊥
   nobody_fresh i =
-      let t = closed.are nobody.dot i in
-      let m = In_from_map (node_of b) (committed b clients capacity) t.0 t.1 in
-      let c = committed_is b clients limit capacity fit m.0 m.1 in
+      let t = closed.in_graph nobody.dot i in
+      let m = In_from_map (node_of b) (committed b setup) t.0 t.1 in
+      let c = committed_is b setup fit m.0 m.1 in
       let zero_client : t.0.dot.client ≡ 0 = ap (λ (d : Dot). d.client) t.2 in
       omega (arith, c.low, zero_client, ap (λ (t : Node). t.dot.client) m.2)
 
@@ -60,9 +61,9 @@ module _ (b : Book) (clients limit capacity : ℕ) (fit : FitsWith b clients lim
     kinds = record { each = λ u i. absurd i };
   }
 
-  -- the fold of the operations in the set has the value over it, whichever node without updates stands behind it
-  pub over_set : (last : Node) → last.updates ≡ [] → IsValueOver nodes set last o (folded o (ops_in nodes set o))
-  over_set last none =
-      subst (λ us. IsValueBy o.sort (counter_over nodes set us o) (flat_map (acts_of o) (nodes_in nodes set) ++ acts_from o last 0 us) (folded o (ops_in nodes set o))) (sym none)
-      (subst (λ l. IsValueOver nodes set nobody o (folded o l)) (append-nil (ops_in nodes set o))
-      (folded_over nodes set nobody (well_issued b clients limit capacity fit) nobody_open o (sum_fits b clients limit capacity fit set nobody o modest_none)))
+  -- the fold of the operations in the set has the value over it
+  pub over_set : IsValueOver nodes set o (folded o (ops_in nodes set o))
+  over_set =
+      subst (λ acts. IsValueBy o.sort acts (folded o (ops_in nodes set o))) (append-nil (acts_over nodes set o))
+      (subst (λ l. IsValueBy o.sort (acts_with nodes set nobody o) (folded o l)) (append-nil (ops_in nodes set o))
+      (folded_over nodes set nobody (well_issued b setup fit) nobody_open o (sum_fits b setup fit set nobody o modest_none)))

@@ -16,6 +16,7 @@ use Rattle.dc_talk.specs.Trails.{applied}
 use Rattle.dc_talk.specs.Laws.{IsStampedAfter}
 use Rattle.dc_talk.proofs.Firsts.{first_stamp_is}
 use Rattle.dc_talk.proofs.Places.{own_at}
+use Rattle.run_book.specs.Setups.{Setup, centre_settings}
 use Rattle.run_book.specs.declared.book.Book.{Book}
 use Rattle.run_book.specs.Parts.{trail_of}
 use Rattle.run_book.specs.Fit.{FitsWith}
@@ -57,30 +58,30 @@ in_cover b v d x =
 pub cover_more : (b : Book) (v w : List ℕ) (d : Dot) → Covers v w → In d (cover b w) → In d (cover b v)
 cover_more b v w d more i =
     let x = cover_in b w d i in
-    in_cover b v d (record { centre = x.centre; low = x.low; high = x.high; place = x.place; item = x.item; there = x.there; within = omega (arith, x.within, more.by x.centre); dot = x.dot })
+    in_cover b v d (record { centre = x.centre; low = x.low; high = x.high; place = x.place; item = x.item; there = x.there; within = omega (arith, x.within, more.holds x.centre); dot = x.dot })
 
 -- a sound vector covers the dependency vector of each record that it covers
 pub covered_deps : (b : Book) (v : List ℕ) (d : Dot) → IsSound b v → (x : Covered b v d) → Covers v x.item.deps
 covered_deps b v d sound x =
     let one_less : suc x.place - 1 ≡ x.place = omega arith in
     let table : deps_in b x.centre (suc x.place) ≡ Some x.item.deps = ap (option_map (λ (r : Record). r.deps)) (subst (λ n. slice_get (own_list b x.centre) n ≡ Some x.item) (sym one_less) x.there) in
-    sound.deps.by x.centre (suc x.place) x.item.deps (omega arith) (omega (arith, x.within)) table
+    sound.deps.holds x.centre (suc x.place) x.item.deps (omega arith) (omega (arith, x.within)) table
 
 -- ---- a client's lower numbers
 
-module _ (b : Book) (clients limit capacity : ℕ) (fit : FitsWith b clients limit capacity) where
+module _ (b : Book) (setup : Setup) (fit : FitsWith b setup) where
   -- a record that a centre has applied is covered where its stamp is within the vector
   pub applied_covered : (i : ℕ) → 1 ≤ i → i ≤ b.n → (r : Record) → In r (applied b.n (trail_of b i)) → (v : List ℕ) → r.stamp.seq ≤ at v r.stamp.centre → Covered b v r.tx.dot
   applied_covered i low high r here v within =
       let g = In_get (applied b.n (trail_of b i)) r here in
-      let placed = (whole_each b clients limit capacity fit i low high).by g.0 r g.1 in
+      let placed = (whole_each b setup fit i low high).holds g.0 r g.1 in
       record {
         centre = r.stamp.centre;
         low = placed.centre.0;
         high = placed.centre.1;
         place = r.stamp.seq - 1;
         item = r;
-        there = agreement_whole b clients limit capacity fit i low high r here;
+        there = agreement_whole b setup fit i low high r here;
         within = omega (arith, within, placed.number);
         dot = refl;
       }
@@ -94,13 +95,13 @@ module _ (b : Book) (clients limit capacity : ℕ) (fit : FitsWith b clients lim
       A = applied b.n (trail_of b x.centre)
 
       own : In x.item A × (x.item.stamp ≡ record { centre = x.centre; seq = x.place + 1 })
-      own = own_at x.centre b.n x.centre A (whole_each b clients limit capacity fit x.centre x.low x.high) x.place x.item x.there
+      own = own_at (centre_settings b setup x.centre) x.centre A (whole_each b setup fit x.centre x.low x.high) x.place x.item x.there
 
       place : (p : ℕ) × (slice_get A p ≡ Some x.item)
       place = In_get A x.item own.0
 
       made : IsStampedAfter (take place.0 A) x.item
-      made = ((whole_each b clients limit capacity fit x.centre x.low x.high).by place.0 x.item place.1).made (ap (λ (s : Stamp). s.centre) own.1)
+      made = ((whole_each b setup fit x.centre x.low x.high).holds place.0 x.item place.1).made (ap (λ (s : Stamp). s.centre) own.1)
 
       which : x.item.tx.dot.number ≡ suc number
       which = ap (λ (d : Dot). d.number) x.dot
@@ -112,7 +113,7 @@ module _ (b : Book) (clients limit capacity : ℕ) (fit : FitsWith b clients lim
       first (s, is, needed) = there (first_stamp_is (dot_at x.item.tx.dot.client (x.item.tx.dot.number - 1)) (take place.0 A) s is)
         where
           reach : s.seq ≤ at v s.centre
-          reach = omega (arith, needed, (covered_deps b v (dot_at client (suc number)) sound x).by s.centre)
+          reach = omega (arith, needed, (covered_deps b v (dot_at client (suc number)) sound x).holds s.centre)
 
           there : (r : Record) × In r (take place.0 A) × (r.stamp ≡ s) × (r.tx.dot ≡ dot_at x.item.tx.dot.client (x.item.tx.dot.number - 1)) → Covered b v (dot_at client number)
           there (r, here, stamp, dot) =

@@ -14,9 +14,9 @@ use Rattle.tx_core.specs.declared.tx.Record.{Record}
 use Rattle.tx_core.specs.Checks.{is_within}
 use Rattle.dc_talk.specs.declared.ask.Ask.TheVariants.{Deliver, Learn}
 use Rattle.dc_talk.specs.declared.say.Say.TheVariants.{Misfit, Orphan}
-use Rattle.dc_talk.specs.declared.trail.Entry.{Entry}
+use Rattle.dc_talk.specs.Entries.{Entry}
 use Rattle.dc_talk.specs.Records.{vector, count, guard, first_stamp}
-use Rattle.dc_talk.specs.Trails.{applied, delivered_in}
+use Rattle.dc_talk.specs.Trails.{applied}
 use Rattle.dc_talk.specs.Answers.{answer, fits, are_modest, is_fit_item}
 use Rattle.dc_talk.specs.Laws.{IsInOrder}
 use Rattle.dc_talk.proofs.Answers.{no_misfit}
@@ -24,38 +24,38 @@ use Rattle.dc_talk.proofs.PeerAnswers.{modest_from, fits_item, vector_by, delive
 use Rattle.dc_talk.proofs.Counts.{count_take, in_guard}
 use Rattle.dc_talk.proofs.Firsts.{first_stamp_is}
 use Rattle.dc_talk.proofs.Places.{count_few, own_at}
+use Rattle.run_book.specs.Setups.{Setup, centre_settings}
 use Rattle.run_book.specs.declared.book.Book.{Book}
-use Rattle.run_book.specs.Parts.{trail_of}
-use Rattle.run_book.specs.Fit.{FitsWith, IsSent, IsReported, news_in}
-use Rattle.run_book.specs.Laws.{applied_at}
+use Rattle.run_book.specs.Parts.{trail_of, applied_at}
+use Rattle.run_book.specs.Fit.{FitsWith, IsSent, IsReported}
 use Rattle.run_book.specs.Refusals.{IsEntry}
 use Rattle.run_book.proofs.Held.{dot_at}
 use Rattle.run_book.proofs.Causal.Origins.{each_at, whole_each, sent_there, agreement_whole, applied_there}
 
-module _ (b : Book) (clients limit capacity : ℕ) (fit : FitsWith b clients limit capacity) where
+module _ (b : Book) (setup : Setup) (fit : FitsWith b setup) where
   -- ---- what is delivered
 
   -- where a record that was sent stands in what its origin has applied, in order
   record IsPlaced (item : Record) : Type 0 where
     place : ℕ
     there : slice_get (applied b.n (trail_of b item.stamp.centre)) place ≡ Some item
-    order : IsInOrder item.stamp.centre b.n (take place (applied b.n (trail_of b item.stamp.centre))) item
+    order : IsInOrder (centre_settings b setup item.stamp.centre) (take place (applied b.n (trail_of b item.stamp.centre))) item
 
   -- each record that was sent stands there
   placed : (item : Record) → IsSent b item → IsPlaced item
   placed item sent =
       let A = applied b.n (trail_of b item.stamp.centre) in
-      let each = whole_each b clients limit capacity fit item.stamp.centre sent.origin.0 sent.origin.1 in
-      let own = own_at item.stamp.centre b.n item.stamp.centre A each (item.stamp.seq - 1) item (sent_there b clients limit capacity fit item sent) in
+      let each = whole_each b setup fit item.stamp.centre sent.origin.0 sent.origin.1 in
+      let own = own_at (centre_settings b setup item.stamp.centre) item.stamp.centre A each (item.stamp.seq - 1) item (sent_there b setup fit item sent) in
       let g = In_get A item own.0 in
-      record { place = g.0; there = g.1; order = each.by g.0 item g.1 }
+      record { place = g.0; there = g.1; order = each.holds g.0 item g.1 }
 
   -- what is delivered fits
   sent_fits : (item : Record) → IsSent b item → is_fit_item b.n item ≡ true
   sent_fits item sent =
       let p = placed item sent in
       let A = applied b.n (trail_of b item.stamp.centre) in
-      let few = count_few item.stamp.centre b.n A (whole_each b clients limit capacity fit item.stamp.centre sent.origin.0 sent.origin.1) in
+      let few = count_few (centre_settings b setup item.stamp.centre) A (whole_each b setup fit item.stamp.centre sent.origin.0 sent.origin.1) in
       fits_item b.n item
       (record { centre = p.order.centre; seq = (omega (arith, p.order.number), p.order.few); width = p.order.width; fit = p.order.fit })
       (modest_from item.deps (λ e. omega (arith, p.order.waited e, count_take e p.place A, few e)))
@@ -82,10 +82,10 @@ module _ (b : Book) (clients limit capacity : ℕ) (fit : FitsWith b clients lim
           there : (r : Record) → In r B → r.tx.dot ≡ dot_at item.tx.dot.client (item.tx.dot.number - 1) → r.stamp.seq ≤ at item.deps r.stamp.centre → item.tx.dot.number ≤ guard item.tx.dot.client (applied_at b i p) + 1
           there r here dot needed =
               let g = In_get B r here in
-              let number = ((whole_each b clients limit capacity fit item.stamp.centre sent.origin.0 sent.origin.1).by g.0 r g.1).number in
-              let own = agreement_whole b clients limit capacity fit item.stamp.centre sent.origin.0 sent.origin.1 r here in
+              let number = ((whole_each b setup fit item.stamp.centre sent.origin.0 sent.origin.1).holds g.0 r g.1).number in
+              let own = agreement_whole b setup fit item.stamp.centre sent.origin.0 sent.origin.1 r here in
               let counted = at-tabulate_le b.n r.stamp.centre (λ e. count e A) in
-              let ours = applied_there b clients limit capacity fit i p r.stamp.centre (r.stamp.seq - 1) r low high (omega (arith, number, needed, le.by r.stamp.centre, counted)) own in
+              let ours = applied_there b setup fit i p r.stamp.centre (r.stamp.seq - 1) r low high (omega (arith, number, needed, le.holds r.stamp.centre, counted)) own in
               omega (arith, many, in_guard A r ours.0, ap (λ (d : Dot). guard d.client A) dot, ap (λ (d : Dot). d.number) dot)
 
           go : (s : Stamp) × (first_stamp (dot_at item.tx.dot.client (item.tx.dot.number - 1)) (take origin.place B) ≡ Some s) × (s.seq ≤ at item.deps s.centre) → item.tx.dot.number ≤ guard item.tx.dot.client (applied_at b i p) + 1
@@ -96,45 +96,45 @@ module _ (b : Book) (clients limit capacity : ℕ) (fit : FitsWith b clients lim
   -- ---- what is learned
 
   -- a reported vector has a small entry for each centre
-  reported_fits : (news : ℕ × List ℕ) → IsReported b news → fits b.n (Learn news.0 news.1) ≡ true
-  reported_fits news r =
-      let X = take r.place (trail_of b news.0) in
+  reported_fits : (from : ℕ) (news : List ℕ) → IsReported b from news → fits b.n (Learn from news) ≡ true
+  reported_fits from news r =
+      let X = take r.place (trail_of b from) in
       let A = applied b.n X in
-      let few = count_few news.0 b.n A (each_at b clients limit capacity fit news.0 r.place r.origin.0 r.origin.1) in
-      let same : news.1 ≡ vector b.n A = vector_by news.0 b.n b.k limit X r.entry.ask news.1 (sym r.says ∙ (fit.histories news.0 r.origin.0 r.origin.1).by r.place r.entry r.there) in
-      let centre : is_within 1 b.n news.0 ≡ true = and_from (nat_le 1 news.0) (nat_le news.0 b.n) (le-leb 1 news.0 r.origin.0) (le-leb news.0 b.n r.origin.1) in
-      let wide : (length news.1 == b.n) ≡ true = eq-eqb (length news.1) b.n (ap length same ∙ length-tabulate b.n (λ e. count e A)) in
-      let small : are_modest news.1 ≡ true = subst (λ v. are_modest v ≡ true) (sym same) (modest_from (vector b.n A) (λ e. omega (arith, at-tabulate_le b.n e (λ e. count e A), few e))) in
-      and_from (is_within 1 b.n news.0 && (length news.1 == b.n)) (are_modest news.1) (and_from (is_within 1 b.n news.0) (length news.1 == b.n) centre wide) small
+      let few = count_few (centre_settings b setup from) A (each_at b setup fit from r.place r.origin.0 r.origin.1) in
+      let same : news ≡ vector b.n A = vector_by (centre_settings b setup from) X r.entry.ask news (sym r.says ∙ (fit.histories from r.origin.0 r.origin.1).holds r.place r.entry r.there) in
+      let centre : is_within 1 b.n from ≡ true = and_from (nat_le 1 from) (nat_le from b.n) (le-leb 1 from r.origin.0) (le-leb from b.n r.origin.1) in
+      let wide : (length news == b.n) ≡ true = eq-eqb (length news) b.n (ap length same ∙ length-tabulate b.n (λ e. count e A)) in
+      let small : are_modest news ≡ true = subst (λ v. are_modest v ≡ true) (sym same) (modest_from (vector b.n A) (λ e. omega (arith, at-tabulate_le b.n e (λ e. count e A), few e))) in
+      and_from (is_within 1 b.n from && (length news == b.n)) (are_modest news) (and_from (is_within 1 b.n from) (length news == b.n) centre wide) small
 
   -- ---- the answers
 
   module _ (i : ℕ) (entry : Entry) (stands : IsEntry b i entry) where
     -- the entry is answered as the history says
-    said : entry.say ≡ answer i b.n b.k limit (take stands.place (trail_of b i)) entry.ask
-    said = (fit.histories i stands.centre.0 stands.centre.1).by stands.place entry stands.there
+    said : entry.say ≡ answer (centre_settings b setup i) (take stands.place (trail_of b i)) entry.ask
+    said = (fit.histories i stands.centre.0 stands.centre.1).holds stands.place entry stands.there
 
     -- what is delivered was sent
     item_sent : (item : Record) → entry.ask ≡ Deliver item → IsSent b item
-    item_sent item asks = fit.delivered i stands.place entry item stands.there (ap delivered_in asks)
+    item_sent item asks = fit.delivered i stands.place entry item stands.there asks
 
     -- no answer is an orphan
     pub no_orphan : (number have : ℕ) → entry.say ≡ Orphan number have → ⊥
     no_orphan number have says =
         let X = take stands.place (trail_of b i) in
-        let is : Orphan number have ≡ answer i b.n b.k limit X entry.ask = sym says ∙ said in
-        let asks = delivery_by i b.n b.k limit X entry.ask number have is in
-        let by = orphan_by i b.n b.k limit X asks.item number have (subst (λ ask. Orphan number have ≡ answer i b.n b.k limit X ask) asks.is is) in
+        let is : Orphan number have ≡ answer (centre_settings b setup i) X entry.ask = sym says ∙ said in
+        let asks = delivery_by (centre_settings b setup i) X entry.ask number have is in
+        let by = orphan_by (centre_settings b setup i) X asks.item number have (subst (λ ask. Orphan number have ≡ answer (centre_settings b setup i) X ask) asks.is is) in
         omega (arith, by.far, sent_next i stands.place stands.centre.0 stands.centre.1 asks.item (item_sent asks.item asks.is) by.covered)
 
     -- no delivery is a misfit
     pub no_misfit_delivery : (item : Record) → entry.ask ≡ Deliver item → entry.say ≡ Misfit → ⊥
     no_misfit_delivery item asks says =
         let X = take stands.place (trail_of b i) in
-        no_misfit i b.n b.k limit X (Deliver item) (sent_fits item (item_sent item asks)) (ap (answer i b.n b.k limit X) (sym asks) ∙ (sym said ∙ says))
+        no_misfit (centre_settings b setup i) X (Deliver item) (sent_fits item (item_sent item asks)) (ap (answer (centre_settings b setup i) X) (sym asks) ∙ (sym said ∙ says))
 
     -- no lesson is a misfit
     pub no_misfit_lesson : (from : ℕ) (news : List ℕ) → entry.ask ≡ Learn from news → entry.say ≡ Misfit → ⊥
     no_misfit_lesson from news asks says =
         let X = take stands.place (trail_of b i) in
-        no_misfit i b.n b.k limit X (Learn from news) (reported_fits (from, news) (fit.learned i stands.place entry (from, news) stands.there (ap news_in asks))) (ap (answer i b.n b.k limit X) (sym asks) ∙ (sym said ∙ says))
+        no_misfit (centre_settings b setup i) X (Learn from news) (reported_fits from news (fit.learned i stands.place entry from news stands.there asks)) (ap (answer (centre_settings b setup i) X) (sym asks) ∙ (sym said ∙ says))

@@ -13,14 +13,14 @@ use Rattle.dc_talk.specs.declared.ask.Ask.{Ask}
 use Rattle.dc_talk.specs.declared.ask.Ask.TheVariants.{Hello, Refresh, Fetch, Commit as CommitAsk}
 use Rattle.dc_talk.specs.declared.say.Say.{Say}
 use Rattle.dc_talk.specs.declared.say.Say.TheVariants.{Welcome, Snap, Object, Known, Stamped}
-use Rattle.dc_talk.specs.declared.session.Link.{Link}
-use Rattle.dc_talk.specs.declared.session.Cached.{Cached}
-use Rattle.dc_talk.specs.declared.session.Change.{Change}
-use Rattle.dc_talk.specs.declared.session.Call.{Call}
-use Rattle.dc_talk.specs.declared.session.Call.TheVariants.{Begin, Change as ChangeCall, Read, Commit, Abort}
-use Rattle.dc_talk.specs.declared.session.Outcome.{Outcome}
-use Rattle.dc_talk.specs.declared.session.Outcome.TheVariants.{Fine, Got, Number, Nothing, Refused}
-use Rattle.dc_talk.specs.declared.session.Refusal.TheVariants.{TooManyTags}
+use Rattle.dc_talk.specs.declared.calls.Connection.{Connection}
+use Rattle.dc_talk.specs.declared.calls.Cached.{Cached}
+use Rattle.dc_talk.specs.declared.calls.Change.{Change}
+use Rattle.dc_talk.specs.declared.calls.Call.{Call}
+use Rattle.dc_talk.specs.declared.calls.Call.TheVariants.{Begin, Change as ChangeCall, Read, Commit, Abort}
+use Rattle.dc_talk.specs.declared.calls.Outcome.{Outcome}
+use Rattle.dc_talk.specs.declared.calls.Outcome.TheVariants.{Fine, Got, Number, Nothing, Refused}
+use Rattle.dc_talk.specs.declared.calls.Refusal.TheVariants.{TooManyTags}
 use Rattle.dc_talk.specs.declared.log.Fate.TheVariants.{Heard}
 use Rattle.dc_talk.specs.declared.log.Deed.{Deed}
 use Rattle.dc_talk.specs.declared.log.Deed.TheVariants.{Did, Asked, Told}
@@ -39,7 +39,7 @@ changed s o change = record s { draft = Some (draft_updates s ++ record { object
 -- each commit of such a transaction that has updates
 pub record IsOfDrafts (Fit Open : Client → Type 0) (Made : Tx → Type 0) : Type 0 where
   pub first : (s : Client) → draft_updates s ≡ [] → Open s
-  pub beside : (s : Client) (link : Option Link) (cache : List Cached) → Open s → Open (record s { link = link; cache = cache })
+  pub beside : (s : Client) (link : Option Connection) (cache : List Cached) → Open s → Open (record s { link = link; cache = cache })
   pub more : (s : Client) (o : ObjectId) (change : Change) → Fit s → Fine ≡ change_outcome s o change → Open s → Open (changed s o change)
   pub commit : (s : Client) → Fit s → 1 ≤ length (draft_updates s) → Open s → Made (next_tx s (draft_updates s))
 
@@ -60,7 +60,7 @@ module _ {Fit Open : Client → Type 0} {Made : Tx → Type 0} (facts : IsOfDraf
   closed s C none commits = record { draft = facts.first s none; commits = commits }
 
   -- another link or cache
-  beside : (s : Client) (C : List Tx) (link : Option Link) (cache : List Cached) → HoldsOf Open Made s C → HoldsOf Open Made (record s { link = link; cache = cache }) C
+  beside : (s : Client) (C : List Tx) (link : Option Connection) (cache : List Cached) → HoldsOf Open Made s C → HoldsOf Open Made (record s { link = link; cache = cache }) C
   beside s C link cache h = record { draft = facts.beside s link cache h.draft; commits = h.commits }
 
   -- nothing is committed
@@ -108,4 +108,4 @@ module _ {Fit Open : Client → Type 0} {Made : Tx → Type 0} (facts : IsOfDraf
   pub holds_after : (n client capacity : ℕ) (notes : List Note) → Follows n client capacity notes → ((p : ℕ) → Fit (client_after n client capacity (take p notes))) → (m : ℕ) → HoldsOf Open Made (client_after n client capacity (take m notes)) (commits_of n client capacity (take m notes))
   holds_after n client capacity notes follows fit = by_notes n client capacity notes (HoldsOf Open Made) (closed (new_client n client capacity) [] refl (λ t i. absurd i)) (λ p note there h.
       let X = take p notes in
-      holds_deed (client_after n client capacity X) (commits_of n client capacity X) X note.deed (fit p) (follows.by p note there) h)
+      holds_deed (client_after n client capacity X) (commits_of n client capacity X) X note.deed (fit p) (follows.holds p note there) h)

@@ -1,8 +1,7 @@
 -- The commits of a book that fits are fit.
-use Rattle.std.proofs.Common.{◌≡◌, ℕ, zero, suc, ◌+◌, ◌-◌, ◌≤◌, unsigned_abs, Bool, true, false, cond, ⊎_elim, List, length, take, Option, Some, None, refl, sym, ap, ◌∙◌, subst, arith}
+use Rattle.std.proofs.Common.{◌≡◌, ℕ, zero, suc, ◌+◌, ◌-◌, ◌≤◌, Bool, true, false, cond, ⊎_elim, List, length, take, Option, Some, None, refl, sym, ap, ◌∙◌, subst, arith}
 use Rattle.std.specs.Prelude.{nat_lt, All}
-use Rattle.std.proofs.lemmas.Bool.{leb-true, ltb-false, cases_lt}
-use Rattle.std.proofs.lemmas.Int.{ints}
+use Rattle.std.proofs.lemmas.Bool.{ltb-false, cases_lt}
 use Rattle.std.proofs.lemmas.Option.{slice_get_within}
 use Rattle.std.proofs.lemmas.List.Elements.{All-nil, All-push, All-from_get_or}
 use Rattle.list_core.specs.Members.{In}
@@ -16,11 +15,11 @@ use Rattle.tx_core.specs.declared.tx.Tx.{Tx}
 use Rattle.tx_core.specs.declared.state.State.{State}
 use Rattle.tx_core.specs.Ops.{over_of}
 use Rattle.tx_core.specs.States.{tags_of}
-use Rattle.tx_core.specs.Checks.{HasSmallDelta, IsFitUpdate, IsFit}
-use Rattle.dc_talk.specs.declared.session.Change.{Change}
-use Rattle.dc_talk.specs.declared.session.Change.TheVariants.{Inc, Write, Add, Remove, Put, Erase}
-use Rattle.dc_talk.specs.declared.session.Outcome.TheVariants.{Fine, Refused}
-use Rattle.dc_talk.specs.declared.session.Refusal.TheVariants.{TooManyTags}
+use Rattle.tx_core.specs.Checks.{IsFitUpdate, IsFit, is_small}
+use Rattle.dc_talk.specs.declared.calls.Change.{Change}
+use Rattle.dc_talk.specs.declared.calls.Change.TheVariants.{Inc, Write, Add, Remove, Put, Erase}
+use Rattle.dc_talk.specs.declared.calls.Outcome.TheVariants.{Fine, Refused}
+use Rattle.dc_talk.specs.declared.calls.Refusal.TheVariants.{TooManyTags}
 use Rattle.dc_talk.specs.declared.log.Note.{Note}
 use Rattle.dc_talk.specs.Trails.{applied}
 use Rattle.dc_talk.specs.Clients.{Client, draft_updates}
@@ -28,10 +27,11 @@ use Rattle.dc_talk.specs.Calls.{named, op_of, over, tags_in, is_modest, viewed, 
 use Rattle.dc_talk.specs.Rule.{client_after, commits_of, Follows}
 use Rattle.dc_talk.proofs.Counts.{own_length}
 use Rattle.dc_talk.proofs.Places.{count_few}
+use Rattle.run_book.specs.Graphs.{commits_at}
+use Rattle.run_book.specs.Setups.{Setup, centre_settings}
 use Rattle.run_book.specs.declared.book.Book.{Book}
 use Rattle.run_book.specs.Parts.{trail_of, notes_of, IsClient}
 use Rattle.run_book.specs.Fit.{FitsWith}
-use Rattle.run_book.specs.Causal.{commits_at}
 use Rattle.run_book.specs.Sound.{IsSound}
 use Rattle.run_book.proofs.Sessions.{change_fine}
 use Rattle.run_book.proofs.Numbered.{numbered_at}
@@ -41,29 +41,30 @@ use Rattle.run_book.proofs.Causal.Origins.{whole_each}
 use Rattle.run_book.proofs.Causal.SessionStates.{standing}
 use Rattle.run_book.proofs.Causal.Drafts.{IsOfDrafts, HoldsOf, holds_after}
 use Rattle.run_book.proofs.Causal.Changes.{kind_of_op}
+use Rattle.ids_core.specs.declared.limits.TheConstants.{MOST_TAGS}
 
 -- ---- a change that is made
 
 -- its delta is small, where it has one
-small_of_change : (change : Change) (tags : List OpId) → is_modest change ≡ true → HasSmallDelta (op_of change tags)
-small_of_change (Inc delta) tags is = let le = leb-true (unsigned_abs delta) 1000000000000 is in (omega (arith, ints, le), omega (arith, ints, le))
-small_of_change (Write word) tags is = tt
-small_of_change (Add word) tags is = tt
-small_of_change (Remove word) tags is = tt
-small_of_change (Put key word) tags is = tt
-small_of_change (Erase key) tags is = tt
+small_of_change : (change : Change) (tags : List OpId) → is_modest change ≡ true → is_small (op_of change tags) ≡ true
+small_of_change (Inc delta) tags is = is
+small_of_change (Write word) tags is = refl
+small_of_change (Add word) tags is = refl
+small_of_change (Remove word) tags is = refl
+small_of_change (Put key word) tags is = refl
+small_of_change (Erase key) tags is = refl
 
 -- a word or key that was looked up has few tags
-looked_few : (name : List ℕ) (o : ObjectId) (state : Option State) → Fine ≡ look_up_outcome o (Some name) state → length (tags_in (Some name) state) ≤ 4096
+looked_few : (name : List ℕ) (o : ObjectId) (state : Option State) → Fine ≡ look_up_outcome o (Some name) state → length (tags_in (Some name) state) ≤ MOST_TAGS
 looked_few name o None is = absurd (cc)
-looked_few name o (Some state) is = go (nat_lt 4096 (length (tags_of state name))) refl is
+looked_few name o (Some state) is = go (nat_lt MOST_TAGS (length (tags_of state name))) refl is
   where
-    go : (t : Bool) → nat_lt 4096 (length (tags_of state name)) ≡ t → Fine ≡ cond t (Refused (TooManyTags (length (tags_of state name)))) Fine → length (tags_of state name) ≤ 4096
+    go : (t : Bool) → nat_lt MOST_TAGS (length (tags_of state name)) ≡ t → Fine ≡ cond t (Refused (TooManyTags (length (tags_of state name)))) Fine → length (tags_of state name) ≤ MOST_TAGS
     go true t is = absurd (cc)
-    go false t is = ltb-false 4096 (length (tags_of state name)) t
+    go false t is = ltb-false MOST_TAGS (length (tags_of state name)) t
 
 -- so the operation is over few
-few_of_change : (change : Change) (o : ObjectId) (state : Option State) → Fine ≡ look_up_outcome o (named change) state → length (over_of (op_of change (tags_in (named change) state))) ≤ 4096
+few_of_change : (change : Change) (o : ObjectId) (state : Option State) → Fine ≡ look_up_outcome o (named change) state → length (over_of (op_of change (tags_in (named change) state))) ≤ MOST_TAGS
 few_of_change (Inc delta) o state is = omega arith
 few_of_change (Write word) o state is = omega arith
 few_of_change (Add word) o state is = looked_few word o state is
@@ -105,27 +106,27 @@ fit_after n client capacity notes follows = holds_after (of_fit n) n client capa
 
 -- ---- a book
 
-module _ (b : Book) (clients limit capacity : ℕ) (fit : FitsWith b clients limit capacity) where
+module _ (b : Book) (setup : Setup) (fit : FitsWith b setup) where
   -- the entries of a sound vector are small
   sound_small : (v : List ℕ) → length v ≡ b.n → IsSound b v → (e : ℕ) → at v e ≤ 1000000
   sound_small v wide sound zero = omega arith
   sound_small v wide sound (suc e) = ⊎_elim
       (λ past. omega (arith, at_past v (suc e) (omega (arith, wide, past))))
-      (λ le. omega (arith, sound.bounded (suc e), own_length (suc e) (applied b.n (trail_of b (suc e))), count_few (suc e) b.n (applied b.n (trail_of b (suc e))) (whole_each b clients limit capacity fit (suc e) (omega arith) le) (suc e)))
+      (λ le. omega (arith, sound.bounded (suc e), own_length (suc e) (applied b.n (trail_of b (suc e))), count_few (centre_settings b setup (suc e)) (applied b.n (trail_of b (suc e))) (whole_each b setup fit (suc e) (omega arith) le) (suc e)))
       (cases_lt b.n (suc e))
 
   -- each commit of a session is fit
-  pub commits_fit : (a m : ℕ) (t : Tx) → IsClient clients a → In t (commits_at b capacity a m) → IsFit b.n t
+  pub commits_fit : (a m : ℕ) (t : Tx) → IsClient setup a → In t (commits_at b setup a m) → IsFit b.n t
   commits_fit a m t client i =
-      let C = commits_at b capacity a m in
-      let held = held_after b.n (a - 1) capacity (notes_of b a) (fit.follows a client) m in
-      let one = (fit_after b.n (a - 1) capacity (notes_of b a) (fit.follows a client) m).commits t i in
+      let C = commits_at b setup a m in
+      let held = held_after b.n (a - 1) setup.capacity (notes_of b a) (fit.follows a client) m in
+      let one = (fit_after b.n (a - 1) setup.capacity (notes_of b a) (fit.follows a client) m).commits t i in
       let g = In_get C t i in
       let dot = numbered_at (λ (t : Tx). t.dot) (dot_at (a - 1)) 1 C g.0 t held.dots g.1 in
       let who : t.dot.client ≡ a - 1 = ap (λ (d : Dot). d.client) dot in
       let which : t.dot.number ≡ 1 + g.0 = ap (λ (d : Dot). d.number) dot in
       let within = slice_get_within C g.0 t g.1 in
-      let small = sound_small t.snap one.width ((standing b clients limit capacity fit a client m).sound t i) in
+      let small = sound_small t.snap one.width ((standing b setup fit a client m).sound t i) in
       record {
         some = one.some;
         few = (held.modest g.0 t g.1).few;

@@ -14,8 +14,8 @@ use Rattle.tx_core.specs.declared.state.State.{State}
 use Rattle.tx_core.specs.States.{tags_of}
 use Rattle.tx_core.specs.Ops.{over_of, name_of}
 use Rattle.tx_core.specs.Objects.{IsLiveId}
-use Rattle.dc_talk.specs.declared.session.Change.{Change}
-use Rattle.dc_talk.specs.declared.session.Outcome.TheVariants.{Fine}
+use Rattle.dc_talk.specs.declared.calls.Change.{Change}
+use Rattle.dc_talk.specs.declared.calls.Outcome.TheVariants.{Fine}
 use Rattle.dc_talk.specs.declared.log.Note.{Note}
 use Rattle.dc_talk.specs.Clients.{Client, next_dot, draft_updates, cached, view}
 use Rattle.dc_talk.specs.Calls.{op_of, over, change_outcome}
@@ -35,7 +35,7 @@ module _ (b : Book) (nodes : List Node) where
 
   -- the tags of a word or key in what the session has of an object are the live identifiers of those operations
   pub record ShowsTags (s : Client) : Type 0 where
-    pub by : (o : ObjectId) (state : State) → cached o s.vector s.cache ≡ Some state → (name : List ℕ) (id : OpId) → In id (tags_of (view s o state) name) ↔ IsLiveId (ops_now s o) name id
+    pub holds : (o : ObjectId) (state : State) → cached o s.vector s.cache ≡ Some state → (name : List ℕ) (id : OpId) → In id (tags_of (view s o state) name) ↔ IsLiveId (ops_now s o) name id
 
   -- with one change more the open updates are over what was live in the views in which they were issued
   issued_more : (s : Client) (o : ObjectId) (change : Change) → ShowsTags s → Fine ≡ change_outcome s o change → IsIssued nodes (open_node b s) → IsIssued nodes (open_node b (changed s o change))
@@ -63,7 +63,7 @@ module _ (b : Book) (nodes : List Node) where
       newest name id n =
           let name_is = sym (name_of_op change (over s o change)) ∙ n in
           let found = is_over s o change name name_is (change_fine s o change is).found in
-          subst (λ ids. In id ids ↔ live_before o us name id) (sym (over_of_op change (over s o change) name name_is ∙ found.is)) (shows.by o found.state found.found name id)
+          subst (λ ids. In id ids ↔ live_before o us name id) (sym (over_of_op change (over s o change) name name_is ∙ found.is)) (shows.holds o found.state found.found name id)
 
       last : IsIssuedAt nodes t (length us) u
       last = record { over = λ name id n. subst (λ before. In id (over_of u.op) ↔ live_before o before name id) (sym (take_at us (u ∷ []) (length us) refl)) (newest name id n) }

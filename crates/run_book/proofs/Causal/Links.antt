@@ -17,19 +17,14 @@ use Rattle.dc_talk.specs.declared.ask.Ask.{Ask}
 use Rattle.dc_talk.specs.declared.ask.Ask.TheVariants.{Hello, Refresh, Fetch, Commit as CommitAsk}
 use Rattle.dc_talk.specs.declared.say.Say.{Say}
 use Rattle.dc_talk.specs.declared.say.Say.TheVariants.{Welcome, Snap, Object, Known, Stamped}
-use Rattle.dc_talk.specs.declared.session.Call.{Call}
-use Rattle.dc_talk.specs.declared.session.Call.TheVariants.{Begin, Change as ChangeCall, Read, Commit, Abort}
-use Rattle.dc_talk.specs.declared.session.Outcome.{Outcome}
-use Rattle.dc_talk.specs.declared.session.Outcome.TheVariants.{Fine, Got, Number, Nothing, Refused}
-use Rattle.dc_talk.specs.declared.session.Refusal.TheVariants.{TooManyTags}
-use Rattle.dc_talk.specs.declared.session.Link.{Link}
+use Rattle.dc_talk.specs.declared.calls.Connection.{Connection}
 use Rattle.dc_talk.specs.declared.log.Fate.TheVariants.{Heard}
 use Rattle.dc_talk.specs.declared.log.Deed.{Deed}
 use Rattle.dc_talk.specs.declared.log.Deed.TheVariants.{Did, Asked, Told}
 use Rattle.dc_talk.specs.declared.log.Note.{Note}
-use Rattle.dc_talk.specs.declared.trail.Entry.{Entry}
+use Rattle.dc_talk.specs.Entries.{Entry}
 use Rattle.dc_talk.specs.Records.{vector, guard}
-use Rattle.dc_talk.specs.Trails.{applied, grown, stamped, received, committed_in, stamp_in, delivered_in, is_applied}
+use Rattle.dc_talk.specs.Trails.{applied, grown}
 use Rattle.dc_talk.specs.Clients.{Client, new_client}
 use Rattle.dc_talk.specs.Calls.{did}
 use Rattle.dc_talk.specs.Rule.{after, takes, taken, is_linked, can_follow, sent_through, client_after, Gives, Allows}
@@ -37,65 +32,55 @@ use Rattle.dc_talk.proofs.ClientAnswers.{snap_by, known_by, welcome_by}
 use Rattle.dc_talk.proofs.Counts.{in_guard}
 use Rattle.dc_talk.proofs.Applied.{new_record}
 use Rattle.dc_talk.proofs.Growth.{later_covers, later_guard}
+use Rattle.run_book.specs.Setups.{Setup, centre_settings}
 use Rattle.run_book.specs.declared.book.Book.{Book}
-use Rattle.run_book.specs.Parts.{trail_of, notes_of, exchanged_in, exchanged, entry_by, entries_by, IsClient}
+use Rattle.run_book.specs.Parts.{trail_of, notes_of, exchanged_in, exchanged, entries_by, IsClient}
 use Rattle.run_book.specs.Fit.{FitsWith}
 use Rattle.run_book.specs.Graphs.{client_at}
 use Rattle.run_book.specs.Refusals.{IsReached}
 use Rattle.run_book.proofs.Held.{held_after}
 use Rattle.run_book.proofs.Happened.{heard_gives}
-use Rattle.run_book.proofs.Pairing.{HasEntry, has_entry, one_exchange}
+use Rattle.run_book.proofs.Pairing.{entry_by, HasEntry, has_entry, one_exchange}
 use Rattle.run_book.proofs.Served.{snap_within}
-use Rattle.run_book.proofs.Snapshots.{did_vector}
+use Rattle.run_book.proofs.Snapshots.{did_keeps}
 
 -- ---- one log
-
--- a call leaves the link as it is
-did_link : (s : Client) (call : Call) (outcome : Outcome) → (did s call outcome).link ≡ s.link
-did_link s Begin Fine = refl
-did_link s (ChangeCall o change) Fine = refl
-did_link s (ChangeCall o change) (Refused (TooManyTags count)) = refl
-did_link s (Read o) (Got value) = refl
-did_link s Commit (Number number) = refl
-did_link s Commit Nothing = refl
-did_link s Abort Fine = refl
-did_link s _ _ = refl
 
 -- equal hellos are of one client, with one vector
 pub same_hello : (c d : ℕ) (v w : List ℕ) → Hello c v ≡ Hello d w → (c ≡ d) × (v ≡ w)
 same_hello c d v w is = (cc, cc)
 
 -- a client that is linked to a centre has its link there
-linked_is : (i : ℕ) (o : Option Link) → is_linked i o ≡ true → (link : Link) → o ≡ Some link → link.centre ≡ i
+linked_is : (i : ℕ) (o : Option Connection) → is_linked i o ≡ true → (link : Connection) → o ≡ Some link → link.centre ≡ i
 linked_is i None is link there = absurd (none-some link there)
-linked_is i (Some one) is link there = sym (ap (λ (l : Link). l.centre) (same_Some one link there)) ∙ eqb-true one.centre i is
+linked_is i (Some one) is link there = sym (ap (λ (l : Connection). l.centre) (same_Some one link there)) ∙ eqb-true one.centre i is
 
 -- the link of a client, where it has one, has reached its centre
-abbrev pub LinkReached : Book → ℕ → List Note → List ℕ → Option Link → Type 0
-LinkReached b a X v o = (link : Link) → o ≡ Some link → IsReached b a X v link
+abbrev pub LinkReached : Book → ℕ → List Note → List ℕ → Option Connection → Type 0
+LinkReached b a X v o = (link : Connection) → o ≡ Some link → IsReached b a X v link
 
-module _ (b : Book) (limit a : ℕ) where
+module _ (b : Book) (setup : Setup) (a : ℕ) where
   -- with one note more the exchanges are no fewer
   more_few : (i k : ℕ) (X : List Note) (note : Note) → k ≤ length (exchanged i X) → k ≤ length (exchanged i (X ++ note ∷ []))
   more_few i k X note le = omega (arith, le, kept_more (λ (note : Note). exchanged_in i note.deed) X note)
 
   -- so what was reached, still is
-  stays : (X : List Note) (note : Note) (v : List ℕ) (link : Link) → IsReached b a X v link → IsReached b a (X ++ note ∷ []) v link
+  stays : (X : List Note) (note : Note) (v : List ℕ) (link : Connection) → IsReached b a X v link → IsReached b a (X ++ note ∷ []) v link
   stays X note v link r = record { low = r.low; high = r.high; place = r.place; few = more_few link.centre (length (entries_by a (take r.place (trail_of b link.centre)))) X note r.few; covered = r.covered; sent = r.sent }
 
   -- the entry of the next exchange stands no sooner than what was reached
-  pub no_sooner : (X : List Note) (v : List ℕ) (link : Link) (ask : Ask) (say : Say) (x : HasEntry b limit a link.centre ask say X) (r : IsReached b a X v link) → r.place ≤ x.place
+  pub no_sooner : (X : List Note) (v : List ℕ) (link : Connection) (ask : Ask) (say : Say) (x : HasEntry b setup link.centre (record { caller = a; ask = ask; say = say }) X) (r : IsReached b a X v link) → r.place ≤ x.place
   no_sooner X v link ask say x r = ⊎_elim
-      (λ lt. absurd (omega (arith, kept_before (entry_by a) (trail_of b link.centre) x.place r.place x.entry (ask, say) lt x.there x.own, r.few, x.before)))
+      (λ lt. absurd (omega (arith, kept_before (entry_by a) (trail_of b link.centre) x.place r.place (record { caller = a; ask = ask; say = say }) (ask, say) lt x.there x.own, r.few, x.before)))
       (λ le. le)
       (cases_lt x.place r.place)
 
   -- a session of the client, after the notes X, whose link has reached its centre, and one note more
   module _ (s : Client) (who : s.client ≡ a - 1) (X : List Note) (note : Note) (old : LinkReached b a X s.vector s.link) where
     -- a welcome: the centre has what was needed, and says how many commits it has
-    reached_hello : (i client : ℕ) (need : List ℕ) (through : ℕ) → HasEntry b limit a i (Hello client need) (Welcome through) X → client ≡ s.client → need ≡ s.vector → (sent : ℕ) → sent ≤ through → IsReached b a (X ++ note ∷ []) s.vector (record { centre = i; sent = sent })
+    reached_hello : (i client : ℕ) (need : List ℕ) (through : ℕ) → HasEntry b setup i (record { caller = a; ask = Hello client need; say = Welcome through }) X → client ≡ s.client → need ≡ s.vector → (sent : ℕ) → sent ≤ through → IsReached b a (X ++ note ∷ []) s.vector (record { centre = i; sent = sent })
     reached_hello i client need through x same here sent le =
-        let by = welcome_by i b.n b.k limit (take x.place (trail_of b i)) client need through x.is in
+        let by = welcome_by (centre_settings b setup i) (take x.place (trail_of b i)) client need through x.is in
         let A = applied b.n (take x.place (trail_of b i)) in
         let which : guard client A ≡ guard (a - 1) A = ap (λ c. guard c A) (same ∙ who) in
         record {
@@ -108,28 +93,28 @@ module _ (b : Book) (limit a : ℕ) where
         }
 
     -- a snapshot: the centre has what it covers
-    reached_snap : (link : Link) (client : ℕ) (here w : List ℕ) (number rank : ℕ) → HasEntry b limit a link.centre (Refresh client here) (Snap w number rank) X → IsReached b a X s.vector link → IsReached b a (X ++ note ∷ []) w link
+    reached_snap : (link : Connection) (client : ℕ) (here w : List ℕ) (number rank : ℕ) → HasEntry b setup link.centre (record { caller = a; ask = Refresh client here; say = Snap w number rank }) X → IsReached b a X s.vector link → IsReached b a (X ++ note ∷ []) w link
     reached_snap link client here w number rank x r =
         let Y = take x.place (trail_of b link.centre) in
-        let snap = snap_by link.centre b.n b.k limit Y client here w number rank x.is in
+        let snap = snap_by (centre_settings b setup link.centre) Y client here w number rank x.is in
         let guards = later_guard b.n (a - 1) (trail_of b link.centre) r.place x.place (no_sooner X s.vector link (Refresh client here) (Snap w number rank) x r) in
         record {
           low = x.low;
           high = x.high;
           place = x.place;
           few = more_few link.centre (length (entries_by a Y)) X note (omega (arith, x.before));
-          covered = snap_within link.centre b.n b.k Y client here w number rank snap;
+          covered = snap_within (centre_settings b setup link.centre) Y client here w number rank snap;
           sent = omega (arith, guards, r.sent);
         }
 
     -- a commit that is known: the centre says how many commits it has
-    reached_known : (link : Link) (tx : Tx) (through sent : ℕ) → HasEntry b limit a link.centre (CommitAsk tx) (Known through) X → tx.dot.client ≡ s.client → sent ≤ max link.sent through → IsReached b a X s.vector link → IsReached b a (X ++ note ∷ []) s.vector (record link { sent = sent })
+    reached_known : (link : Connection) (tx : Tx) (through sent : ℕ) → HasEntry b setup link.centre (record { caller = a; ask = CommitAsk tx; say = Known through }) X → tx.dot.client ≡ s.client → sent ≤ max link.sent through → IsReached b a X s.vector link → IsReached b a (X ++ note ∷ []) s.vector (record link { sent = sent })
     reached_known link tx through sent x own le r =
         let Y = take x.place (trail_of b link.centre) in
         let A = applied b.n Y in
         let later = no_sooner X s.vector link (CommitAsk tx) (Known through) x r in
         let guards = later_guard b.n (a - 1) (trail_of b link.centre) r.place x.place later in
-        let known = known_by link.centre b.n b.k limit Y tx through x.is in
+        let known = known_by (centre_settings b setup link.centre) Y tx through x.is in
         let which : guard tx.dot.client A ≡ guard (a - 1) A = ap (λ c. guard c A) (own ∙ who) in
         record {
           low = x.low;
@@ -145,24 +130,22 @@ module _ (b : Book) (limit a : ℕ) where
     stamped_there i place entry tx stamp there asks says =
         let A = applied b.n (take place (trail_of b i)) in
         let r = new_record b.n A tx stamp in
-        let grows : applied b.n (take (suc place) (trail_of b i)) ≡ grown b.n A entry = ap (applied b.n) (take_one_more (trail_of b i) place entry there) ∙ fold_push (grown b.n) [] (take place (trail_of b i)) entry in
-        let one : grown b.n A entry ≡ A ++ r ∷ [] =
-        ap (λ ask. received (stamped b.n A (committed_in ask) (stamp_in entry.say)) (delivered_in ask) (is_applied entry.say)) asks
-        ∙ ap (λ say. received (stamped b.n A (Some tx) (stamp_in say)) None (is_applied say)) says in
+        let grows : applied b.n (take (suc place) (trail_of b i)) ≡ grown b.n A entry.ask entry.say = ap (applied b.n) (take_one_more (trail_of b i) place entry there) ∙ fold_push (λ A (entry : Entry). grown b.n A entry.ask entry.say) [] (take place (trail_of b i)) entry in
+        let one : grown b.n A entry.ask entry.say ≡ A ++ r ∷ [] = ap (λ ask. grown b.n A ask entry.say) asks ∙ ap (grown b.n A (CommitAsk tx)) says in
         subst (λ A. tx.dot.number ≤ guard tx.dot.client A) (sym (grows ∙ one)) (in_guard (A ++ r ∷ []) r (In_right A (r ∷ []) r (inl refl)))
 
     -- a commit that is stamped: the centre has it behind its own entry
-    reached_stamped : (link : Link) (tx : Tx) (stamp : Stamp) (sent : ℕ) → note.deed ≡ Asked link.centre (CommitAsk tx) (Heard (Stamped stamp)) → HasEntry b limit a link.centre (CommitAsk tx) (Stamped stamp) X → tx.dot.client ≡ s.client → sent ≤ max link.sent tx.dot.number → IsReached b a X s.vector link → IsReached b a (X ++ note ∷ []) s.vector (record link { sent = sent })
+    reached_stamped : (link : Connection) (tx : Tx) (stamp : Stamp) (sent : ℕ) → note.deed ≡ Asked link.centre (CommitAsk tx) (Heard (Stamped stamp)) → HasEntry b setup link.centre (record { caller = a; ask = CommitAsk tx; say = Stamped stamp }) X → tx.dot.client ≡ s.client → sent ≤ max link.sent tx.dot.number → IsReached b a X s.vector link → IsReached b a (X ++ note ∷ []) s.vector (record link { sent = sent })
     reached_stamped link tx stamp sent deed x own le r =
         let Y = take x.place (trail_of b link.centre) in
         let A = applied b.n (take (suc x.place) (trail_of b link.centre)) in
         let later = no_sooner X s.vector link (CommitAsk tx) (Stamped stamp) x r in
         let guards = later_guard b.n (a - 1) (trail_of b link.centre) r.place (suc x.place) (omega (arith, later)) in
-        let new = stamped_there link.centre x.place x.entry tx stamp x.there x.ask_is x.say_is in
+        let new = stamped_there link.centre x.place (record { caller = a; ask = CommitAsk tx; say = Stamped stamp }) tx stamp x.there refl refl in
         let which : guard tx.dot.client A ≡ guard (a - 1) A = ap (λ c. guard c A) (own ∙ who) in
         let entries : length (entries_by a (take (suc x.place) (trail_of b link.centre))) ≡ length (entries_by a Y) + 1 =
-        ap (λ l. length (entries_by a l)) (take_one_more (trail_of b link.centre) x.place x.entry x.there)
-        ∙ (kept_more (entry_by a) Y x.entry ∙ ap (λ o. length (entries_by a Y) + length (cons_option o [])) x.own) in
+        ap (λ l. length (entries_by a l)) (take_one_more (trail_of b link.centre) x.place (record { caller = a; ask = CommitAsk tx; say = Stamped stamp }) x.there)
+        ∙ (kept_more (entry_by a) Y (record { caller = a; ask = CommitAsk tx; say = Stamped stamp }) ∙ ap (λ o. length (entries_by a Y) + length (cons_option o [])) x.own) in
         record {
           low = x.low;
           high = x.high;
@@ -173,42 +156,42 @@ module _ (b : Book) (limit a : ℕ) where
         }
 
     -- an answer that is taken
-    reached_taken : (i : ℕ) (ask : Ask) (say : Say) → note.deed ≡ Asked i ask (Heard say) → HasEntry b limit a i ask say X → Gives s i ask → takes s i ask say ≡ true → LinkReached b a (X ++ note ∷ []) (taken s i ask say).vector (taken s i ask say).link
+    reached_taken : (i : ℕ) (ask : Ask) (say : Say) → note.deed ≡ Asked i ask (Heard say) → HasEntry b setup i (record { caller = a; ask = ask; say = say }) X → Gives s i ask → takes s i ask say ≡ true → LinkReached b a (X ++ note ∷ []) (taken s i ask say).vector (taken s i ask say).link
     reached_taken i (Hello client need) (Welcome through) deed x gives is link there =
         subst (λ link. IsReached b a (X ++ note ∷ []) s.vector link) (same_Some (record { centre = i; sent = min through s.own }) link there)
         (reached_hello i client need through x (eqb-true client s.client is) (same_hello client s.client need s.vector gives).1 (min through s.own) (omega arith))
     reached_taken i (Refresh client here) (Snap w number rank) deed x gives is link there =
         let parts = and_parts ((client == s.client) && is_linked i s.link) (can_follow s w number rank) is in
         let here_it : link.centre ≡ i = linked_is i s.link (and_parts (client == s.client) (is_linked i s.link) parts.0).1 link there in
-        reached_snap link client here w number rank (subst (λ i. HasEntry b limit a i (Refresh client here) (Snap w number rank) X) (sym here_it) x) (old link there)
+        reached_snap link client here w number rank (subst (λ i. HasEntry b setup i (record { caller = a; ask = Refresh client here; say = Snap w number rank }) X) (sym here_it) x) (old link there)
     reached_taken i (Fetch o here) (Object state) deed x gives is link there = stays X note s.vector link (old link there)
     reached_taken i (CommitAsk tx) (Stamped stamp) deed x gives is link there = go s.link refl there
       where
         parts : ((tx.dot.client == s.client) ≡ true) × (is_linked i s.link ≡ true)
         parts = and_parts (tx.dot.client == s.client) (is_linked i s.link) is
 
-        go : (o : Option Link) → s.link ≡ o → sent_through tx.dot.number s.own o ≡ Some link → IsReached b a (X ++ note ∷ []) s.vector link
+        go : (o : Option Connection) → s.link ≡ o → sent_through tx.dot.number s.own o ≡ Some link → IsReached b a (X ++ note ∷ []) s.vector link
         go None at there = absurd (none-some link there)
         go (Some one) at there =
             let here_it : one.centre ≡ i = linked_is i s.link parts.1 one at in
             subst (λ link. IsReached b a (X ++ note ∷ []) s.vector link) (same_Some (record one { sent = min (max one.sent tx.dot.number) s.own }) link there)
-            (reached_stamped one tx stamp (min (max one.sent tx.dot.number) s.own) (subst (λ i. note.deed ≡ Asked i (CommitAsk tx) (Heard (Stamped stamp))) (sym here_it) deed) (subst (λ i. HasEntry b limit a i (CommitAsk tx) (Stamped stamp) X) (sym here_it) x) (eqb-true tx.dot.client s.client parts.0) (omega arith) (old one at))
+            (reached_stamped one tx stamp (min (max one.sent tx.dot.number) s.own) (subst (λ i. note.deed ≡ Asked i (CommitAsk tx) (Heard (Stamped stamp))) (sym here_it) deed) (subst (λ i. HasEntry b setup i (record { caller = a; ask = CommitAsk tx; say = Stamped stamp }) X) (sym here_it) x) (eqb-true tx.dot.client s.client parts.0) (omega arith) (old one at))
     reached_taken i (CommitAsk tx) (Known through) deed x gives is link there = go s.link refl there
       where
         parts : ((tx.dot.client == s.client) ≡ true) × (is_linked i s.link ≡ true)
         parts = and_parts (tx.dot.client == s.client) (is_linked i s.link) is
 
-        go : (o : Option Link) → s.link ≡ o → sent_through through s.own o ≡ Some link → IsReached b a (X ++ note ∷ []) s.vector link
+        go : (o : Option Connection) → s.link ≡ o → sent_through through s.own o ≡ Some link → IsReached b a (X ++ note ∷ []) s.vector link
         go None at there = absurd (none-some link there)
         go (Some one) at there =
             let here_it : one.centre ≡ i = linked_is i s.link parts.1 one at in
             subst (λ link. IsReached b a (X ++ note ∷ []) s.vector link) (same_Some (record one { sent = min (max one.sent through) s.own }) link there)
-            (reached_known one tx through (min (max one.sent through) s.own) (subst (λ i. HasEntry b limit a i (CommitAsk tx) (Known through) X) (sym here_it) x) (eqb-true tx.dot.client s.client parts.0) (omega arith) (old one at))
+            (reached_known one tx through (min (max one.sent through) s.own) (subst (λ i. HasEntry b setup i (record { caller = a; ask = CommitAsk tx; say = Known through }) X) (sym here_it) x) (eqb-true tx.dot.client s.client parts.0) (omega arith) (old one at))
     reached_taken i _ _ deed x gives is link there = stays X note s.vector link (old link there)
 
     -- a deed
-    reached_deed : (deed : Deed) → note.deed ≡ deed → ((i : ℕ) (ask : Ask) (say : Say) → deed ≡ Asked i ask (Heard say) → HasEntry b limit a i ask say X × Gives s i ask) → LinkReached b a (X ++ note ∷ []) (after s deed).vector (after s deed).link
-    reached_deed (Did call outcome) is heard link there = stays X note (did s call outcome).vector link (subst (λ v. IsReached b a X v link) (sym (did_vector s call outcome)) (old link (sym (did_link s call outcome) ∙ there)))
+    reached_deed : (deed : Deed) → note.deed ≡ deed → ((i : ℕ) (ask : Ask) (say : Say) → deed ≡ Asked i ask (Heard say) → HasEntry b setup i (record { caller = a; ask = ask; say = say }) X × Gives s i ask) → LinkReached b a (X ++ note ∷ []) (after s deed).vector (after s deed).link
+    reached_deed (Did call outcome) is heard link there = stays X note (did s call outcome).vector link (subst (λ v. IsReached b a X v link) (sym (did_keeps s call outcome).vector) (old link (sym (did_keeps s call outcome).link ∙ there)))
     reached_deed (Asked i ask (Heard say)) is heard link there = go (takes s i ask say) refl there
       where
         go : (t : Bool) → takes s i ask say ≡ t → (cond t (taken s i ask say) s).link ≡ Some link → IsReached b a (X ++ note ∷ []) (cond t (taken s i ask say) s).vector link
@@ -220,16 +203,16 @@ module _ (b : Book) (limit a : ℕ) where
 -- ---- a book
 
 -- the link of a session has reached its centre at each moment of its log
-pub linked : (b : Book) (clients limit capacity : ℕ) → FitsWith b clients limit capacity → (a : ℕ) → IsClient clients a → (m : ℕ) → LinkReached b a (take m (notes_of b a)) (client_at b capacity a m).vector (client_at b capacity a m).link
-linked b clients limit capacity fit a client = by_moments (λ X. LinkReached b a X (client_after b.n (a - 1) capacity X).vector (client_after b.n (a - 1) capacity X).link) (notes_of b a) (λ link there. absurd (none-some link there)) step
+pub linked : (b : Book) (setup : Setup) → FitsWith b setup → (a : ℕ) → IsClient setup a → (m : ℕ) → LinkReached b a (take m (notes_of b a)) (client_at b setup a m).vector (client_at b setup a m).link
+linked b setup fit a client = by_moments (λ X. LinkReached b a X (client_after b.n (a - 1) setup.capacity X).vector (client_after b.n (a - 1) setup.capacity X).link) (notes_of b a) (λ link there. absurd (none-some link there)) step
   where
-    step : (p : ℕ) (note : Note) → slice_get (notes_of b a) p ≡ Some note → LinkReached b a (take p (notes_of b a)) (client_at b capacity a p).vector (client_at b capacity a p).link → LinkReached b a (take p (notes_of b a) ++ note ∷ []) (client_after b.n (a - 1) capacity (take p (notes_of b a) ++ note ∷ [])).vector (client_after b.n (a - 1) capacity (take p (notes_of b a) ++ note ∷ [])).link
+    step : (p : ℕ) (note : Note) → slice_get (notes_of b a) p ≡ Some note → LinkReached b a (take p (notes_of b a)) (client_at b setup a p).vector (client_at b setup a p).link → LinkReached b a (take p (notes_of b a) ++ note ∷ []) (client_after b.n (a - 1) setup.capacity (take p (notes_of b a) ++ note ∷ [])).vector (client_after b.n (a - 1) setup.capacity (take p (notes_of b a) ++ note ∷ [])).link
     step p note there old =
         let X = take p (notes_of b a) in
-        let s = client_at b capacity a p in
-        subst (λ (s : Client). LinkReached b a (X ++ note ∷ []) s.vector s.link) (sym (fold_push (λ s (note : Note). after s note.deed) (new_client b.n (a - 1) capacity) X note))
-        (reached_deed b limit a s (held_after b.n (a - 1) capacity (notes_of b a) (fit.follows a client) p).who X note old note.deed refl
+        let s = client_at b setup a p in
+        subst (λ (s : Client). LinkReached b a (X ++ note ∷ []) s.vector s.link) (sym (fold_push (λ s (note : Note). after s note.deed) (new_client b.n (a - 1) setup.capacity) X note))
+        (reached_deed b setup a s (held_after b.n (a - 1) setup.capacity (notes_of b a) (fit.follows a client) p).who X note old note.deed refl
         (λ i ask say is. (
-          has_entry b clients limit capacity fit a p note i ask (Heard say) say (omega (arith, client.low)) (omega (arith, client.high, fit.form.logs)) there is refl,
-          heard_gives s X i ask say (subst (λ d. Allows s X d) is ((fit.follows a client).by p note there)),
+          has_entry b setup fit a p note i ask (Heard say) say (omega (arith, client.low)) (omega (arith, client.high, fit.form.logs)) there is refl,
+          heard_gives s X i ask say (subst (λ d. Allows s X d) is ((fit.follows a client).holds p note there)),
         )))

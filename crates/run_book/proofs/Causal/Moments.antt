@@ -1,73 +1,113 @@
--- Each centre that is counted in known to K had the stamp at a moment of its own trail.
-use Rattle.std.proofs.Common.{◌≡◌, ℕ, suc, ◌≤◌, Bool, true, false, ◌&&◌, ◌||◌, ⊎_elim, List, [], ◌∷◌, length, take, Option, Some, None, refl, sym, ◌∙◌, subst, arith}
-use Rattle.std.specs.Prelude.{slice_get, ◌==◌, nat_le}
-use Rattle.std.proofs.lemmas.Bool.{and_parts, leb-true, eqb-true, false≢true, cases_lt}
-use Rattle.std.proofs.lemmas.Option.{slice_get_within}
+-- Each centre whose row covers a stamp had it at a moment of its own trail.
+use Rattle.std.proofs.Common.{◌≡◌, ℕ, zero, suc, ◌+◌, ◌≤◌, ◌<◌, Bool, true, false, cond, ◌⊎◌, inl, inr, ⊎_elim, List, [], ◌∷◌, length, take, map, Option, Some, None, refl, sym, ap, ◌∙◌, subst, arith}
+use Rattle.std.specs.Prelude.{slice_get, fold, ◌==◌}
+use Rattle.std.specs.List.{range_with_len}
+use Rattle.std.proofs.lemmas.Bool.{leb-true, le-leb, eqb-true, cases_lt}
+use Rattle.std.proofs.lemmas.Option.{none-some, same_Some, slice_get_within}
 use Rattle.std.proofs.lemmas.List.{take_all}
 use Rattle.list_core.proofs.Gets.{get_in_take}
-use Rattle.vv_core.specs.Vectors.{at}
+use Rattle.vv_core.specs.declared.stamp.Stamp.{Stamp}
+use Rattle.vv_core.specs.Vectors.{at, within, zeros, join_of}
+use Rattle.vv_core.proofs.Entrywise.{at-zeros, at-join_of}
 use Rattle.dc_talk.specs.declared.say.Say.TheVariants.{Vector}
-use Rattle.dc_talk.specs.declared.trail.Entry.{Entry}
+use Rattle.dc_talk.specs.Entries.{Entry}
 use Rattle.dc_talk.specs.Records.{vector}
-use Rattle.dc_talk.specs.Trails.{applied, taught_in}
+use Rattle.dc_talk.specs.Trails.{applied, taught_in, taught, told, rows}
 use Rattle.dc_talk.specs.Answers.{answer}
 use Rattle.dc_talk.proofs.PeerAnswers.{vector_by}
 use Rattle.run_book.specs.declared.book.Book.{Book}
-use Rattle.run_book.specs.Parts.{trail_of}
+use Rattle.run_book.specs.Setups.{Setup, centre_settings}
+use Rattle.run_book.specs.Parts.{trail_of, applied_at}
 use Rattle.run_book.specs.Fit.{FitsWith, IsReported}
-use Rattle.run_book.specs.Known.{teaches, is_told, knows, HasMoment}
+use Rattle.run_book.specs.Known.{HasMoment}
 use Rattle.run_book.proofs.Causal.CentreVectors.{taught_news}
 
--- a lesson of the trail that covers the stamp k of centre e, and is of centre j
-record IsTaught (j e k : ℕ) (trail : List Entry) : Type 0 where
+-- ---- what a trail taught
+
+-- a vector of centre j that covers the stamp, among these
+record IsLesson (j : ℕ) (stamp : Stamp) (o : Option (ℕ × List ℕ)) : Type 0 where
+  news : ℕ × List ℕ
+  taught : o ≡ Some news
+  from : news.0 ≡ j
+  covers : stamp.seq ≤ at news.1 stamp.centre
+
+-- where a row of what was told covers a stamp after one more lesson, it did before or the lesson covers it
+told_step : (j : ℕ) (stamp : Stamp) (row : List ℕ) (o : Option (ℕ × List ℕ)) → stamp.seq ≤ at (taught j row o) stamp.centre → (stamp.seq ≤ at row stamp.centre) ⊎ IsLesson j stamp o
+told_step j stamp row None h = inl h
+told_step j stamp row (Some news) h = go (news.0 == j) refl h
+  where
+    go : (t : Bool) → (news.0 == j) ≡ t → stamp.seq ≤ at (cond t (join_of row news.1) row) stamp.centre → (stamp.seq ≤ at row stamp.centre) ⊎ IsLesson j stamp (Some news)
+    go true is h = ⊎_elim
+        (λ lt. inr (record { news = news; taught = refl; from = eqb-true news.0 j is; covers = omega (arith, h, at-join_of row news.1 stamp.centre, lt) }))
+        (λ le. inl le)
+        (cases_lt (at row stamp.centre) stamp.seq)
+    go false is h = inl h
+
+-- an entry of the trail that taught a vector of centre j which covers the stamp
+record IsTaught (j : ℕ) (stamp : Stamp) (trail : List Entry) : Type 0 where
   place : ℕ
   entry : Entry
   there : slice_get trail place ≡ Some entry
-  news : ℕ × List ℕ
-  taught : taught_in entry.ask entry.say ≡ Some news
-  from : news.0 ≡ j
-  covers : k ≤ at news.1 e
+  lesson : IsLesson j stamp (taught_in entry.ask entry.say)
 
--- what a trail was told stands in one
-told : (j e k : ℕ) (trail : List Entry) → is_told j e k trail ≡ true → IsTaught j e k trail
-told j e k [] is = absurd (false≢true is)
-told j e k (entry ∷ trail) is = go (λ h. told j e k trail h) (taught_in entry.ask entry.say) refl is
-  where
-    later : IsTaught j e k trail → IsTaught j e k (entry ∷ trail)
-    later t = record { place = suc t.place; entry = t.entry; there = t.there; news = t.news; taught = t.taught; from = t.from; covers = t.covers }
+-- where the row covers a stamp after a trail, it did before or an entry taught it
+told_fold : (j : ℕ) (stamp : Stamp) (trail : List Entry) (row : List ℕ) → stamp.seq ≤ at (fold (λ row entry. taught j row (taught_in entry.ask entry.say)) row trail) stamp.centre → (stamp.seq ≤ at row stamp.centre) ⊎ IsTaught j stamp trail
+told_fold j stamp [] row h = inl h
+told_fold j stamp (entry ∷ trail) row h =
+    ⊎_elim
+    (λ a. ⊎_elim (λ b. inl b) (λ lesson. inr (record { place = 0; entry = entry; there = refl; lesson = lesson })) (told_step j stamp row (taught_in entry.ask entry.say) a))
+    (λ (t : IsTaught j stamp trail). inr (record { place = suc t.place; entry = t.entry; there = t.there; lesson = t.lesson }))
+    (told_fold j stamp trail (taught j row (taught_in entry.ask entry.say)) h)
 
-    pick : (news : ℕ × List ℕ) → taught_in entry.ask entry.say ≡ Some news → (is_told j e k trail ≡ true → IsTaught j e k trail) → (t : Bool) → teaches j e k (Some news) ≡ t → (t || is_told j e k trail) ≡ true → IsTaught j e k (entry ∷ trail)
-    pick news asks rest true h is = let parts = and_parts (news.0 == j) (nat_le k (at news.1 e)) h in record { place = 0; entry = entry; there = refl; news = news; taught = asks; from = eqb-true news.0 j parts.0; covers = leb-true k (at news.1 e) parts.1 }
-    pick news asks rest false h is = later (rest is)
+-- what stands at a place of the values at a range of numbers
+get_over_range : {X : Type 0} (f : ℕ → X) (first count j : ℕ) (x : X) → slice_get (map f (range_with_len first count)) j ≡ Some x → (j < count) × (f (first + j) ≡ x)
+get_over_range f first zero j x there = absurd (none-some x there)
+get_over_range f first (suc count) zero x there =
+    let here : first + 0 ≡ first = omega arith in
+    (omega arith, ap f here ∙ same_Some (f first) x there)
+get_over_range f first (suc count) (suc j) x there =
+    let r = get_over_range f (first + 1) count j x there in
+    let here : first + suc j ≡ first + 1 + j = omega arith in
+    (omega (arith, r.0), ap f here ∙ r.1)
 
-    go : (is_told j e k trail ≡ true → IsTaught j e k trail) → (o : Option (ℕ × List ℕ)) → taught_in entry.ask entry.say ≡ o → (teaches j e k o || is_told j e k trail) ≡ true → IsTaught j e k (entry ∷ trail)
-    go rest None asks is = later (rest is)
-    go rest (Some news) asks is = pick news asks rest (teaches j e k (Some news)) refl is
+-- ---- a book
 
-module _ (b : Book) (clients limit capacity : ℕ) (fit : FitsWith b clients limit capacity) where
+module _ (b : Book) (setup : Setup) (fit : FitsWith b setup) where
   -- what the vector of a centre covers, it has at that moment
-  own_moment : (i p e k : ℕ) → 1 ≤ i → i ≤ b.n → k ≤ at (vector b.n (applied b.n (take p (trail_of b i)))) e → HasMoment b i e k
-  own_moment i p e k low high le = ⊎_elim
-      (λ past. record { centre = (low, high); place = length (trail_of b i); within = omega arith; covers = subst (λ X. k ≤ at (vector b.n (applied b.n X)) e) (take_all p (trail_of b i) (omega (arith, past)) ∙ sym (take_all (length (trail_of b i)) (trail_of b i) (omega arith))) le })
-      (λ within. record { centre = (low, high); place = p; within = within; covers = le })
+  own_moment : (i p : ℕ) (stamp : Stamp) → 1 ≤ i → i ≤ b.n → within stamp (vector b.n (applied_at b i p)) ≡ true → HasMoment b i stamp
+  own_moment i p stamp low high is = ⊎_elim
+      (λ past. record { centre = (low, high); place = length (trail_of b i); few = omega arith; covers = subst (λ X. within stamp (vector b.n (applied b.n X)) ≡ true) (take_all p (trail_of b i) (omega (arith, past)) ∙ sym (take_all (length (trail_of b i)) (trail_of b i) (omega arith))) is })
+      (λ few. record { centre = (low, high); place = p; few = few; covers = is })
       (cases_lt (length (trail_of b i)) p)
 
   -- what a centre was told of another, that one had at a moment
-  told_moment : (i p e k j : ℕ) → IsTaught j e k (take p (trail_of b i)) → HasMoment b j e k
-  told_moment i p e k j t = subst (λ j. HasMoment b j e k) t.from (record { centre = r.origin; place = r.place; within = omega (arith, slice_get_within (trail_of b t.news.0) r.place r.entry r.there); covers = subst (λ v. k ≤ at v e) (vector_by t.news.0 b.n b.k limit (take r.place (trail_of b t.news.0)) r.entry.ask t.news.1 is) t.covers })
+  told_moment : (i p j : ℕ) (stamp : Stamp) → IsTaught j stamp (take p (trail_of b i)) → HasMoment b j stamp
+  told_moment i p j stamp t = subst (λ j. HasMoment b j stamp) l.from (record { centre = r.origin; place = r.place; few = omega (arith, slice_get_within (trail_of b l.news.0) r.place r.entry r.there); covers = subst (λ v. within stamp v ≡ true) (vector_by (centre_settings b setup l.news.0) (take r.place (trail_of b l.news.0)) r.entry.ask l.news.1 is) (le-leb stamp.seq (at l.news.1 stamp.centre) l.covers) })
     where
-      r : IsReported b t.news
-      r = fit.learned i t.place t.entry t.news (get_in_take (trail_of b i) p t.place t.entry t.there) (taught_news t.entry.ask t.entry.say t.news t.taught)
+      l : IsLesson j stamp (taught_in t.entry.ask t.entry.say)
+      l = t.lesson
 
-      is : Vector t.news.1 ≡ answer t.news.0 b.n b.k limit (take r.place (trail_of b t.news.0)) r.entry.ask
-      is = sym r.says ∙ (fit.histories t.news.0 r.origin.0 r.origin.1).by r.place r.entry r.there
+      r : IsReported b l.news.0 l.news.1
+      r = fit.learned i t.place t.entry l.news.0 l.news.1 (get_in_take (trail_of b i) p t.place t.entry t.there) (taught_news t.entry.ask t.entry.say l.news l.taught)
 
-  -- a centre that is known to have the stamp had it at a moment of its own trail
-  pub moment : (i p e k j : ℕ) → 1 ≤ i → i ≤ b.n → knows b.n i (take p (trail_of b i)) e k j ≡ true → HasMoment b j e k
-  moment i p e k j low high is = go ((j == i) && nat_le k (at (vector b.n (applied b.n (take p (trail_of b i)))) e)) refl is
+      is : Vector l.news.1 ≡ answer (centre_settings b setup l.news.0) (take r.place (trail_of b l.news.0)) r.entry.ask
+      is = sym r.says ∙ (fit.histories l.news.0 r.origin.0 r.origin.1).holds r.place r.entry r.there
+
+  -- a stamp numbered 0 would be there from the first
+  none_moment : (j : ℕ) (stamp : Stamp) → 1 ≤ j → j ≤ b.n → stamp.seq ≤ 0 → HasMoment b j stamp
+  none_moment j stamp low high none = record { centre = (low, high); place = 0; few = omega arith; covers = le-leb stamp.seq (at (vector b.n (applied_at b j 0)) stamp.centre) (omega (arith, none)) }
+
+  -- a centre whose row covers the stamp had it at a moment of its own trail
+  pub moment : (i p j : ℕ) (row : List ℕ) (stamp : Stamp) → 1 ≤ i → i ≤ b.n → slice_get (rows (centre_settings b setup i) (take p (trail_of b i))) j ≡ Some row → within stamp row ≡ true → HasMoment b (j + 1) stamp
+  moment i p j row stamp low high there is =
+      let X = take p (trail_of b i) in
+      let r = get_over_range (λ j. cond (j == i) (vector b.n (applied b.n X)) (told b.n j X)) 1 b.n j row there in
+      let which : 1 + j ≡ j + 1 = omega arith in
+      subst (λ j. HasMoment b j stamp) which (go (1 + j) (omega arith) (omega (arith, r.0)) (1 + j == i) refl (subst (λ row. within stamp row ≡ true) (sym r.1) is))
     where
-      go : (t : Bool) → ((j == i) && nat_le k (at (vector b.n (applied b.n (take p (trail_of b i)))) e)) ≡ t → (t || is_told j e k (take p (trail_of b i))) ≡ true → HasMoment b j e k
-      go true h is =
-          let parts = and_parts (j == i) (nat_le k (at (vector b.n (applied b.n (take p (trail_of b i)))) e)) h in
-          subst (λ j. HasMoment b j e k) (sym (eqb-true j i parts.0)) (own_moment i p e k low high (leb-true k (at (vector b.n (applied b.n (take p (trail_of b i)))) e) parts.1))
-      go false h is = told_moment i p e k j (told j e k (take p (trail_of b i)) is)
+      go : (j : ℕ) → 1 ≤ j → j ≤ b.n → (t : Bool) → (j == i) ≡ t → within stamp (cond t (vector b.n (applied_at b i p)) (told b.n j (take p (trail_of b i)))) ≡ true → HasMoment b j stamp
+      go j least most true same is = subst (λ j. HasMoment b j stamp) (sym (eqb-true j i same)) (own_moment i p stamp low high is)
+      go j least most false same is = ⊎_elim
+          (λ none. none_moment j stamp least most (omega (arith, none, at-zeros b.n stamp.centre)))
+          (λ t. told_moment i p j stamp t)
+          (told_fold j stamp (take p (trail_of b i)) (zeros b.n) (leb-true stamp.seq (at (told b.n j (take p (trail_of b i))) stamp.centre) is))

@@ -17,6 +17,7 @@ use Rattle.tx_core.specs.States.{empty_of, fold_of}
 use Rattle.dc_talk.specs.Records.{has}
 use Rattle.dc_talk.specs.Objects.{ops_of}
 use Rattle.dc_talk.specs.Clients.{Client, cached, next_dot}
+use Rattle.run_book.specs.Setups.{Setup}
 use Rattle.run_book.specs.declared.book.Book.{Book}
 use Rattle.run_book.specs.Parts.{IsClient}
 use Rattle.run_book.specs.Fit.{FitsWith}
@@ -40,36 +41,36 @@ pub record IsOfBasis (b : Book) (nodes : List Node) (s : Client) (o : ObjectId) 
   pub state_is : state ≡ fold_of (empty_of o.sort) ops
   pub all : Perm (ops_in nodes (basis b s) o) (ops ++ flat_map (ops_of o) s.pending)
 
-module _ (b : Book) (clients limit capacity : ℕ) (fit : FitsWith b clients limit capacity) where
+module _ (b : Book) (setup : Setup) (fit : FitsWith b setup) where
   -- the open transaction is not in the basis
-  pub open_fresh : (a m : ℕ) → IsClient clients a → In (next_dot (client_at b capacity a m)) (basis_at b capacity a m) → ⊥
+  pub open_fresh : (a m : ℕ) → IsClient setup a → In (next_dot (client_at b setup a m)) (basis_at b setup a m) → ⊥
   open_fresh a m c i = ⊎_elim covered own (In_either (cover b s.vector) (own_dots s.client s.own) (next_dot s) i)
     where
       s : Client
-      s = client_at b capacity a m
+      s = client_at b setup a m
 
       who : s.client ≡ a - 1
-      who = (session_held b clients limit capacity fit a m c).who
+      who = (session_held b setup fit a m c).who
 
-      covered : In (next_dot (client_at b capacity a m)) (cover b (client_at b capacity a m).vector) → ⊥
+      covered : In (next_dot (client_at b setup a m)) (cover b (client_at b setup a m).vector) → ⊥
       covered j =
-          let st = standing b clients limit capacity fit a c m in
-          let h = session_held b clients limit capacity fit a m c in
+          let st = standing b setup fit a c m in
+          let h = session_held b setup fit a m c in
           let r = st.own_in (s.own + 1) (subst (λ client. In (dot_at client (s.own + 1)) (cover b s.vector)) who j) in
           omega (arith, r.1, h.below)
 
-      own : In (next_dot (client_at b capacity a m)) (own_dots (client_at b capacity a m).client (client_at b capacity a m).own) → ⊥
+      own : In (next_dot (client_at b setup a m)) (own_dots (client_at b setup a m).client (client_at b setup a m).own) → ⊥
       own j = let o = own_dots_are s.client s.own (next_dot s) j in omega (arith, o.high, ap (λ (d : Dot). d.number) o.is)
 
   -- no rank in the basis is above the clock
-  pub basis_ranks : (a m : ℕ) (t : Node) → IsClient clients a → In t (graph b clients capacity) → In t.dot (basis_at b capacity a m) → t.rank ≤ (client_at b capacity a m).clock
-  basis_ranks a m t c i j = go (In_from_map (node_of b) (committed b clients capacity) t i)
+  pub basis_ranks : (a m : ℕ) (t : Node) → IsClient setup a → In t (graph b setup) → In t.dot (basis_at b setup a m) → t.rank ≤ (client_at b setup a m).clock
+  basis_ranks a m t c i j = go (In_from_map (node_of b) (committed b setup) t i)
     where
       s : Client
-      s = client_at b capacity a m
+      s = client_at b setup a m
 
-      go : (tx : Tx) × In tx (committed b clients capacity) × (t ≡ node_of b tx) → t.rank ≤ (client_at b capacity a m).clock
-      go (tx, k, is) = ⊎_elim covered own (In_either (cover b s.vector) (own_dots s.client s.own) tx.dot (subst (λ d. In d (basis_at b capacity a m)) dot j))
+      go : (tx : Tx) × In tx (committed b setup) × (t ≡ node_of b tx) → t.rank ≤ (client_at b setup a m).clock
+      go (tx, k, is) = ⊎_elim covered own (In_either (cover b s.vector) (own_dots s.client s.own) tx.dot (subst (λ d. In d (basis_at b setup a m)) dot j))
         where
           dot : t.dot ≡ tx.dot
           dot = ap (λ (t : Node). t.dot) is
@@ -77,43 +78,43 @@ module _ (b : Book) (clients limit capacity : ℕ) (fit : FitsWith b clients lim
           rank : t.rank ≡ tx.rank
           rank = ap (λ (t : Node). t.rank) is
 
-          covered : In tx.dot (cover b (client_at b capacity a m).vector) → t.rank ≤ (client_at b capacity a m).clock
+          covered : In tx.dot (cover b (client_at b setup a m).vector) → t.rank ≤ (client_at b setup a m).clock
           covered l =
               let x = cover_in b s.vector tx.dot l in
-              let same : x.item.tx ≡ tx = one_tx b clients limit capacity fit x.item.tx tx (carried b clients limit capacity fit x.item.tx (own_commit b clients limit capacity fit x.centre x.place x.item x.low x.high x.there)) k x.dot in
-              omega (arith, (standing b clients limit capacity fit a c m).ranks tx.dot x, ap (λ (t : Tx). t.rank) same, rank)
+              let same : x.item.tx ≡ tx = one_tx b setup fit x.item.tx tx (carried b setup fit x.item.tx (own_commit b setup fit x.centre x.place x.item x.low x.high x.there)) k x.dot in
+              omega (arith, (standing b setup fit a c m).ranks tx.dot x, ap (λ (t : Tx). t.rank) same, rank)
 
-          own : In tx.dot (own_dots (client_at b capacity a m).client (client_at b capacity a m).own) → t.rank ≤ (client_at b capacity a m).clock
+          own : In tx.dot (own_dots (client_at b setup a m).client (client_at b setup a m).own) → t.rank ≤ (client_at b setup a m).clock
           own l =
               let o = own_dots_are s.client s.own tx.dot l in
-              let h = session_held b clients limit capacity fit a m c in
-              let there = is_so_far b clients limit capacity fit a m tx c k (ap (λ (d : Dot). d.client) o.is ∙ h.who) (omega (arith, o.high, ap (λ (d : Dot). d.number) o.is)) in
+              let h = session_held b setup fit a m c in
+              let there = is_so_far b setup fit a m tx c k (ap (λ (d : Dot). d.client) o.is ∙ h.who) (omega (arith, o.high, ap (λ (d : Dot). d.number) o.is)) in
               omega (arith, h.ranks (tx.dot.number - 1) tx there, rank)
 
   -- a state that the cache has at the session's snapshot, with the pending commits behind it, is of the basis
-  pub cached_of_basis : (a m : ℕ) (o : ObjectId) (state : State) → IsClient clients a → cached o (client_at b capacity a m).vector (client_at b capacity a m).cache ≡ Some state → IsOfBasis b (graph b clients capacity) (client_at b capacity a m) o state
+  pub cached_of_basis : (a m : ℕ) (o : ObjectId) (state : State) → IsClient setup a → cached o (client_at b setup a m).vector (client_at b setup a m).cache ≡ Some state → IsOfBasis b (graph b setup) (client_at b setup a m) o state
   cached_of_basis a m o state c found = record {
     ops = flat_map (ops_of o) served.txs;
     state_is = served.is;
-    all = subst (λ l. Perm l (flat_map (ops_of o) served.txs ++ flat_map (ops_of o) s.pending)) (sym in_basis) (turned_order (flat_map (ops_of o) served.txs ++ flat_map (ops_of o) s.pending) (flat_map (ops_of o) based) (subst (λ l. Perm l (flat_map (ops_of o) based)) (flat_map-append (ops_of o) served.txs s.pending) (flat_order (ops_of o) (served.txs ++ s.pending) based (basis_order b clients limit capacity fit a m o state c served))));
+    all = subst (λ l. Perm l (flat_map (ops_of o) served.txs ++ flat_map (ops_of o) s.pending)) (sym in_basis) (turned_order (flat_map (ops_of o) served.txs ++ flat_map (ops_of o) s.pending) (flat_map (ops_of o) based) (subst (λ l. Perm l (flat_map (ops_of o) based)) (flat_map-append (ops_of o) served.txs s.pending) (flat_order (ops_of o) (served.txs ++ s.pending) based (basis_order b setup fit a m o state c served))));
   }
     where
       s : Client
-      s = client_at b capacity a m
+      s = client_at b setup a m
 
       set : List Dot
-      set = basis_at b capacity a m
+      set = basis_at b setup a m
 
       based : List Tx
-      based = filter (λ (t : Tx). has t.dot set) (committed b clients capacity)
+      based = filter (λ (t : Tx). has t.dot set) (committed b setup)
 
-      served : IsServed b clients capacity o (client_at b capacity a m).vector state
+      served : IsServed b setup o (client_at b setup a m).vector state
       served =
           let k = cached_some o s.vector s.cache state found in
-          let st = (standing b clients limit capacity fit a c m).cache k.item k.there in
-          subst (λ state. IsServed b clients capacity o s.vector state) k.gives (subst (λ w. IsServed b clients capacity o w k.item.state) k.vector (subst (λ o. IsServed b clients capacity o k.item.vector k.item.state) k.object st))
+          let st = (standing b setup fit a c m).cache k.item k.there in
+          subst (λ state. IsServed b setup o s.vector state) k.gives (subst (λ w. IsServed b setup o w k.item.state) k.vector (subst (λ o. IsServed b setup o k.item.vector k.item.state) k.object st))
 
-      in_basis : ops_in (graph b clients capacity) (basis b (client_at b capacity a m)) o ≡ flat_map (ops_of o) based
+      in_basis : ops_in (graph b setup) (basis b (client_at b setup a m)) o ≡ flat_map (ops_of o) based
       in_basis =
-          ap (flat_map (node_ops o)) (filter-map (λ (t : Node). has t.dot set) (node_of b) (committed b clients capacity))
+          ap (flat_map (node_ops o)) (filter-map (λ (t : Node). has t.dot set) (node_of b) (committed b setup))
           ∙ flat_map-map (node_ops o) (node_of b) based

@@ -15,22 +15,22 @@ use Rattle.dc_talk.specs.Records.{vector, count, own, inside}
 use Rattle.dc_talk.proofs.Counts.{own_length}
 use Rattle.dc_talk.proofs.Places.{own_at}
 use Rattle.dc_talk.proofs.Growth.{applied_later}
+use Rattle.run_book.specs.Setups.{Setup, centre_settings}
 use Rattle.run_book.specs.declared.book.Book.{Book}
-use Rattle.run_book.specs.Parts.{trail_of}
+use Rattle.run_book.specs.Parts.{trail_of, applied_at}
 use Rattle.run_book.specs.Fit.{FitsWith}
 use Rattle.run_book.specs.Graphs.{own_list, cover}
-use Rattle.run_book.specs.Laws.{applied_at}
 use Rattle.run_book.proofs.Causal.Origins.{each_at, agreement, applied_there}
 use Rattle.run_book.proofs.Causal.Cover.{cover_in, in_cover, applied_covered}
 
-module _ (b : Book) (clients limit capacity : ℕ) (fit : FitsWith b clients limit capacity) (i p : ℕ) (low : 1 ≤ i) (high : i ≤ b.n) where
+module _ (b : Book) (setup : Setup) (fit : FitsWith b setup) (i p : ℕ) (low : 1 ≤ i) (high : i ≤ b.n) where
   -- what a centre has within a vector, the vector covers
   pub inside_covered : (w : List ℕ) (d : Dot) → In d (inside (applied_at b i p) w) → In d (cover b w)
   inside_covered w d here =
       let A = applied_at b i p in
       let m = In_from_map (λ (r : Record). r.tx.dot) (filter (λ (r : Record). within r.stamp w) A) d here in
       let f = In_from_filter (λ (r : Record). within r.stamp w) A m.0 m.1 in
-      let covered = applied_covered b clients limit capacity fit i low high m.0 (applied_later b.n (trail_of b i) p m.0 f.0) w (leb-true m.0.stamp.seq (at w m.0.stamp.centre) f.1) in
+      let covered = applied_covered b setup fit i low high m.0 (applied_later b.n (trail_of b i) p m.0 f.0) w (leb-true m.0.stamp.seq (at w m.0.stamp.centre) f.1) in
       subst (λ d. In d (cover b w)) (sym m.2) (in_cover b w m.0.tx.dot covered)
 
   -- what a vector covers that a centre can serve, the centre has within it
@@ -38,7 +38,7 @@ module _ (b : Book) (clients limit capacity : ℕ) (fit : FitsWith b clients lim
   covered_inside w d le here =
       let A = applied_at b i p in
       let x = cover_in b w d here in
-      let q = applied_there b clients limit capacity fit i p x.centre x.place x.item low high (omega (arith, x.within, le.by x.centre, at-tabulate_le b.n x.centre (λ e. count e A))) x.there in
+      let q = applied_there b setup fit i p x.centre x.place x.item low high (omega (arith, x.within, le.holds x.centre, at-tabulate_le b.n x.centre (λ e. count e A))) x.there in
       let inside_it : within x.item.stamp w ≡ true = subst (λ (s : Stamp). within s w ≡ true) (sym q.1) (le-leb (suc x.place) (at w x.centre) (omega (arith, x.within))) in
       subst (λ d. In d (inside A w)) x.dot (In_map (λ (r : Record). r.tx.dot) (filter (λ (r : Record). within r.stamp w) A) x.item (In_filter (λ (r : Record). within r.stamp w) A x.item q.0 inside_it))
 
@@ -51,6 +51,6 @@ module _ (b : Book) (clients limit capacity : ℕ) (fit : FitsWith b clients lim
 
       stands : (k : ℕ) (r : Record) → slice_get (own e (applied_at b i p)) k ≡ Some r → slice_get (own_list b e) k ≡ Some r
       stands k r there =
-          let o = own_at i b.n e A (each_at b clients limit capacity fit i p low high) k r there in
+          let o = own_at (centre_settings b setup i) e A (each_at b setup fit i p low high) k r there in
           let number : r.stamp.seq - 1 ≡ k = omega (arith, ap (λ (s : Stamp). s.seq) o.1) in
-          subst (λ q. slice_get (own_list b e) q ≡ Some r) number (subst (λ c. slice_get (own_list b c) (r.stamp.seq - 1) ≡ Some r) (ap (λ (s : Stamp). s.centre) o.1) (agreement b clients limit capacity fit i p low high r o.0))
+          subst (λ q. slice_get (own_list b e) q ≡ Some r) number (subst (λ c. slice_get (own_list b c) (r.stamp.seq - 1) ≡ Some r) (ap (λ (s : Stamp). s.centre) o.1) (agreement b setup fit i p low high r o.0))

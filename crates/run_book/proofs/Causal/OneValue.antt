@@ -1,5 +1,5 @@
 -- An object has one value over a set of dots and an open node.
-use Rattle.std.proofs.Common.{◌≡◌, ℕ, ℤ, inl, inr, List, [], map, Option, Some, None, refl, sym, ap, ◌∙◌, subst}
+use Rattle.std.proofs.Common.{◌≡◌, ℕ, List, map, Option, Some, None, refl, sym, ap, ◌∙◌, subst}
 use Rattle.std.specs.Prelude.{slice_get}
 use Rattle.std.specs.List.Sorted.{IsStrictlySortedBy}
 use Rattle.std.proofs.lemmas.Option.{same_Some}
@@ -13,18 +13,19 @@ use Rattle.ids_core.specs.declared.object.Sort.TheVariants as sort
 use Rattle.ids_core.specs.Orders.{name_cmp, name_cmp_total}
 use Rattle.ids_core.proofs.Orders.{one_mark}
 use Rattle.ids_core.proofs.Ascending.{one_ascending}
-use Rattle.tx_core.specs.declared.op.Op.TheVariants.{Write}
+use Rattle.dc_talk.specs.declared.calls.Change.TheVariants.{Write}
 use Rattle.tx_core.specs.declared.state.Value.{Value}
 use Rattle.tx_core.specs.declared.state.Value.TheVariants.{Number, Word, Words, Pairs}
 use Rattle.dc_talk.specs.Objects.{mark}
 use Rattle.tx_graph.specs.Nodes.{Node, WellMade}
-use Rattle.tx_graph.specs.Values.{Act, acts_from, acts_over, IsRegisterOver, IsSetOver, IsMapOver, IsValueBy}
+use Rattle.tx_graph.specs.Values.{Act, IsRegisterOver, IsSetOver, IsMapOver, IsValueBy, change_of, acts_of, acts_over, nodes_in}
 use Rattle.tx_graph.specs.Acts.{HasUniqueMarks}
 use Rattle.list_core.proofs.Apart.{apart_one}
-use Rattle.run_book.proofs.Causal.SetNodes.{StandsIn}
-use Rattle.run_book.proofs.Causal.Acts.{act_at, IsActOf, IsActIn, act_in}
+use Rattle.run_book.proofs.Causal.SetNodes.{in_node}
+use Rattle.run_book.proofs.Causal.Acts.{act_at, IsActOf, IsActIn, act_in, acts_with, is_act_of}
 use Rattle.run_book.proofs.Causal.Operations.{nodes_apart}
 use Rattle.run_book.proofs.Causal.OpenNodes.{WellIssued, IsOpenOver, one_node}
+use Rattle.list_core.proofs.Members.{In_from_flat_map}
 
 -- ---- values by kind
 
@@ -39,8 +40,8 @@ one_word acts unique None (Some w) a b = absurd (a b.act w b.there b.writes)
 one_word acts unique (Some v) None a b = absurd (b a.act v a.there a.writes)
 one_word acts unique (Some v) (Some w) a b =
     let mark = one_mark a.act.mark b.act.mark (b.above a.act v a.there a.writes) (a.above b.act w b.there b.writes) in
-    let act = unique.by a.act b.act a.there b.there mark in
-    ap Some (written v w (sym a.writes ∙ (ap (λ (act : Act). act.op) act ∙ b.writes)))
+    let act = unique.one_act a.act b.act a.there b.there mark in
+    ap Some (written v w (sym a.writes ∙ (ap (λ (act : Act). change_of act.op) act ∙ b.writes)))
 
 -- a set has one list of words
 one_words : (acts : List Act) (v w : List (List ℕ)) → IsSetOver acts v → IsSetOver acts w → v ≡ w
@@ -53,17 +54,17 @@ one_words acts v w a b = one_ascending name_cmp_total (λ word. word) v w (ascen
 one_pairs : (acts : List Act) (v w : List (List ℕ × List ℕ)) → IsMapOver acts v → IsMapOver acts w → v ≡ w
 one_pairs acts v w a b = one_ascending name_cmp_total (λ pair. pair.0) v w a.ascending b.ascending (λ z i. (b.exact z.0 z.1).1 ((a.exact z.0 z.1).0 i)) (λ z i. (a.exact z.0 z.1).1 ((b.exact z.0 z.1).0 i))
 
--- an object of a kind, with this sum and acts of unique marks, has one value
-pub one_value : (s : Sort) (sum : ℤ) (acts : List Act) (v w : Value) → HasUniqueMarks acts → IsValueBy s sum acts v → IsValueBy s sum acts w → v ≡ w
-one_value sort.Counter sum acts (Number v) (Number w) unique a b = ap Number (a ∙ sym b)
-one_value sort.Register sum acts (Word v) (Word w) unique a b = ap Word (one_word acts unique v w a b)
-one_value sort.Set sum acts (Words v) (Words w) unique a b = ap Words (one_words acts v w a b)
-one_value sort.Map sum acts (Pairs v) (Pairs w) unique a b = ap Pairs (one_pairs acts v w a b)
-one_value sort.Counter sum acts (Number v) _ unique a b = absurd b
-one_value sort.Register sum acts (Word v) _ unique a b = absurd b
-one_value sort.Set sum acts (Words v) _ unique a b = absurd b
-one_value sort.Map sum acts (Pairs v) _ unique a b = absurd b
-one_value _ sum acts _ _ unique a b = absurd a
+-- an object of a kind, with acts of unique marks, has one value
+pub one_value : (s : Sort) (acts : List Act) (v w : Value) → HasUniqueMarks acts → IsValueBy s acts v → IsValueBy s acts w → v ≡ w
+one_value sort.Counter acts (Number v) (Number w) unique a b = ap Number (a ∙ sym b)
+one_value sort.Register acts (Word v) (Word w) unique a b = ap Word (one_word acts unique v w a b)
+one_value sort.Set acts (Words v) (Words w) unique a b = ap Words (one_words acts v w a b)
+one_value sort.Map acts (Pairs v) (Pairs w) unique a b = ap Pairs (one_pairs acts v w a b)
+one_value sort.Counter acts (Number v) _ unique a b = absurd b
+one_value sort.Register acts (Word v) _ unique a b = absurd b
+one_value sort.Set acts (Words v) _ unique a b = absurd b
+one_value sort.Map acts (Pairs v) _ unique a b = absurd b
+one_value _ acts _ _ unique a b = absurd a
 
 -- ---- the marks of acts
 
@@ -77,22 +78,15 @@ one_act o t u p q one_node f g same =
     f.is ∙ (ap (λ t. act_at t f.k f.u) node ∙ (ap (λ k. act_at u k f.u) place ∙ (ap (λ v. act_at u g.k v) update ∙ sym g.is)))
 
 -- the acts over a set and a node that is open over it have unique marks
-pub unique_marks : (nodes : List Node) (set : List Dot) (last : Node) → WellIssued nodes → IsOpenOver nodes set last → (o : ObjectId) → HasUniqueMarks (acts_over nodes set last o)
-unique_marks nodes set last well open_last o = record { by = λ p q i j. go p q (act_in nodes set last o p i) (act_in nodes set last o q j) }
+pub unique_marks : (nodes : List Node) (set : List Dot) (last : Node) → WellIssued nodes → IsOpenOver nodes set last → (o : ObjectId) → HasUniqueMarks (acts_with nodes set last o)
+unique_marks nodes set last well open_last o = record { one_act = λ p q i j. go p q (act_in nodes set last o p i) (act_in nodes set last o q j) }
   where
     go : (p q : Act) → IsActIn nodes set last o p → IsActIn nodes set last o q → p.mark ≡ q.mark → p ≡ q
     go p q f g = one_act o f.node g.node p q (one_node nodes set last well open_last f.node g.node f.stands g.stands) f.update g.update
 
--- so have those over any set of dots, where nothing is open
-pub unique_marks_in : (nodes : List Node) (set : List Dot) (last : Node) → WellMade nodes → last.updates ≡ [] → (o : ObjectId) → HasUniqueMarks (acts_over nodes set last o)
-unique_marks_in nodes set last made none o = record { by = λ p q i j. go p q (act_in nodes set last o p i) (act_in nodes set last o q j) }
+-- so have those over any set of dots
+pub unique_marks_in : (nodes : List Node) (set : List Dot) → WellMade nodes → (o : ObjectId) → HasUniqueMarks (acts_over nodes set o)
+unique_marks_in nodes set made o = record { one_act = λ p q i j. go p q (In_from_flat_map (acts_of o) (nodes_in nodes set) p i) (In_from_flat_map (acts_of o) (nodes_in nodes set) q j) }
   where
-    in_graph : (p : Act) (f : IsActIn nodes set last o p) → In f.node nodes
-    in_graph p f = of f.node f.stands f.own
-      where
-        of : (t : Node) → StandsIn nodes set last t → In p (acts_from o t 0 t.updates) → In t nodes
-        of t (inl s) own = s.0
-        of t (inr same) own = absurd (subst (λ us. In p (acts_from o t 0 us)) (ap (λ (t : Node). t.updates) same ∙ none) own)
-
-    go : (p q : Act) → IsActIn nodes set last o p → IsActIn nodes set last o q → p.mark ≡ q.mark → p ≡ q
-    go p q f g = one_act o f.node g.node p q (apart_one (λ (t : Node). t.dot) nodes f.node g.node (nodes_apart nodes made) (in_graph p f) (in_graph q g)) f.update g.update
+    go : (p q : Act) → (t : Node) × In t (nodes_in nodes set) × In p (acts_of o t) → (t : Node) × In t (nodes_in nodes set) × In q (acts_of o t) → p.mark ≡ q.mark → p ≡ q
+    go p q f g = one_act o f.0 g.0 p q (apart_one (λ (t : Node). t.dot) nodes f.0 g.0 (nodes_apart nodes made) (in_node nodes set f.0 f.1).0 (in_node nodes set g.0 g.1).0) (is_act_of o f.0 p f.2) (is_act_of o g.0 q g.2)

@@ -39,7 +39,7 @@ module _ (nodes : List Node) (set : List Dot) (last : Node) (well : WellIssued n
 
   -- what one of them depends on is in the set
   pub deps_in_set : (t : Node) → Stands t → (d : Dot) → In d t.deps → In d set
-  deps_in_set t (inl i) d j = (open_last.closed.down t i.0 i.1).by d j
+  deps_in_set t (inl i) d j = (open_last.closed.dependencies t i.0 i.1).each d j
   deps_in_set t (inr e) d j = subst (λ l. In d l) (ap (λ (t : Node). t.deps) e ∙ open_last.deps) j
 
   -- one of them that another depends on is a node of the set
@@ -58,7 +58,7 @@ module _ (nodes : List Node) (set : List Dot) (last : Node) (well : WellIssued n
 
   -- and what it depends on, the other depends on
   pub dep_through : (t u : Node) → Stands t → Stands u → In u.dot t.deps → (d : Dot) → In d u.deps → In d t.deps
-  dep_through t u (inl i) s j d k = ((well.made.closed t i.0).down u (dep_stands t u (inl i) s j).0 j).by d k
+  dep_through t u (inl i) s j d k = ((well.made.closed t i.0).dependencies u (dep_stands t u (inl i) s j).0 j).each d k
   dep_through t u (inr e) s j d k = subst (λ l. In d l) (sym (ap (λ (t : Node). t.deps) e ∙ open_last.deps)) (deps_in_set u s d k)
 
   -- the updates of each are over what was live in their issuer's views

@@ -20,12 +20,12 @@ use Rattle.dc_talk.specs.declared.ask.Ask.{Ask}
 use Rattle.dc_talk.specs.declared.ask.Ask.TheVariants.{Hello, Refresh, Fetch, Commit as CommitAsk}
 use Rattle.dc_talk.specs.declared.say.Say.{Say}
 use Rattle.dc_talk.specs.declared.say.Say.TheVariants.{Welcome, Snap, Object, Known, Stamped}
-use Rattle.dc_talk.specs.declared.session.Call.{Call}
-use Rattle.dc_talk.specs.declared.session.Call.TheVariants.{Begin, Change as ChangeCall, Read, Commit, Abort}
-use Rattle.dc_talk.specs.declared.session.Outcome.{Outcome}
-use Rattle.dc_talk.specs.declared.session.Outcome.TheVariants.{Fine, Got, Number, Nothing, Refused}
-use Rattle.dc_talk.specs.declared.session.Refusal.TheVariants.{TooManyTags}
-use Rattle.dc_talk.specs.declared.session.Cached.{Cached}
+use Rattle.dc_talk.specs.declared.calls.Call.{Call}
+use Rattle.dc_talk.specs.declared.calls.Call.TheVariants.{Begin, Change as ChangeCall, Read, Commit, Abort}
+use Rattle.dc_talk.specs.declared.calls.Outcome.{Outcome}
+use Rattle.dc_talk.specs.declared.calls.Outcome.TheVariants.{Fine, Got, Number, Nothing, Refused}
+use Rattle.dc_talk.specs.declared.calls.Refusal.TheVariants.{TooManyTags}
+use Rattle.dc_talk.specs.declared.calls.Cached.{Cached}
 use Rattle.dc_talk.specs.declared.log.Fate.TheVariants.{Heard}
 use Rattle.dc_talk.specs.declared.log.Deed.{Deed}
 use Rattle.dc_talk.specs.declared.log.Deed.TheVariants.{Did, Asked, Told}
@@ -37,12 +37,11 @@ use Rattle.dc_talk.specs.Calls.{did, committed}
 use Rattle.dc_talk.specs.Rule.{after, heard, takes, taken, is_linked, can_follow, commit_in}
 use Rattle.dc_talk.proofs.ClientAnswers.{SnapBy, snap_by, object_by}
 use Rattle.dc_talk.proofs.Counts.{in_top}
+use Rattle.run_book.specs.Setups.{Setup, centre_settings}
 use Rattle.run_book.specs.declared.book.Book.{Book}
-use Rattle.run_book.specs.Parts.{trail_of, notes_of, IsClient}
+use Rattle.run_book.specs.Parts.{trail_of, notes_of, IsClient, applied_at}
 use Rattle.run_book.specs.Fit.{FitsWith}
-use Rattle.run_book.specs.Graphs.{cover, client_at}
-use Rattle.run_book.specs.Causal.{commits_at}
-use Rattle.run_book.specs.Laws.{applied_at}
+use Rattle.run_book.specs.Graphs.{cover, client_at, commits_at}
 use Rattle.run_book.specs.Sound.{IsSound}
 use Rattle.run_book.proofs.Sessions.{CanFollow, can_follow-true, after_more, by_notes}
 use Rattle.run_book.proofs.Held.{Held, dot_at, held_after}
@@ -60,7 +59,7 @@ use Rattle.run_book.proofs.Causal.ServedStates.{IsServed, served_at}
 -- that the snapshot names, what it covers has a rank at most the clock, its commits have sound snapshots
 -- that ascend and lie within the vector, their ranks are above what they cover, and what the cache has, a
 -- centre serves
-pub record Standing (b : Book) (clients capacity c : ℕ) (s : Client) (C : List Tx) : Type 0 where
+pub record Standing (b : Book) (setup : Setup) (c : ℕ) (s : Client) (C : List Tx) : Type 0 where
   pub own_in : (d : ℕ) → In (dot_at c d) (cover b s.vector) → (1 ≤ d) × (d ≤ s.mine)
   pub own_all : (d : ℕ) → 1 ≤ d → d ≤ s.mine → In (dot_at c d) (cover b s.vector)
   pub ranks : (d : Dot) (x : Covered b s.vector d) → x.item.tx.rank ≤ s.clock
@@ -68,11 +67,11 @@ pub record Standing (b : Book) (clients capacity c : ℕ) (s : Client) (C : List
   pub sound : (t : Tx) → In t C → IsSound b t.snap
   pub above : (t : Tx) → In t C → (d : Dot) (x : Covered b t.snap d) → x.item.tx.rank < t.rank
   pub ascend : (p q : ℕ) (t u : Tx) → p < q → slice_get C p ≡ Some t → slice_get C q ≡ Some u → Covers u.snap t.snap
-  pub cache : (x : Cached) → In x s.cache → IsServed b clients capacity x.object x.vector x.state
+  pub cache : (x : Cached) → In x s.cache → IsServed b setup x.object x.vector x.state
 
 -- so does one that differs from it neither in its snapshot nor in its clock, and has no more in its cache
-same_standing : (b : Book) (clients capacity c : ℕ) (s t : Client) (C : List Tx) → t.vector ≡ s.vector → t.mine ≡ s.mine → t.clock ≡ s.clock → ((x : Cached) → In x t.cache → In x s.cache) → Standing b clients capacity c s C → Standing b clients capacity c t C
-same_standing b clients capacity c s t C vector mine clock cache h = record {
+same_standing : (b : Book) (setup : Setup) (c : ℕ) (s t : Client) (C : List Tx) → t.vector ≡ s.vector → t.mine ≡ s.mine → t.clock ≡ s.clock → ((x : Cached) → In x t.cache → In x s.cache) → Standing b setup c s C → Standing b setup c t C
+same_standing b setup c s t C vector mine clock cache h = record {
   own_in = λ d i. let r = h.own_in d (subst (λ v. In (dot_at c d) (cover b v)) vector i) in (r.0, omega (arith, r.1, mine));
   own_all = λ d low high. subst (λ v. In (dot_at c d) (cover b v)) (sym vector) (h.own_all d low (omega (arith, high, mine)));
   ranks = λ d x. omega (arith, ranks d x, clock);
@@ -86,22 +85,22 @@ same_standing b clients capacity c s t C vector mine clock cache h = record {
     ranks : (d : Dot) (x : Covered b t.vector d) → x.item.tx.rank ≤ s.clock
     ranks d x = h.ranks d (record { centre = x.centre; low = x.low; high = x.high; place = x.place; item = x.item; there = x.there; within = omega (arith, x.within, ap (λ v. at v x.centre) vector); dot = x.dot })
 
-module _ (b : Book) (clients limit capacity : ℕ) (fit : FitsWith b clients limit capacity) where
+module _ (b : Book) (setup : Setup) (fit : FitsWith b setup) where
   -- numbers that are covered are at least 1
   pub covered_low : (v : List ℕ) (d : Dot) → Covered b v d → 1 ≤ d.number
   covered_low v d x =
-      let there = carried b clients limit capacity fit x.item.tx (own_commit b clients limit capacity fit x.centre x.place x.item x.low x.high x.there) in
-      omega (arith, number_low b clients limit capacity fit x.item.tx there, ap (λ (d : Dot). d.number) x.dot)
+      let there = carried b setup fit x.item.tx (own_commit b setup fit x.centre x.place x.item x.low x.high x.there) in
+      omega (arith, number_low b setup fit x.item.tx there, ap (λ (d : Dot). d.number) x.dot)
 
   -- centre i gave this answer after some entries of its trail
   record IsAnswer (i : ℕ) (ask : Ask) (say : Say) : Type 0 where
     low : 1 ≤ i
     high : i ≤ b.n
     place : ℕ
-    is : say ≡ answer i b.n b.k limit (take place (trail_of b i)) ask
+    is : say ≡ answer (centre_settings b setup i) (take place (trail_of b i)) ask
 
   -- a snapshot that is taken
-  standing_snap : (c : ℕ) (s : Client) (C : List Tx) (i client : ℕ) (here w : List ℕ) (number rank : ℕ) → IsAnswer i (Refresh client here) (Snap w number rank) → takes s i (Refresh client here) (Snap w number rank) ≡ true → IsSound b w → Held c s C → Standing b clients capacity c s C → Standing b clients capacity c (taken s i (Refresh client here) (Snap w number rank)) C
+  standing_snap : (c : ℕ) (s : Client) (C : List Tx) (i client : ℕ) (here w : List ℕ) (number rank : ℕ) → IsAnswer i (Refresh client here) (Snap w number rank) → takes s i (Refresh client here) (Snap w number rank) ≡ true → IsSound b w → Held c s C → Standing b setup c s C → Standing b setup c (taken s i (Refresh client here) (Snap w number rank)) C
   standing_snap c s C i client here w number rank says takes_it sound held h = record {
     own_in = own_in;
     own_all = own_all;
@@ -125,11 +124,11 @@ module _ (b : Book) (clients limit capacity : ℕ) (fit : FitsWith b clients lim
       A : List Record
       A = applied_at b i says.place
 
-      snap : SnapBy i b.n b.k (take says.place (trail_of b i)) client here w number rank
-      snap = snap_by i b.n b.k limit (take says.place (trail_of b i)) client here w number rank says.is
+      snap : SnapBy (centre_settings b setup i) (take says.place (trail_of b i)) client here w number rank
+      snap = snap_by (centre_settings b setup i) (take says.place (trail_of b i)) client here w number rank says.is
 
       le : Covers (vector b.n A) w
-      le = snap_within i b.n b.k (take says.place (trail_of b i)) client here w number rank snap
+      le = snap_within (centre_settings b setup i) (take says.place (trail_of b i)) client here w number rank snap
 
       number_is : number ≡ mine_of c (inside A w)
       number_is = snap.mine_is ∙ ap (λ c. mine_of c (inside A w)) who
@@ -137,22 +136,22 @@ module _ (b : Book) (clients limit capacity : ℕ) (fit : FitsWith b clients lim
       own_in : (d : ℕ) → In (dot_at c d) (cover b w) → (1 ≤ d) × (d ≤ number)
       own_in d j = (
         covered_low w (dot_at c d) (cover_in b w (dot_at c d) j),
-        omega (arith, number_is, in_mine c (inside A w) d (covered_inside b clients limit capacity fit i says.place says.low says.high w (dot_at c d) le j)),
+        omega (arith, number_is, in_mine c (inside A w) d (covered_inside b setup fit i says.place says.low says.high w (dot_at c d) le j)),
       )
 
       own_all : (d : ℕ) → 1 ≤ d → d ≤ number → In (dot_at c d) (cover b w)
       own_all d low high =
           let one : 1 ≤ mine_of c (inside A w) = omega (arith, number_is, low, high) in
-          let last = inside_covered b clients limit capacity fit i says.place says.low says.high w (dot_at c (mine_of c (inside A w))) (mine_in c (inside A w) one) in
-          cover_down b clients limit capacity fit w c (mine_of c (inside A w)) d sound low (omega (arith, high, number_is)) last
+          let last = inside_covered b setup fit i says.place says.low says.high w (dot_at c (mine_of c (inside A w))) (mine_in c (inside A w) one) in
+          cover_down b setup fit w c (mine_of c (inside A w)) d sound low (omega (arith, high, number_is)) last
 
       ranks : (d : Dot) (x : Covered b w d) → x.item.tx.rank ≤ max s.clock rank
       ranks d x =
-          let here = applied_there b clients limit capacity fit i says.place x.centre x.place x.item says.low says.high (omega (arith, x.within, le.by x.centre, at-tabulate_le b.n x.centre (λ e. count e A))) x.there in
+          let here = applied_there b setup fit i says.place x.centre x.place x.item says.low says.high (omega (arith, x.within, le.holds x.centre, at-tabulate_le b.n x.centre (λ e. count e A))) x.there in
           omega (arith, in_top A x.item here.0, snap.top_is)
 
   -- a state that is taken
-  standing_object : (c : ℕ) (s : Client) (C : List Tx) (i : ℕ) (o : ObjectId) (here : List ℕ) (state : State) → IsAnswer i (Fetch o here) (Object state) → Standing b clients capacity c s C → Standing b clients capacity c (taken s i (Fetch o here) (Object state)) C
+  standing_object : (c : ℕ) (s : Client) (C : List Tx) (i : ℕ) (o : ObjectId) (here : List ℕ) (state : State) → IsAnswer i (Fetch o here) (Object state) → Standing b setup c s C → Standing b setup c (taken s i (Fetch o here) (Object state)) C
   standing_object c s C i o here state says h = record {
     own_in = h.own_in;
     own_all = h.own_all;
@@ -161,40 +160,40 @@ module _ (b : Book) (clients limit capacity : ℕ) (fit : FitsWith b clients lim
     sound = h.sound;
     above = h.above;
     ascend = h.ascend;
-    cache = λ x j. ⊎_elim (λ same. subst (λ (x : Cached). IsServed b clients capacity x.object x.vector x.state) (sym same) served) (λ old. h.cache x old) (In_kept s.capacity new s.cache x j);
+    cache = λ x j. ⊎_elim (λ same. subst (λ (x : Cached). IsServed b setup x.object x.vector x.state) (sym same) served) (λ old. h.cache x old) (In_kept s.capacity new s.cache x j);
   }
     where
       new : Cached
       new = record { object = o; vector = here; state = state }
 
-      served : IsServed b clients capacity o here state
+      served : IsServed b setup o here state
       served =
-          let object = object_by i b.n b.k limit (take says.place (trail_of b i)) o here state says.is in
-          subst (λ state. IsServed b clients capacity o here state) (sym object.is) (served_at b clients limit capacity fit i says.place says.low says.high o here object.covered)
+          let object = object_by (centre_settings b setup i) (take says.place (trail_of b i)) o here state says.is in
+          subst (λ state. IsServed b setup o here state) (sym object.is) (served_at b setup fit i says.place says.low says.high o here object.covered)
 
   -- an answer that is taken
-  standing_taken : (c : ℕ) (s : Client) (C : List Tx) (i : ℕ) (ask : Ask) (say : Say) → IsAnswer i ask say → takes s i ask say ≡ true → IsSound b (taken s i ask say).vector → Held c s C → Standing b clients capacity c s C → Standing b clients capacity c (taken s i ask say) C
-  standing_taken c s C i (Hello client need) (Welcome through) says is sound held h = same_standing b clients capacity c s _ C refl refl refl (λ x j. j) h
+  standing_taken : (c : ℕ) (s : Client) (C : List Tx) (i : ℕ) (ask : Ask) (say : Say) → IsAnswer i ask say → takes s i ask say ≡ true → IsSound b (taken s i ask say).vector → Held c s C → Standing b setup c s C → Standing b setup c (taken s i ask say) C
+  standing_taken c s C i (Hello client need) (Welcome through) says is sound held h = same_standing b setup c s _ C refl refl refl (λ x j. j) h
   standing_taken c s C i (Refresh client here) (Snap w number rank) says is sound held h = standing_snap c s C i client here w number rank says is sound held h
   standing_taken c s C i (Fetch o here) (Object state) says is sound held h = standing_object c s C i o here state says h
-  standing_taken c s C i (CommitAsk tx) (Stamped stamp) says is sound held h = same_standing b clients capacity c s _ C refl refl refl (λ x j. j) h
-  standing_taken c s C i (CommitAsk tx) (Known through) says is sound held h = same_standing b clients capacity c s _ C refl refl refl (λ x j. j) h
+  standing_taken c s C i (CommitAsk tx) (Stamped stamp) says is sound held h = same_standing b setup c s _ C refl refl refl (λ x j. j) h
+  standing_taken c s C i (CommitAsk tx) (Known through) says is sound held h = same_standing b setup c s _ C refl refl refl (λ x j. j) h
   standing_taken c s C i _ _ says is sound held h = h
 
   -- an answer that is heard, taken or not
-  standing_heard : (c : ℕ) (s : Client) (C : List Tx) (i : ℕ) (ask : Ask) (say : Say) → IsAnswer i ask say → IsSound b (heard s i ask say).vector → Held c s C → Standing b clients capacity c s C → Standing b clients capacity c (heard s i ask say) C
+  standing_heard : (c : ℕ) (s : Client) (C : List Tx) (i : ℕ) (ask : Ask) (say : Say) → IsAnswer i ask say → IsSound b (heard s i ask say).vector → Held c s C → Standing b setup c s C → Standing b setup c (heard s i ask say) C
   standing_heard c s C i ask say says sound held h = go (takes s i ask say) refl sound
     where
-      go : (t : Bool) → takes s i ask say ≡ t → IsSound b (cond t (taken s i ask say) s).vector → Standing b clients capacity c (cond t (taken s i ask say) s) C
+      go : (t : Bool) → takes s i ask say ≡ t → IsSound b (cond t (taken s i ask say) s).vector → Standing b setup c (cond t (taken s i ask say) s) C
       go true is sound = standing_taken c s C i ask say says is sound held h
       go false is sound = h
 
   -- nothing is committed
-  unchanged : (c : ℕ) (s : Client) (C : List Tx) → Standing b clients capacity c s C → Standing b clients capacity c s (C ++ [])
-  unchanged c s C h = subst (λ C. Standing b clients capacity c s C) (sym (append-nil C)) h
+  unchanged : (c : ℕ) (s : Client) (C : List Tx) → Standing b setup c s C → Standing b setup c s (C ++ [])
+  unchanged c s C h = subst (λ C. Standing b setup c s C) (sym (append-nil C)) h
 
   -- a commit that gets its number
-  standing_committed : (c : ℕ) (s : Client) (C : List Tx) → IsSound b s.vector → Standing b clients capacity c s C → Standing b clients capacity c (committed s) (C ++ next_tx s (draft_updates s) ∷ [])
+  standing_committed : (c : ℕ) (s : Client) (C : List Tx) → IsSound b s.vector → Standing b setup c s C → Standing b setup c (committed s) (C ++ next_tx s (draft_updates s) ∷ [])
   standing_committed c s C sound h = record {
     own_in = h.own_in;
     own_all = h.own_all;
@@ -223,25 +222,25 @@ module _ (b : Book) (clients limit capacity : ℕ) (fit : FitsWith b clients lim
           (get_last C tx u q there)
 
   -- a call that ends
-  standing_did : (c : ℕ) (s : Client) (C : List Tx) (call : Call) (outcome : Outcome) → IsSound b s.vector → Standing b clients capacity c s C → Standing b clients capacity c (did s call outcome) (C ++ commit_in s (Did call outcome))
-  standing_did c s C Begin Fine sound h = unchanged c _ C (same_standing b clients capacity c s _ C refl refl refl (λ x i. i) h)
-  standing_did c s C (ChangeCall o change) Fine sound h = unchanged c _ C (same_standing b clients capacity c s _ C refl refl refl (λ x i. In_looked_up s o change x i) h)
-  standing_did c s C (ChangeCall o change) (Refused (TooManyTags tags)) sound h = unchanged c _ C (same_standing b clients capacity c s _ C refl refl refl (λ x i. In_looked_up s o change x i) h)
-  standing_did c s C (Read o) (Got value) sound h = unchanged c _ C (same_standing b clients capacity c s _ C refl refl refl (λ x i. In_promoted o s.vector s.cache x i) h)
+  standing_did : (c : ℕ) (s : Client) (C : List Tx) (call : Call) (outcome : Outcome) → IsSound b s.vector → Standing b setup c s C → Standing b setup c (did s call outcome) (C ++ commit_in s (Did call outcome))
+  standing_did c s C Begin Fine sound h = unchanged c _ C (same_standing b setup c s _ C refl refl refl (λ x i. i) h)
+  standing_did c s C (ChangeCall o change) Fine sound h = unchanged c _ C (same_standing b setup c s _ C refl refl refl (λ x i. In_looked_up s o change x i) h)
+  standing_did c s C (ChangeCall o change) (Refused (TooManyTags tags)) sound h = unchanged c _ C (same_standing b setup c s _ C refl refl refl (λ x i. In_looked_up s o change x i) h)
+  standing_did c s C (Read o) (Got value) sound h = unchanged c _ C (same_standing b setup c s _ C refl refl refl (λ x i. In_promoted o s.vector s.cache x i) h)
   standing_did c s C Commit (Number number) sound h = standing_committed c s C sound h
-  standing_did c s C Commit Nothing sound h = unchanged c _ C (same_standing b clients capacity c s _ C refl refl refl (λ x i. i) h)
-  standing_did c s C Abort Fine sound h = unchanged c _ C (same_standing b clients capacity c s _ C refl refl refl (λ x i. i) h)
+  standing_did c s C Commit Nothing sound h = unchanged c _ C (same_standing b setup c s _ C refl refl refl (λ x i. i) h)
+  standing_did c s C Abort Fine sound h = unchanged c _ C (same_standing b setup c s _ C refl refl refl (λ x i. i) h)
   standing_did c s C _ _ sound h = unchanged c s C h
 
   -- a deed
-  standing_deed : (c : ℕ) (s : Client) (C : List Tx) (deed : Deed) → ((i : ℕ) (ask : Ask) (say : Say) → deed ≡ Asked i ask (Heard say) → IsAnswer i ask say) → IsSound b s.vector → IsSound b (after s deed).vector → Held c s C → Standing b clients capacity c s C → Standing b clients capacity c (after s deed) (C ++ commit_in s deed)
+  standing_deed : (c : ℕ) (s : Client) (C : List Tx) (deed : Deed) → ((i : ℕ) (ask : Ask) (say : Say) → deed ≡ Asked i ask (Heard say) → IsAnswer i ask say) → IsSound b s.vector → IsSound b (after s deed).vector → Held c s C → Standing b setup c s C → Standing b setup c (after s deed) (C ++ commit_in s deed)
   standing_deed c s C (Did call outcome) says sound next held h = standing_did c s C call outcome sound h
   standing_deed c s C (Asked i ask (Heard say)) says sound next held h = unchanged c (heard s i ask say) C (standing_heard c s C i ask say (says i ask say refl) next held h)
   standing_deed c s C (Asked i ask _) says sound next held h = unchanged c s C h
   standing_deed c s C (Told line) says sound next held h = unchanged c s C h
 
   -- nothing is covered at first
-  standing_new : (c : ℕ) → Standing b clients capacity c (new_client b.n c capacity) []
+  standing_new : (c : ℕ) → Standing b setup c (new_client b.n c setup.capacity) []
   standing_new c = record {
     own_in = λ d i. absurd (none (dot_at c d) (cover_in b (zeros b.n) (dot_at c d) i));
     own_all = λ d low high. absurd (omega (arith, low, high));
@@ -257,17 +256,17 @@ module _ (b : Book) (clients limit capacity : ℕ) (fit : FitsWith b clients lim
       none d x = omega (arith, x.within, at-zeros b.n x.centre)
 
   -- what a log heard, a centre answered
-  says_at : (a : ℕ) → IsClient clients a → (m : ℕ) (note : Note) (i : ℕ) (ask : Ask) (say : Say) → slice_get (notes_of b a) m ≡ Some note → note.deed ≡ Asked i ask (Heard say) → IsAnswer i ask say
+  says_at : (a : ℕ) → IsClient setup a → (m : ℕ) (note : Note) (i : ℕ) (ask : Ask) (say : Say) → slice_get (notes_of b a) m ≡ Some note → note.deed ≡ Asked i ask (Heard say) → IsAnswer i ask say
   says_at a client m note i ask say there is =
-      let x = has_entry b clients limit capacity fit a m note i ask (Heard say) say (omega (arith, client.low)) (omega (arith, client.high, fit.form.logs)) there is refl in
+      let x = has_entry b setup fit a m note i ask (Heard say) say (omega (arith, client.low)) (omega (arith, client.high, fit.form.logs)) there is refl in
       record { low = x.low; high = x.high; place = x.place; is = x.is }
 
   -- so stands a session at each moment of its log
-  pub standing : (a : ℕ) → IsClient clients a → (m : ℕ) → Standing b clients capacity (a - 1) (client_at b capacity a m) (commits_at b capacity a m)
-  standing a client = by_notes b.n (a - 1) capacity (notes_of b a) (λ s C. Standing b clients capacity (a - 1) s C) (standing_new (a - 1)) next
+  pub standing : (a : ℕ) → IsClient setup a → (m : ℕ) → Standing b setup (a - 1) (client_at b setup a m) (commits_at b setup a m)
+  standing a client = by_notes b.n (a - 1) setup.capacity (notes_of b a) (λ s C. Standing b setup (a - 1) s C) (standing_new (a - 1)) next
     where
-      next : (m : ℕ) (note : Note) → slice_get (notes_of b a) m ≡ Some note → Standing b clients capacity (a - 1) (client_at b capacity a m) (commits_at b capacity a m) → Standing b clients capacity (a - 1) (after (client_at b capacity a m) note.deed) (commits_at b capacity a m ++ commit_in (client_at b capacity a m) note.deed)
+      next : (m : ℕ) (note : Note) → slice_get (notes_of b a) m ≡ Some note → Standing b setup (a - 1) (client_at b setup a m) (commits_at b setup a m) → Standing b setup (a - 1) (after (client_at b setup a m) note.deed) (commits_at b setup a m ++ commit_in (client_at b setup a m) note.deed)
       next m note there h =
-          let s = client_at b capacity a m in
-          let later : IsSound b (after s note.deed).vector = subst (λ (s : Client). IsSound b s.vector) (after_more b.n (a - 1) capacity m (notes_of b a) note there) (session_sound b clients limit capacity fit a client (suc m)) in
-          standing_deed (a - 1) s (commits_at b capacity a m) note.deed (λ i ask say is. says_at a client m note i ask say there is) (session_sound b clients limit capacity fit a client m) later (held_after b.n (a - 1) capacity (notes_of b a) (fit.follows a client) m) h
+          let s = client_at b setup a m in
+          let later : IsSound b (after s note.deed).vector = subst (λ (s : Client). IsSound b s.vector) (after_more b.n (a - 1) setup.capacity m (notes_of b a) note there) (session_sound b setup fit a client (suc m)) in
+          standing_deed (a - 1) s (commits_at b setup a m) note.deed (λ i ask say is. says_at a client m note i ask say there is) (session_sound b setup fit a client m) later (held_after b.n (a - 1) setup.capacity (notes_of b a) (fit.follows a client) m) h

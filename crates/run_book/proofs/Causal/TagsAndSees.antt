@@ -14,10 +14,10 @@ use Rattle.tx_core.specs.declared.op.Op.{Op}
 use Rattle.tx_core.specs.Ops.{over_of, name_of, is_add}
 use Rattle.tx_core.specs.Objects.{IsLiveId}
 use Rattle.tx_graph.specs.Nodes.{Node}
-use Rattle.tx_graph.specs.Values.{Act, acts_of, acts_over, sees}
+use Rattle.tx_graph.specs.Values.{Act, acts_of, sees}
 use Rattle.run_book.proofs.Causal.InView.{node_ops, ops_before, with_first}
 use Rattle.run_book.proofs.Causal.SetNodes.{StandsIn, over_from, over_in}
-use Rattle.run_book.proofs.Causal.Acts.{op_of_act, HasAct, node_act, node_op, IsActIn, act_in, first_below, first_ops, ops_below}
+use Rattle.run_book.proofs.Causal.Acts.{op_of_act, HasAct, node_act, node_op, IsActIn, act_in, first_below, first_ops, ops_below, acts_with}
 use Rattle.run_book.proofs.Causal.Operations.{dot_of_op}
 use Rattle.run_book.proofs.Causal.OpenNodes.{WellIssued, IsOpenOver, one_node, deps_in_set, dep_stands, dep_below, dep_through, issued_at}
 use Rattle.run_book.proofs.Causal.ActTests.{adds, adds-true, adds-from, kills, kills-true, kills-from, over, over-true, over-from, none_over, less, IsSeenBy, sees-true, sees-from}
@@ -25,7 +25,7 @@ use Rattle.run_book.proofs.Causal.ActTests.{adds, adds-true, adds-from, kills, k
 module _ (nodes : List Node) (set : List Dot) (last : Node) (well : WellIssued nodes) (open_last : IsOpenOver nodes set last) (o : ObjectId) where
   -- the acts on the object over the set and the open node
   abbrev acts : List Act
-  acts = acts_over nodes set last o
+  acts = acts_with nodes set last o
 
   -- the node and the update that an act is of
   abbrev Source : Act → Type 0
@@ -187,7 +187,7 @@ module _ (nodes : List Node) (set : List Dot) (last : Node) (well : WellIssued n
           (q, i, over-from w q p name ((over_live q f w p.mark.id name).1 (is_live none)))
 
   -- so tags tell the same as what sees what
-  pub tagged : (w : List ℕ) → Tagged acts (adds w) (kills w) (over w) sees less
+  pub tagged : (w : List ℕ) → Tagged acts (record { adds = adds w; kills = kills w; over = over w; sees = sees; less = less })
   tagged w = record {
     irreflexive = λ p. not_below_itself mark_cmp_total p.mark;
     transitive = λ p q r. below_through mark_cmp_total p.mark q.mark r.mark;

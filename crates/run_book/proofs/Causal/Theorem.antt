@@ -1,17 +1,17 @@
 -- The laws of a book that fits, and that it is causal.
-use Rattle.std.proofs.Common.{ℕ, ◌+◌, ◌-◌, List, sym, ap, ◌∙◌, arith}
+use Rattle.std.proofs.Common.{ℕ, ◌+◌, ◌-◌, List, sym, ap, ◌∙◌, subst, arith}
 use Rattle.std.proofs.lemmas.Option.{slice_get_within}
 use Rattle.list_core.specs.Members.{In}
 use Rattle.list_core.proofs.Members.{In_right}
 use Rattle.list_core.proofs.Gets.{In_get}
 use Rattle.tx_core.specs.declared.tx.Tx.{Tx}
+use Rattle.run_book.specs.Setups.{Setup}
 use Rattle.run_book.specs.declared.book.Book.{Book}
-use Rattle.tx_graph.specs.Nodes.{Node}
+use Rattle.tx_graph.specs.Nodes.{Node, Within}
 use Rattle.run_book.specs.Parts.{IsClient}
 use Rattle.run_book.specs.Fit.{FitsWith}
-use Rattle.tx_graph.specs.Values.{counter_over, acts_over}
-use Rattle.run_book.specs.Graphs.{cover, own_dots, graph, basis_at, client_at, open_node}
-use Rattle.run_book.specs.Causal.{commits_at, IsCausal}
+use Rattle.run_book.specs.Graphs.{cover, own_dots, graph, basis_at, client_at, open_node, commits_at}
+use Rattle.run_book.specs.Causal.{IsCausal}
 use Rattle.run_book.specs.Laws.{HasSoundVectors, HasOneList, HasClosedBases, KeepsSessions, HasKnownBases, HasValues, Agrees}
 use Rattle.run_book.proofs.Numbered.{numbered_at}
 use Rattle.run_book.proofs.Held.{dot_at}
@@ -30,86 +30,89 @@ use Rattle.run_book.proofs.Causal.FoldedValues.{folded}
 use Rattle.run_book.proofs.Causal.Reads.{read_over, reads_agree}
 use Rattle.run_book.proofs.Causal.OneValue.{unique_marks, unique_marks_in, one_value}
 use Rattle.run_book.proofs.Causal.ClosedSetValues.{over_set}
+use Rattle.run_book.proofs.Causal.Acts.{acts_with}
+use Rattle.tx_graph.specs.Values.{acts_over}
 
-module _ (b : Book) (clients limit capacity : ℕ) (fit : FitsWith b clients limit capacity) where
+module _ (b : Book) (setup : Setup) (fit : FitsWith b setup) where
   -- the vectors are sound at each moment
-  pub sound_vectors : HasSoundVectors b clients capacity
+  pub sound_vectors : HasSoundVectors b setup
   sound_vectors = record {
-    centres = vector_sound b clients limit capacity fit;
-    told_rows = λ i j p low high. told_sound b clients limit capacity fit i j p;
-    stable_vectors = stable_sound b clients limit capacity fit;
-    snapshots = snap_sound b clients limit capacity fit;
-    sessions = λ a m client. session_sound b clients limit capacity fit a client m;
+    centres = vector_sound b setup fit;
+    told_rows = λ i j p low high. told_sound b setup fit i j p;
+    stable_vectors = stable_sound b setup fit;
+    snapshots = snap_sound b setup fit;
+    sessions = λ a m client. session_sound b setup fit a client m;
   }
 
   -- all centres have one list of each centre's records
   pub one_list : HasOneList b
   one_list = record {
-    fronts = λ i p e low high. front b clients limit capacity fit i p low high e;
-    served = λ i p w d low high le. (inside_covered b clients limit capacity fit i p low high w d, covered_inside b clients limit capacity fit i p low high w d le);
-    carried = λ i p j q r s i_low i_high j_low j_high here there same. one_tx b clients limit capacity fit r.tx s.tx (applied_commit b clients limit capacity fit i p i_low i_high r here) (applied_commit b clients limit capacity fit j q j_low j_high s there) same;
+    fronts = λ i p e low high. front b setup fit i p low high e;
+    served = λ i p w d low high le. (inside_covered b setup fit i p low high w d, covered_inside b setup fit i p low high w d le);
+    carried = λ i p j q r s i_low i_high j_low j_high here there same. one_tx b setup fit r.tx s.tx (applied_commit b setup fit i p i_low i_high r here) (applied_commit b setup fit j q j_low j_high s there) same;
   }
 
   -- the graph is well made, and bases are closed
-  pub closed_bases : HasClosedBases b clients capacity
+  pub closed_bases : HasClosedBases b setup
   closed_bases = record {
-    made = made b clients limit capacity fit;
-    bases = λ a m o value r. closed_basis b clients limit capacity fit a m r.client;
+    made = made b setup fit;
+    bases = λ read r. closed_basis b setup fit read.actor read.place r.client;
   }
 
   -- what a session committed is in its basis
-  commits_in : (a m : ℕ) (t : Tx) → IsClient clients a → In t (commits_at b capacity a m) → In t.dot (basis_at b capacity a m)
+  commits_in : (a m : ℕ) (t : Tx) → IsClient setup a → In t (commits_at b setup a m) → In t.dot (basis_at b setup a m)
   commits_in a m t client i =
-      let s = client_at b capacity a m in
-      let held = session_held b clients limit capacity fit a m client in
-      let g = In_get (commits_at b capacity a m) t i in
-      let dot = numbered_at (λ (t : Tx). t.dot) (dot_at (a - 1)) 1 (commits_at b capacity a m) g.0 t held.dots g.1 in
-      let within = slice_get_within (commits_at b capacity a m) g.0 t g.1 in
+      let s = client_at b setup a m in
+      let held = session_held b setup fit a m client in
+      let g = In_get (commits_at b setup a m) t i in
+      let dot = numbered_at (λ (t : Tx). t.dot) (dot_at (a - 1)) 1 (commits_at b setup a m) g.0 t held.dots g.1 in
+      let within = slice_get_within (commits_at b setup a m) g.0 t g.1 in
       In_right (cover b s.vector) (own_dots s.client s.own) t.dot (are_own_dots s.client s.own t.dot (record { number = 1 + g.0; low = omega arith; high = omega (arith, within, held.number); is = dot ∙ ap (λ c. dot_at c (1 + g.0)) (sym held.who) }))
 
   -- the basis of a read holds those of earlier reads, and all own commits
-  pub keeps_sessions : KeepsSessions b clients capacity
+  pub keeps_sessions : KeepsSessions b setup
   keeps_sessions = record {
-    earlier = λ a m later o p value other le r later_r. basis_grows b clients limit capacity fit a m later r.client le;
+    earlier = λ read later r later_r same le. subst (λ a. Within (basis_at b setup read.actor read.place) (basis_at b setup a later.place)) same (basis_grows b setup fit read.actor read.place later.place r.client le);
     commits = commits_in;
-    own_numbers = λ a m number client. let h = standing b clients limit capacity fit a client m in (λ i. h.own_in number i, λ r. h.own_all number r.0 r.1);
+    own_numbers = λ a m number client. let h = standing b setup fit a client m in (λ i. h.own_in number i, λ r. h.own_all number r.0 r.1);
   }
 
   -- what is not the session's own is known to K, and who is counted has it
-  pub known_bases : HasKnownBases b clients capacity
+  pub known_bases : HasKnownBases b setup
   known_bases = record {
-    bases = λ a m o value d r i other. basis_known b clients limit capacity fit a r.client m d i other;
-    moments = moment b clients limit capacity fit;
+    bases = λ read d r i other. basis_known b setup fit read.actor r.client read.place d i other;
+    moments = moment b setup fit;
   }
 
   -- the values of reads and of closed sets
-  pub values : HasValues b clients capacity
+  pub values : HasValues b setup
   values = record {
-    reads = read_over b clients limit capacity fit;
-    one = λ a m o value other client first second.
-        let set = basis_at b capacity a m in
-        let last = open_node b (client_at b capacity a m) in
-        one_value o.sort (counter_over nodes set last.updates o) (acts_over nodes set last o) value other (unique_marks nodes set last (well_issued b clients limit capacity fit) (open_over b clients limit capacity fit a m client) o) first second;
-    over_sets = λ set last o closed none. (folded o (ops_in nodes set o), over_set b clients limit capacity fit set closed o last none);
-    one_over_sets = λ set last o value other none first second. one_value o.sort (counter_over nodes set last.updates o) (acts_over nodes set last o) value other (unique_marks_in nodes set last (made b clients limit capacity fit) none o) first second;
+    reads = read_over b setup fit;
+    one = λ read other client first second.
+        let set = basis_at b setup read.actor read.place in
+        let last = open_node b (client_at b setup read.actor read.place) in
+        let o = read.object in
+        one_value o.sort (acts_with nodes set last o) read.value other (unique_marks nodes set last (well_issued b setup fit) (open_over b setup fit read.actor read.place client) o) first second;
+    over_sets = λ set o closed. (folded o (ops_in nodes set o), over_set b setup fit set closed o);
+    one_over_sets = λ set o value other first second. one_value o.sort (acts_over nodes set o) value other (unique_marks_in nodes set (made b setup fit) o) first second;
   }
     where
       nodes : List Node
-      nodes = graph b clients capacity
+      nodes = graph b setup
 
   -- reads over equal bases give one value
-  pub agrees : Agrees b clients capacity
-  agrees = record { reads = reads_agree b clients limit capacity fit }
+  pub agrees : Agrees b setup
+  agrees = record { reads = reads_agree b setup fit }
 
   -- a book that fits is causal
-  pub causal : IsCausal b clients capacity
+  pub causal : IsCausal b setup
   causal = record {
-    made = made b clients limit capacity fit;
-    reads = λ a m o value r. record {
-      closed = closed_basis b clients limit capacity fit a m r.client;
-      own = λ t i. commits_in a m t r.client i;
-      earlier = λ before p other le earlier. basis_grows b clients limit capacity fit a before m r.client le;
-      known = λ d i other. basis_known b clients limit capacity fit a r.client m d i other;
-      value_is = read_over b clients limit capacity fit a m o value r;
+    made = made b setup fit;
+    reads = λ read r. record {
+      closed = closed_basis b setup fit read.actor read.place r.client;
+      own = λ t i. commits_in read.actor read.place t r.client i;
+      earlier = λ other earlier same le. subst (λ a. Within (basis_at b setup other.actor other.place) (basis_at b setup a read.place)) same (basis_grows b setup fit other.actor other.place read.place earlier.client le);
+      known = λ d i other. basis_known b setup fit read.actor r.client read.place d i other;
+      value_is = read_over b setup fit read r;
     };
   }

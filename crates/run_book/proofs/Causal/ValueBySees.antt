@@ -20,18 +20,20 @@ use Rattle.tx_core.specs.declared.state.Value.TheVariants.{Number, Word, Words, 
 use Rattle.tx_core.specs.Ops.{sort_of_op, name_of, is_add}
 use Rattle.tx_core.specs.Objects as by_tags
 use Rattle.tx_core.specs.Objects.{AreOf, IsLive, IsLiveId, AreWords, ArePairs, IsValueOf}
-use Rattle.tx_graph.specs.Values.{Act, sees, IsRegisterOver, IsUnseenAdd, IsSetOver, put, IsUnseenPut, IsWordAt, IsMapOver, IsValueBy}
+use Rattle.dc_talk.specs.declared.calls.Change.TheVariants as change
+use Rattle.tx_graph.specs.Values.{Act, sees, IsRegisterOver, IsUnseenAdd, IsSetOver, IsUnseenPut, IsWordAt, IsMapOver, IsValueBy, change_of, deltas_in}
 use Rattle.run_book.proofs.Causal.Acts.{op_of_act, act_behind}
 use Rattle.run_book.proofs.Causal.ActTests.{adds, adds-true, adds-from, kills, kills-true, kills-from, over, over-true, none_over, less}
 use Rattle.run_book.proofs.Causal.AddsAndRemoves.{add_of, remove_of, of_add, of_remove, put_of, erase_of, of_put, of_erase}
+use Rattle.obj_counter.specs.Counter.{total}
 
-module _ (acts : List Act) (tagged : (w : List ℕ) → Tagged acts (adds w) (kills w) (over w) sees less) where
+module _ (acts : List Act) (tagged : (w : List ℕ) → Tagged acts (record { adds = adds w; kills = kills w; over = over w; sees = sees; less = less })) where
   -- the operations of the acts
   abbrev ops : List (Mark × Op)
   ops = map op_of_act acts
 
   -- tags tell the same of a word or key as what sees what
-  tells : (w : List ℕ) → TagsEqualSees acts (adds w) (kills w) (over w) sees less
+  tells : (w : List ℕ) → TagsEqualSees acts (record { adds = adds w; kills = kills w; over = over w; sees = sees; less = less })
   tells w = tags_equal_sees acts (adds w) (kills w) (over w) sees less (tagged w)
 
   -- the act adds the word or key, and no act is over it
@@ -99,7 +101,7 @@ module _ (acts : List Act) (tagged : (w : List ℕ) → Tagged acts (adds w) (ki
       record {
         act = a.act;
         there = a.there;
-        writes = sym (ap (λ op. op.1) a.is);
+        writes = ap (λ (op : Mark × Op). change_of op.1) (sym a.is);
         above = λ other other_word i writes. subst (λ m. is_le (mark_cmp other.mark m) ≡ true) (ap (λ op. op.0) a.is) (is.above (op_of_act other) (In_map op_of_act acts other i));
       }
 
@@ -136,7 +138,7 @@ module _ (acts : List Act) (tagged : (w : List ℕ) → Tagged acts (adds w) (ki
   map_over : (pairs : List (List ℕ × List ℕ)) → AreOf sort.Map ops → ArePairs ops pairs → IsMapOver acts pairs
   map_over pairs are is = record { ascending = is.ascending; exact = λ key word. (λ i. to key word ((is.exact key word).0 i), λ u. (is.exact key word).1 (back key word u)) }
     where
-      put_unseen : (key word : List ℕ) (a : Act) → In a acts → stays key a ≡ true → put a.op ≡ Some (key, word) → IsUnseenPut acts key word a
+      put_unseen : (key word : List ℕ) (a : Act) → In a acts → stays key a ≡ true → change_of a.op ≡ change.Put key word → IsUnseenPut acts key word a
       put_unseen key word a i stay puts = record { there = i; puts = puts; unseen = λ other j erases. let r = of_erase other.op key erases in stays-unseen key a other stay j r.0 r.1 }
 
       unseen_put : (key word : List ℕ) (a : Act) → IsUnseenPut acts key word a → stays key a ≡ true
@@ -156,16 +158,16 @@ module _ (acts : List Act) (tagged : (w : List ℕ) → Tagged acts (adds w) (ki
           let top = ((tells key).same_greatest a.act).0 greatest in
           record {
             act = a.act;
-            is = put_unseen key word a.act a.there top.passes (ap (λ op. put op.1) (sym a.is));
+            unseen = put_unseen key word a.act a.there top.passes (ap (λ (op : Mark × Op). change_of op.1) (sym a.is));
             above = λ other other_word u. at_most_from_not_below mark_cmp_total a.act.mark other.mark (top.above other u.there (unseen_put key other_word other u));
           }
 
       back : (key word : List ℕ) → IsWordAt acts key word → by_tags.IsWordAt ops key word
       back key word w =
-          let p = of_put w.act.op key word w.is.puts in
+          let p = of_put w.act.op key word w.unseen.puts in
           let greatest : IsGreatest less (stays key) acts w.act = record {
-            there = w.is.there;
-            passes = unseen_put key word w.act w.is;
+            there = w.unseen.there;
+            passes = unseen_put key word w.act w.unseen;
             above = λ q i u.
                 let parts = stays-adds key q u in
                 let other = put_of q.op key (kind_of_act sort.Map are q i) parts.0 parts.1 in
@@ -176,7 +178,7 @@ module _ (acts : List Act) (tagged : (w : List ℕ) → Tagged acts (adds w) (ki
           record {
             mark = w.act.mark;
             over = p.ids;
-            live = subst (λ op. IsLive ops key op) is_op (lives-true key w.act w.is.there top.passes);
+            live = subst (λ op. IsLive ops key op) is_op (lives-true key w.act w.unseen.there top.passes);
             above = λ op l.
                 let q = act_behind acts op l.there in
                 subst (λ op. is_le (mark_cmp op.0 w.act.mark) ≡ true) (sym q.is) (at_most_from_not_below mark_cmp_total w.act.mark q.act.mark (top.above q.act q.there (lives-from key q.act (subst (λ op. IsLive ops key op) q.is l))));
@@ -188,10 +190,10 @@ module _ (acts : List Act) (tagged : (w : List ℕ) → Tagged acts (adds w) (ki
   one_number : (m n : ℤ) → Number m ≡ Number n → m ≡ n
   one_number m n same = cc
 
-  -- the value that an object has by its operations is the one by its acts, where that of a counter is the sum given
-  pub value_by_sees : (s : Sort) (sum : ℤ) (value : Value) → AreOf s ops → IsValueOf s ops value → (s ≡ sort.Counter → value ≡ Number sum) → IsValueBy s sum acts value
-  value_by_sees sort.Counter sum (Number n) are is counts = one_number n sum (counts refl)
-  value_by_sees sort.Register sum (Word w) are is counts = register_over w is
-  value_by_sees sort.Set sum (Words w) are is counts = set_over w are is
-  value_by_sees sort.Map sum (Pairs w) are is counts = map_over w are is
-  value_by_sees _ sum _ are is counts = is
+  -- the value that an object has by its operations is the one by its acts, where that of a counter is their sum
+  pub value_by_sees : (s : Sort) (value : Value) → AreOf s ops → IsValueOf s ops value → (s ≡ sort.Counter → value ≡ Number (total (deltas_in acts))) → IsValueBy s acts value
+  value_by_sees sort.Counter (Number n) are is counts = one_number n (total (deltas_in acts)) (counts refl)
+  value_by_sees sort.Register (Word w) are is counts = register_over w is
+  value_by_sees sort.Set (Words w) are is counts = set_over w are is
+  value_by_sees sort.Map (Pairs w) are is counts = map_over w are is
+  value_by_sees _ _ are is counts = is

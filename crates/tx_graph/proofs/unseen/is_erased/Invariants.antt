@@ -1,7 +1,6 @@
 use Rattle.std.proofs.Common.{◌≡◌, drop, map}
-use Rattle.tx_graph.specs.Values.{erased}
 use Rattle.tx_graph.specs.Acts.{act_of}
-use Rattle.tx_graph.specs.Unseen.{is_taken}
+use Rattle.tx_graph.specs.Unseen.{erased, is_taken}
 use Rattle.tx_graph.proofs.unseen.is_erased.Given as goal
 
 abbrev pub invariant-loop-other : goal.invariant-loop-other

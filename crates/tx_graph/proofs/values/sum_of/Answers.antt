@@ -1,4 +1,4 @@
-use Rattle.tx_graph.proofs.BareActs.{sum_done}
+use Rattle.tx_graph.proofs.Deltas.{sum_done}
 use Rattle.tx_graph.proofs.values.sum_of.Goals as goal
 
 pub returns : goal.returns

@@ -2,7 +2,7 @@ use Rattle.std.proofs.Common.{◌∷◌, List, map, ap, sym, ◌∙◌}
 use Rattle.std.proofs.lemmas.List.{map-id}
 use Rattle.std.proofs.lemmas.Iterator.Adapters.{YieldsList-from_vec}
 use Rattle.std.proofs.lemmas.Iterator.Consumers.{YieldsList-end}
-use Rattle.run_book.specs.Together.{idle_log}
+use Rattle.run_book.specs.Parts.{idle_log}
 use Rattle.client_stub.specs.Playing.{Seated}
 use Rattle.world_core.proofs.world.client_logs.Goals as goal
 

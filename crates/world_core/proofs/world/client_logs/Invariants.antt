@@ -1,5 +1,5 @@
 use Rattle.std.proofs.Common.{◌≡◌, ◌∷◌, map}
-use Rattle.run_book.specs.Together.{idle_log}
+use Rattle.run_book.specs.Parts.{idle_log}
 use Rattle.client_stub.specs.Playing.{Seated}
 use Rattle.world_core.proofs.world.client_logs.Given as goal
 

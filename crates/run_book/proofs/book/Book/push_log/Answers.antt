@@ -11,7 +11,7 @@ use Rattle.run_book.proofs.BareNodes.{gathers_more}
 use Rattle.run_book.proofs.book.Book.push_log.Goals as goal
 
 pub loop-note-init : goal.loop-note-init
-loop-note-init c = record { shows = c.first_replay-replay.ensures; are = λ a clients limit capacity fit client is. sym (append-nil c.args.nodes.now.items) }
+loop-note-init c = record { shows = c.first_replay-replay.ensures; are = λ a setup fit client is. sym (append-nil c.args.nodes.now.items) }
 
 pub loop-note-preserved : goal.loop-note-preserved
 loop-note-preserved c =
@@ -22,8 +22,8 @@ loop-note-preserved c =
     gathers_more c.args.self.now c.args.log.now c.args.nodes.now.items c.loop-note.nodes.items c.push_commit.new.nodes.items c.loop-note.replay c.go_on.new.self m c.note-item.result there c.loop-note.invariant c.in_ok-push_commit.ensures c.in_ok-go_on.ensures.ok
 
 pub returns : goal.returns
-returns c = λ a clients limit capacity fit client is.
+returns c = λ a setup fit client is.
     let b = c.args.self.now in
     let m = c.loop-note.note-index in
     let whole : take m c.args.log.now.notes ≡ notes_of b a = take_all m c.args.log.now.notes (omega (arith, ap length c.as_slice-notes.ensures)) ∙ ap (λ (l : Logged). l.notes) is in
-    c.loop-note.invariant.are a clients limit capacity fit client is ∙ ap (λ ns. c.args.nodes.now.items ++ map bare_node (map (node_of b) (commits_of b.n (a - 1) capacity ns))) whole
+    c.loop-note.invariant.are a setup fit client is ∙ ap (λ ns. c.args.nodes.now.items ++ map bare_node (map (node_of b) (commits_of b.n (a - 1) setup.capacity ns))) whole
