@@ -125,11 +125,11 @@ has_help() {
 check_wrapper_help() {
     wrapped --help
     also 'help' 0 has_help 'usage: ./swift_sim serial < SCRIPT' './swift_sim --prove' 'Status 1' \
-        'examples/first-path.script' 'docs/script.md' 'rattle-kit-13f'
+        'examples/first-path.script' 'docs/script.md' 'logic dac8208d650f15bf'
     also 'help makes nothing' 0 is_called
     printf 'a\nb' | PATH=$repo/tools /bin/sh "$repo/swift_sim" serial x >"$room/out" 2>"$room/err"
     status=$?
-    also 'no toolchain' 1 has_no_output 'rattle-kit-13f' './swift_sim --help'
+    also 'no toolchain' 1 has_no_output 'logic dac8208d650f15bf' './swift_sim --help'
 }
 
 check_wrapper_unproved() {

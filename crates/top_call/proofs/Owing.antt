@@ -1,84 +1,50 @@
--- What is owed for a script that was played, and how a run ends.
-use Rattle.std.proofs.Common.{◌≡◌, ◌≢◌, ◌⊎◌, inl, inr, ◌↔◌, Bool, true, false, IsTrue, ◌++◌, ℕ, List, [], Option, Some, None, IfSome, refl, sym, ap, ◌∙◌, subst, arith}
+-- What is owed for what is given, and how a run ends.
+use Rattle.std.proofs.Common.{◌≡◌, ◌≢◌, ◌⊎◌, inl, inr, ◌↔◌, Bool, true, false, IsTrue, ◌++◌, ℕ, List, [], Option, Some, None, IfSome, IsSomeAnd, refl, sym, ap, ◌∙◌, subst, arith}
+use Rattle.std.specs.Prelude.{◌≤◌, All, length}
 use Rattle.std.proofs.lemmas.List.{append-nil}
+use Rattle.ids_core.specs.declared.limits.TheConstants.{MOST_CACHED, MOST_RECORDS}
+use Rattle.io_edge.specs.Streams.{TookFront, puts_back, puts_behind}
 use Rattle.script_text.specs.declared.script.Script.{Script}
 use Rattle.script_text.specs.Limits.{PassesLimits}
 use Rattle.script_text.specs.Scripts.{IsScript}
+use Rattle.script_text.specs.Steps.{IsCount, IsStepOf}
 use Rattle.script_text.proofs.LongTexts.{passes_more}
-use Rattle.io_edge.specs.Streams.{puts_back}
-use Rattle.run_book.specs.declared.book.Book.{Book}
+use Rattle.run_book.specs.Setups.{setup_of}
 use Rattle.run_book.specs.Fit.{FitsWith}
-use Rattle.script_text.specs.Steps.{IsCount}
 use Rattle.run_book.proofs.TogetherFits.{together_fit}
 use Rattle.run_book.proofs.TogetherSteps.{together_scripted}
 use Rattle.run_book.proofs.Causal.Theorem.{causal}
-use Rattle.world_core.specs.Shared.{IsSharedRun}
-use Rattle.top_call.specs.Runs.{IsNothing, IsCausalRun, PlaysInput, EndsSo, IsSomeScript, IsNoScript, Meets, OwesFor, Owes, serial_words}
+use Rattle.world_core.specs.Shared.{IsInRange, IsSharedRun}
+use Rattle.top_call.specs.declared.engine.Owed.{Owed}
+use Rattle.top_call.specs.declared.top.Ended.{Ended}
+use Rattle.top_call.specs.Runs.{Given, IsCausalRun, IsNoScript, IsOwed, Played, Refused, Misused, IsPlayable, IsPlayed, IsSomeScript, IsStatus, EndsSo, Wrote, empty_book, given_script, serial_words}
 
--- a run of a script's steps plays the script
-pub shared_plays : (bytes : List ℕ) (script : Script) (status : ℕ) (text : List ℕ) (book : Book) → IsScript bytes script → IsCount 100000 script.cache → IsCount 1000000 script.limit → status ≡ 0 → IsSharedRun script.clients script.limit script.cache script.steps book text → PlaysInput bytes status text book
-shared_plays bytes script status text book is cache limit status_is r =
-    let fits : FitsWith book script.clients script.limit script.cache = together_fit script.clients script.limit script.cache script.steps r.all book r.together r.book_is is.clients.0 is.clients.1 limit.0 limit.1 cache.0 in
+-- a script that was read has its numbers in range
+pub in_range : (bytes : List ℕ) (script : Script) → IsScript bytes script → length script.steps ≤ 200000 → All (IsStepOf script.clients) script.steps → IsCount MOST_CACHED script.cache → IsCount MOST_RECORDS script.limit → IsInRange script
+in_range bytes script spelled few steps cache limit = record { clients = spelled.clients; cache = cache.0; limit = limit; steps = steps; few = few }
+
+-- what is owed for a script is a run of its steps
+pub shared_plays : (bytes : List ℕ) (script : Script) (owed : Owed) → IsScript bytes script → IsInRange script → owed.status ≡ 0 → IsSharedRun script owed.book owed.text.items → IsPlayed (given_script (Some bytes)) owed
+shared_plays bytes script owed spelled range status r =
+    let fits : FitsWith owed.book (setup_of script) = together_fit (setup_of script) script.steps r.all owed.book r.together r.book_is range.clients.0 range.clients.1 range.limit.0 range.limit.1 range.cache in
     record {
-      script = script;
-      is = is;
-      status_is = status_is;
+      form = refl;
+      status = status;
       run = record {
-        n = r.book_is.n ∙ sym is.n;
-        k = r.book_is.k ∙ sym is.k;
-        fits = fits;
-        steps = together_scripted script.clients script.limit script.cache script.steps r.all book r.together r.book_is script refl refl refl;
+        bytes = bytes;
+        input = refl;
+        script = script;
+        spelled = spelled;
+        run = record {
+          n = r.book_is.n ∙ sym spelled.n;
+          k = r.book_is.k ∙ sym spelled.k;
+          fits = fits;
+          steps = together_scripted script r.all owed.book r.together r.book_is;
+        };
+        causal = causal owed.book (setup_of script) fits;
       };
-      causal = causal book script.clients script.limit script.cache fits;
-      text_is = r.text_is;
+      text = r.text_is;
     }
-
--- ---- the ends
-
--- what a source had left is not both a script and none
-not_both : (left : Option (List ℕ)) → left ≢ None → IfSome left IsSomeScript → IfSome left IsNoScript → ⊥
-not_both None some is none = some refl
-not_both (Some bytes) some (script, is) none = none script is
-
--- a script is played, where no read and no write failed and memory sufficed
-pub ends_complete : (words : List (List ℕ)) (left old new : Option (List ℕ)) (status : ℕ) (book : Book) → words ≡ serial_words → left ≢ None → IfSome left IsSomeScript → status ≢ 4 → status ≢ 5 → EndsSo words left old new status book → (status ≡ 0) ⊎ (status ≡ 6)
-ends_complete words left old new status book form some is no_read no_write (inl wrote) = go wrote.owed
-  where
-    go : Owes words left status wrote.text book → (status ≡ 0) ⊎ (status ≡ 6)
-    go (inl run) = owed run.owed
-      where
-        owed : OwesFor left status wrote.text book → (status ≡ 0) ⊎ (status ≡ 6)
-        owed (inl play) = inl play.plays.status_is
-        owed (inr refusal) = absurd (not_both left some is refusal.input)
-    go (inr usage) = absurd (usage.form form)
-ends_complete words left old new status book form some is no_read no_write (inr (inl failed)) = absurd (no_read failed.0)
-ends_complete words left old new status book form some is no_read no_write (inr (inr (inl failed))) = absurd (no_write failed.0)
-ends_complete words left old new status book form some is no_read no_write (inr (inr (inr short))) = inr short.0
-
--- what is all that a source had left, and is a script
-script_left : (left : Option (List ℕ)) (bytes : List ℕ) (script : Script) → IfSome left (λ all. all ≡ bytes) → IsScript bytes script → IfSome left (λ all. IsScript all script)
-script_left None bytes script all is = tt
-script_left (Some other) bytes script all is = subst (λ all. IsScript all script) (sym all) is
-
--- where the run ended well, the book is causal
-pub ends_causal : (words : List (List ℕ)) (left old new : Option (List ℕ)) (status : ℕ) (book : Book) → status ≡ 0 → EndsSo words left old new status book → IsCausalRun left book
-ends_causal words left old new status book ended (inl wrote) = go wrote.owed
-  where
-    go : Owes words left status wrote.text book → IsCausalRun left book
-    go (inl run) = owed run.owed
-      where
-        owed : OwesFor left status wrote.text book → IsCausalRun left book
-        owed (inl play) = record {
-          script = play.plays.script;
-          is = script_left left play.bytes play.plays.script play.input play.plays.is;
-          run = play.plays.run;
-          causal = play.plays.causal;
-        }
-        owed (inr refusal) = absurd (omega (arith, ended, refusal.refuses.status_is))
-    go (inr usage) = absurd (omega (arith, ended, usage.status_is))
-ends_causal words left old new status book ended (inr (inl failed)) = absurd (omega (arith, ended, failed.0))
-ends_causal words left old new status book ended (inr (inr (inl failed))) = absurd (omega (arith, ended, failed.0))
-ends_causal words left old new status book ended (inr (inr (inr short))) = absurd (omega (arith, ended, short.0))
 
 -- ---- the input
 
@@ -94,24 +60,134 @@ all_read bytes (Some rest) none = ap (λ l. bytes ++ l) none ∙ append-nil byte
 
 -- all that a source had left is no script where the bytes that were read are none
 none_left : (bytes : List ℕ) (past : Bool) (new : Option (List ℕ)) → IsNoScript bytes → (IsTrue past ↔ PassesLimits bytes) → (past ≡ false → IfSome new (λ rest. rest ≡ [])) → IfSome (puts_back bytes new) IsNoScript
-none_left bytes past None is limits whole = tt
-none_left bytes true (Some rest) is limits whole = λ script all. all.limits (passes_more bytes rest (limits.0 refl))
-none_left bytes false (Some rest) is limits whole = subst IsNoScript (sym (ap (λ l. bytes ++ l) (whole refl) ∙ append-nil bytes)) is
+none_left bytes past None none limits whole = tt
+none_left bytes true (Some rest) none limits whole = λ script all. all.limits (passes_more bytes rest (limits.0 refl))
+none_left bytes false (Some rest) none limits whole = subst IsNoScript (sym (ap (λ l. bytes ++ l) (whole refl) ∙ append-nil bytes)) none
 
 -- what is owed for the bytes that were read is owed for what the source had left
-pub owes_for : (old new : Option (List ℕ)) (bytes : List ℕ) (past : Bool) (status : ℕ) (text : List ℕ) (book : Book) → old ≡ puts_back bytes new → (IsTrue past ↔ PassesLimits bytes) → (past ≡ false → IfSome new (λ rest. rest ≡ [])) → Meets bytes status text book → OwesFor old status text book
-owes_for old new bytes past status text book parts limits whole (inl plays) = inl (record {
-  bytes = bytes;
-  input = subst (λ left. IfSome left (λ all. all ≡ bytes)) (sym parts) (all_read bytes new (whole_of bytes past new plays.is.limits limits whole));
-  plays = plays;
+pub owed_left : (old new : Option (List ℕ)) (bytes : List ℕ) (past : Bool) (owed : Owed) → old ≡ puts_back bytes new → (IsTrue past ↔ PassesLimits bytes) → (past ≡ false → IfSome new (λ rest. rest ≡ [])) → IsOwed (given_script (Some bytes)) owed → IsOwed (given_script old) owed
+owed_left old new bytes past owed parts limits whole (Played p) = Played (record {
+  form = refl;
+  status = p.status;
+  run = record {
+    bytes = bytes;
+    input = subst (λ left. IfSome left (λ all. all ≡ bytes)) (sym parts) (all_read bytes new (whole_of bytes past new within limits whole));
+    script = p.run.script;
+    spelled = spelled;
+    run = p.run.run;
+    causal = p.run.causal;
+  };
+  text = p.text;
 })
-owes_for old new bytes past status text book parts limits whole (inr refuses) = inr (record {
-  bytes = bytes;
-  input = subst (λ left. IfSome left IsNoScript) (sym parts) (none_left bytes past new refuses.is limits whole);
-  refuses = refuses;
+  where
+    spelled : IsScript bytes p.run.script
+    spelled = subst (λ all. IsScript all p.run.script) (sym p.run.input) p.run.spelled
+
+    within : PassesLimits bytes → ⊥
+    within = spelled.limits
+owed_left old new bytes past owed parts limits whole (Refused r) = Refused (record {
+  form = refl;
+  status = r.status;
+  input = subst (λ left. IfSome left IsNoScript) (sym parts) (none_left bytes past new r.input limits whole);
+  text = r.text;
+  book = r.book;
 })
+owed_left old new bytes past owed parts limits whole (Misused u) = absurd (u.form refl)
 
 -- where the bytes that were read are played, nothing is left
-pub end_met : (new : Option (List ℕ)) (bytes : List ℕ) (past : Bool) (status : ℕ) (text : List ℕ) (book : Book) → (IsTrue past ↔ PassesLimits bytes) → (past ≡ false → IfSome new (λ rest. rest ≡ [])) → Meets bytes status text book → status ≡ 0 → IfSome new IsNothing
-end_met new bytes past status text book limits whole (inl plays) zero = whole_of bytes past new plays.is.limits limits whole
-end_met new bytes past status text book limits whole (inr refuses) zero = absurd (omega (arith, zero, refuses.status_is))
+pub end_met : (new : Option (List ℕ)) (bytes : List ℕ) (past : Bool) (owed : Owed) → (IsTrue past ↔ PassesLimits bytes) → (past ≡ false → IfSome new (λ rest. rest ≡ [])) → IsOwed (given_script (Some bytes)) owed → owed.status ≡ 0 → IfSome new (λ rest. rest ≡ [])
+end_met new bytes past owed limits whole (Played p) zero = whole_of bytes past new (subst (λ all. PassesLimits all → ⊥) (sym p.run.input) p.run.spelled.limits) limits whole
+end_met new bytes past owed limits whole (Refused r) zero = absurd (omega (arith, zero, r.status))
+end_met new bytes past owed limits whole (Misused u) zero = absurd (omega (arith, zero, u.status))
+
+-- what is owed for a script is owed for the words that play it, whatever the sink has
+pub owed_given : (given : Given) (owed : Owed) → given.words ≡ serial_words → IsOwed (given_script given.left) owed → IsOwed given owed
+owed_given given owed form (Played p) = Played (record { form = form; status = p.status; run = p.run; text = p.text })
+owed_given given owed form (Refused r) = Refused (record { form = form; status = r.status; input = r.input; text = r.text; book = r.book })
+owed_given given owed form (Misused u) = absurd (u.form refl)
+
+-- ---- the ends
+
+-- a run whose whole text was taken ends with what is owed
+pub wrote_ends : (given : Given) (owed : Owed) (ended : Ended) (taken : Option (List ℕ)) → IsOwed given owed → ended.status ≡ owed.status → ended.book ≡ owed.book → taken ≡ puts_behind owed.text.items given.taken → EndsSo given ended taken
+wrote_ends given owed ended taken (Played p) status book all = record {
+  statuses = inl (status ∙ p.status);
+  played = λ _. record { owed = owed; kind = p; status = status; book = book; all = all };
+  misused = λ other. absurd (omega (arith, other, status, p.status));
+  refused = λ other. absurd (omega (arith, other, status, p.status));
+  read_failed = λ other. absurd (omega (arith, other, status, p.status));
+  write_failed = λ other. absurd (omega (arith, other, status, p.status));
+  no_memory = λ other. absurd (omega (arith, other, status, p.status));
+}
+wrote_ends given owed ended taken (Refused r) status book all = record {
+  statuses = inr (inr (inl (status ∙ r.status)));
+  played = λ other. absurd (omega (arith, other, status, r.status));
+  misused = λ other. absurd (omega (arith, other, status, r.status));
+  refused = λ _. record { owed = owed; kind = r; status = status; book = book; all = all };
+  read_failed = λ other. absurd (omega (arith, other, status, r.status));
+  write_failed = λ other. absurd (omega (arith, other, status, r.status));
+  no_memory = λ other. absurd (omega (arith, other, status, r.status));
+}
+wrote_ends given owed ended taken (Misused u) status book all = record {
+  statuses = inr (inl (status ∙ u.status));
+  played = λ other. absurd (omega (arith, other, status, u.status));
+  misused = λ _. record { owed = owed; kind = u; status = status; book = book; all = all };
+  refused = λ other. absurd (omega (arith, other, status, u.status));
+  read_failed = λ other. absurd (omega (arith, other, status, u.status));
+  write_failed = λ other. absurd (omega (arith, other, status, u.status));
+  no_memory = λ other. absurd (omega (arith, other, status, u.status));
+}
+
+-- a run whose write failed ends with a front of what is owed
+pub front_ends : (given : Given) (owed : Owed) (ended : Ended) (taken : Option (List ℕ)) → IsOwed given owed → ended.status ≡ 5 → ended.book ≡ owed.book → TookFront owed.text.items given.taken taken → EndsSo given ended taken
+front_ends given owed ended taken kind five book front = record {
+  statuses = inr (inr (inr (inr (inl five))));
+  played = λ other. absurd (omega (arith, other, five));
+  misused = λ other. absurd (omega (arith, other, five));
+  refused = λ other. absurd (omega (arith, other, five));
+  read_failed = λ other. absurd (omega (arith, other, five));
+  write_failed = λ _. record { owed = owed; kind = kind; same_book = book; front = front };
+  no_memory = λ other. absurd (omega (arith, other, five));
+}
+
+-- one that memory failed does too, and hands out no book
+pub short_ends : (given : Given) (owed : Owed) (ended : Ended) (taken : Option (List ℕ)) → IsOwed given owed → ended.status ≡ 6 → ended.book ≡ empty_book → TookFront owed.text.items given.taken taken → EndsSo given ended taken
+short_ends given owed ended taken kind six book front = record {
+  statuses = inr (inr (inr (inr (inr six))));
+  played = λ other. absurd (omega (arith, other, six));
+  misused = λ other. absurd (omega (arith, other, six));
+  refused = λ other. absurd (omega (arith, other, six));
+  read_failed = λ other. absurd (omega (arith, other, six));
+  write_failed = λ other. absurd (omega (arith, other, six));
+  no_memory = λ _. record { short = inr (owed.book, record { owed = owed; kind = kind; same_book = refl; front = front }); book = book };
+}
+
+-- what is owed is neither a failed read nor a failed write
+pub owed_status : (given : Given) (owed : Owed) → IsOwed given owed → (owed.status ≢ 4) × (owed.status ≢ 5)
+owed_status given owed (Played p) = (λ four. omega (arith, four, p.status), λ five. omega (arith, five, p.status))
+owed_status given owed (Refused r) = (λ four. omega (arith, four, r.status), λ five. omega (arith, five, r.status))
+owed_status given owed (Misused u) = (λ four. omega (arith, four, u.status), λ five. omega (arith, five, u.status))
+
+-- what a source tells is not both a script and none
+not_both : (left : Option (List ℕ)) → IsSomeAnd left IsSomeScript → IfSome left IsNoScript → ⊥
+not_both None some none = some
+not_both (Some bytes) (script, spelled) none = none script spelled
+
+-- a script is played, where no read and no write failed and memory sufficed
+pub ends_complete : (given : Given) (ended : Ended) (taken : Option (List ℕ)) → IsPlayable given → ended.status ≢ 4 → ended.status ≢ 5 → EndsSo given ended taken → (ended.status ≡ 0) ⊎ (ended.status ≡ 6)
+ends_complete given ended taken playable no_read no_write ends = by_status ends.statuses
+  where
+    by_status : IsStatus ended.status → (ended.status ≡ 0) ⊎ (ended.status ≡ 6)
+    by_status (inl zero) = inl zero
+    by_status (inr (inl two)) = absurd ((ends.misused two).kind.form playable.form)
+    by_status (inr (inr (inl three))) = absurd (not_both given.left playable.script (ends.refused three).kind.input)
+    by_status (inr (inr (inr (inl four)))) = absurd (no_read four)
+    by_status (inr (inr (inr (inr (inl five))))) = absurd (no_write five)
+    by_status (inr (inr (inr (inr (inr six))))) = inr six
+
+-- where a run ended well, its book is causal
+pub ends_causal : (given : Given) (ended : Ended) (taken : Option (List ℕ)) → EndsSo given ended taken → ended.status ≡ 0 → IsCausalRun given.left ended.book
+ends_causal given ended taken ends zero = subst (IsCausalRun given.left) (sym wrote.book) wrote.kind.run
+  where
+    wrote : Wrote IsPlayed given ended taken
+    wrote = ends.played zero

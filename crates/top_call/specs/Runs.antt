@@ -1,20 +1,32 @@
--- What is owed to a sink for words and an input, and how a run ends.
-use Rattle.std.specs.Prelude.{◌≡◌, ◌≢◌, ◌⊎◌, ℕ, ◌+◌, List, [], ◌∷◌, ◌++◌, Option, IfSome, map, codes}
-use Rattle.std.specs.String.{string_bytes}
+-- What a run is given, what it owes, and how it ends.
+use Rattle.std.specs.Prelude.{◌≡◌, ◌≢◌, ◌⊎◌, ℕ, List, [], ◌∷◌, Option, None, IfSome, IsSomeAnd, String, map, codes}
 use Rattle.std.specs.Global.{Global}
-use Rattle.std.specs.Prelude.{String}
+use Rattle.std.specs.String.{string_bytes}
+use Rattle.io_edge.specs.Streams.{TookFront, puts_behind}
 use Rattle.script_text.specs.declared.script.Script.{Script}
 use Rattle.script_text.specs.Scripts.{IsScript}
 use Rattle.run_book.specs.declared.book.Book.{Book}
+use Rattle.run_book.specs.Setups.{setup_of}
 use Rattle.run_book.specs.Fit.{FitsWith}
 use Rattle.run_book.specs.Scripted.{HasSteps}
 use Rattle.run_book.specs.Causal.{IsCausal}
 use Rattle.print_text.specs.Text.{text_of}
-use Rattle.io_edge.specs.Streams.{TookFront, puts_behind}
+use Rattle.top_call.specs.declared.engine.Owed.{Owed}
+use Rattle.top_call.specs.declared.top.Ended.{Ended}
+
+-- what a run is given: its words, what its source has left, and what its sink has taken
+pub record Given : Type 0 where
+  pub words : List (List ℕ)
+  pub left : Option (List ℕ)
+  pub taken : Option (List ℕ)
 
 -- the bytes of words
 abbrev pub texts : List (String Global) → List (List ℕ)
 texts words = map string_bytes words
+
+-- what is given by these words, with a source that has this left and a sink that has taken this
+abbrev pub given_by : List (String Global) → Option (List ℕ) → Option (List ℕ) → Given
+given_by words left taken = record { words = texts words; left = left; taken = taken }
 
 -- the words that play a script on one thread
 abbrev pub serial_words : List (List ℕ)
@@ -32,6 +44,10 @@ refusal_text = codes "refused input\n"
 abbrev pub empty_book : Book
 empty_book = record { n = 1; k = 1; trails = []; logs = [] }
 
+-- the bytes are a script
+abbrev pub IsSomeScript : List ℕ → Type 0
+IsSomeScript bytes = (script : Script) × IsScript bytes script
+
 -- the bytes are no script
 abbrev pub IsNoScript : List ℕ → Type 0
 IsNoScript bytes = (script : Script) → IsScript bytes script → ⊥
@@ -41,127 +57,99 @@ IsNoScript bytes = (script : Script) → IsScript bytes script → ⊥
 pub record IsRunOf (script : Script) (book : Book) : Type 0 where
   pub n : book.n ≡ script.n
   pub k : book.k ≡ script.k
-  pub fits : FitsWith book script.clients script.limit script.cache
+  pub fits : FitsWith book (setup_of script)
   pub steps : HasSteps script book
 
--- the bytes are a script, the book is one of its run and causal, and the text is that of the book
-pub record PlaysInput (bytes : List ℕ) (status : ℕ) (text : List ℕ) (book : Book) : Type 0 where
-  pub script : Script
-  pub is : IsScript bytes script
-  pub status_is : status ≡ 0
-  pub run : IsRunOf script book
-  pub causal : IsCausal book script.clients script.cache
-  pub text_is : text ≡ text_of book.logs
-
--- the bytes are no script, and are refused
-pub record RefusesInput (bytes : List ℕ) (status : ℕ) (text : List ℕ) (book : Book) : Type 0 where
-  pub is : IsNoScript bytes
-  pub status_is : status ≡ 3
-  pub text_is : text ≡ refusal_text
-  pub book_is : book ≡ empty_book
-
--- a script is played, and other bytes are refused
-abbrev pub Meets : List ℕ → ℕ → List ℕ → Book → Type 0
-Meets bytes status text book = PlaysInput bytes status text book ⊎ RefusesInput bytes status text book
-
--- a script is played that is all that the source had left
-pub record OwesPlay (left : Option (List ℕ)) (status : ℕ) (text : List ℕ) (book : Book) : Type 0 where
-  pub bytes : List ℕ
-  pub input : IfSome left (λ all. all ≡ bytes)
-  pub plays : PlaysInput bytes status text book
-
--- an input is refused, and all that the source had left is no script
-pub record OwesRefusal (left : Option (List ℕ)) (status : ℕ) (text : List ℕ) (book : Book) : Type 0 where
-  pub bytes : List ℕ
-  pub input : IfSome left IsNoScript
-  pub refuses : RefusesInput bytes status text book
-
--- what is owed for what a source has left
-abbrev pub OwesFor : Option (List ℕ) → ℕ → List ℕ → Book → Type 0
-OwesFor left status text book = OwesPlay left status text book ⊎ OwesRefusal left status text book
-
--- what is owed for the words that play a script
-pub record OwesRun (words : List (List ℕ)) (left : Option (List ℕ)) (status : ℕ) (text : List ℕ) (book : Book) : Type 0 where
-  pub form : words ≡ serial_words
-  pub owed : OwesFor left status text book
-
--- what is owed for words of no form
-pub record OwesUsage (words : List (List ℕ)) (status : ℕ) (text : List ℕ) (book : Book) : Type 0 where
-  pub form : words ≢ serial_words
-  pub status_is : status ≡ 2
-  pub text_is : text ≡ usage_text
-  pub book_is : book ≡ empty_book
-
--- what is owed for words and what a source has left
-abbrev pub Owes : List (List ℕ) → Option (List ℕ) → ℕ → List ℕ → Book → Type 0
-Owes words left status text book = OwesRun words left status text book ⊎ OwesUsage words status text book
-
--- what is owed was taken, whole
-pub record Wrote (words : List (List ℕ)) (left old new : Option (List ℕ)) (status : ℕ) (book : Book) : Type 0 where
-  pub text : List ℕ
-  pub owed : Owes words left status text book
-  pub all : new ≡ puts_behind text old
-
--- a front of what is owed was taken
-pub record WroteFront (words : List (List ℕ)) (left old new : Option (List ℕ)) (book : Book) : Type 0 where
-  pub status : ℕ
-  pub text : List ℕ
-  pub owed : Owes words left status text book
-  pub front : TookFront text old new
-
--- nothing was taken, or a front of what is owed
-abbrev pub WroteShort : List (List ℕ) → Option (List ℕ) → Option (List ℕ) → Option (List ℕ) → Type 0
-WroteShort words left old new = (new ≡ old) ⊎ ((book : Book) × WroteFront words left old new book)
-
--- the bytes of a script were read and played, and the text of the book was taken
-pub record Serves (words : List (List ℕ)) (left old new : Option (List ℕ)) (book : Book) : Type 0 where
-  pub form : words ≡ serial_words
-  pub bytes : List ℕ
-  pub input : IfSome left (λ all. all ≡ bytes)
-  pub script : Script
-  pub is : IsScript bytes script
-  pub run : IsRunOf script book
-  pub text : new ≡ puts_behind (text_of book.logs) old
-
--- what a source has left is a script, and the book is one of its run and causal
+-- all that a source had left, as far as it tells that, are bytes that are a script, and the book is one
+-- of a run of this script and causal
 pub record IsCausalRun (left : Option (List ℕ)) (book : Book) : Type 0 where
-  pub script : Script
-  pub is : IfSome left (λ bytes. IsScript bytes script)
-  pub run : IsRunOf script book
-  pub causal : IsCausal book script.clients script.cache
-
--- the input was refused, and the line that says so was taken
-pub record RefusedInput (words : List (List ℕ)) (left old new : Option (List ℕ)) (book : Book) : Type 0 where
-  pub form : words ≡ serial_words
   pub bytes : List ℕ
-  pub is : IsNoScript bytes
-  pub input : IfSome left IsNoScript
-  pub text : new ≡ puts_behind refusal_text old
-  pub book_is : book ≡ empty_book
+  pub input : IfSome left (λ all. all ≡ bytes)
+  pub script : Script
+  pub spelled : IsScript bytes script
+  pub run : IsRunOf script book
+  pub causal : IsCausal book (setup_of script)
 
--- the words were refused, and the usage line was taken
-pub record RefusedWords (words : List (List ℕ)) (old new : Option (List ℕ)) (book : Book) : Type 0 where
-  pub form : words ≢ serial_words
-  pub text : new ≡ puts_behind usage_text old
-  pub book_is : book ≡ empty_book
+-- ---- what is owed: a status, a text and a book
+
+-- what is owed for a script: status 0, the book of a run of it, and the text of this book
+pub record IsPlayed (given : Given) (owed : Owed) : Type 0 where
+  pub form : given.words ≡ serial_words
+  pub status : owed.status ≡ 0
+  pub run : IsCausalRun given.left owed.book
+  pub text : owed.text.items ≡ text_of owed.book.logs
+
+-- what is owed for an input that is no script: status 3, and the line that says so
+pub record IsRefusal (given : Given) (owed : Owed) : Type 0 where
+  pub form : given.words ≡ serial_words
+  pub status : owed.status ≡ 3
+  pub input : IfSome given.left IsNoScript
+  pub text : owed.text.items ≡ refusal_text
+  pub book : owed.book ≡ empty_book
+
+-- what is owed for words of no form: status 2, and the line of usage
+pub record IsUsage (given : Given) (owed : Owed) : Type 0 where
+  pub form : given.words ≢ serial_words
+  pub status : owed.status ≡ 2
+  pub text : owed.text.items ≡ usage_text
+  pub book : owed.book ≡ empty_book
+
+-- what is owed for what is given, by cases
+pub data IsOwed (given : Given) (owed : Owed) : Type 0 where
+  Played : IsPlayed given owed → IsOwed given owed
+  Refused : IsRefusal given owed → IsOwed given owed
+  Misused : IsUsage given owed → IsOwed given owed
+
+-- ---- how a run ends
 
 -- the statuses of an end
 abbrev pub IsStatus : ℕ → Type 0
 IsStatus status = (status ≡ 0) ⊎ ((status ≡ 2) ⊎ ((status ≡ 3) ⊎ ((status ≡ 4) ⊎ ((status ≡ 5) ⊎ (status ≡ 6)))))
 
--- no bytes
-abbrev pub IsNothing : List ℕ → Type 0
-IsNothing bytes = bytes ≡ []
+-- something of this kind is owed, the run ended with its status and its book, and the sink took the
+-- whole text
+pub record Wrote (IsKind : Given → Owed → Type 0) (given : Given) (ended : Ended) (taken : Option (List ℕ)) : Type 0 where
+  pub owed : Owed
+  pub kind : IsKind given owed
+  pub status : ended.status ≡ owed.status
+  pub book : ended.book ≡ owed.book
+  pub all : taken ≡ puts_behind owed.text.items given.taken
 
--- the bytes are a script
-abbrev pub IsSomeScript : List ℕ → Type 0
-IsSomeScript bytes = (script : Script) × IsScript bytes script
+-- the sink took a front of what is owed, with this book
+pub record WroteFront (given : Given) (book : Book) (taken : Option (List ℕ)) : Type 0 where
+  pub owed : Owed
+  pub kind : IsOwed given owed
+  pub same_book : book ≡ owed.book
+  pub front : TookFront owed.text.items given.taken taken
 
--- how a run ends: what is owed was taken, nothing was taken after a failed read, and a front of what
--- is owed after a failed write or for want of memory
-abbrev pub EndsSo : List (List ℕ) → Option (List ℕ) → Option (List ℕ) → Option (List ℕ) → ℕ → Book → Type 0
-EndsSo words left old new status book =
-    Wrote words left old new status book
-    ⊎ (((status ≡ 4) × (words ≡ serial_words) × (new ≡ old) × (book ≡ empty_book))
-    ⊎ (((status ≡ 5) × WroteFront words left old new book)
-    ⊎ ((status ≡ 6) × WroteShort words left old new × (book ≡ empty_book))))
+-- a script was asked for, the sink took nothing, and there is no run
+pub record WroteNothing (given : Given) (ended : Ended) (taken : Option (List ℕ)) : Type 0 where
+  pub form : given.words ≡ serial_words
+  pub nothing : taken ≡ given.taken
+  pub book : ended.book ≡ empty_book
+
+-- the sink took nothing or a front of what is owed, and no run is handed out
+pub record WroteShort (given : Given) (ended : Ended) (taken : Option (List ℕ)) : Type 0 where
+  pub short : (taken ≡ given.taken) ⊎ ((book : Book) × WroteFront given book taken)
+  pub book : ended.book ≡ empty_book
+
+-- a script is asked for, and the source tells that it has one left
+pub record IsPlayable (given : Given) : Type 0 where
+  pub form : given.words ≡ serial_words
+  pub script : IsSomeAnd given.left IsSomeScript
+
+-- ---- on the way to the top call
+
+-- what is given by a source that has this left of a script, with a sink that tells nothing
+abbrev pub given_script : Option (List ℕ) → Given
+given_script left = record { words = serial_words; left = left; taken = None }
+
+-- what a run left, by its status
+pub record EndsSo (given : Given) (ended : Ended) (taken : Option (List ℕ)) : Type 0 where
+  pub statuses : IsStatus ended.status
+  pub played : ended.status ≡ 0 → Wrote IsPlayed given ended taken
+  pub misused : ended.status ≡ 2 → Wrote IsUsage given ended taken
+  pub refused : ended.status ≡ 3 → Wrote IsRefusal given ended taken
+  pub read_failed : ended.status ≡ 4 → WroteNothing given ended taken
+  pub write_failed : ended.status ≡ 5 → WroteFront given ended.book taken
+  pub no_memory : ended.status ≡ 6 → WroteShort given ended taken

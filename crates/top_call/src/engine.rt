@@ -1,9 +1,8 @@
 // From an input to a status, a text and a book.
-ghost use Rattle.std.specs.Prelude.{◌≡◌, ◌≤◌, ◌↔◌, All, IsTrue, IfOk, length};
+ghost use Rattle.std.specs.Prelude.{◌≡◌, ◌↔◌, IsTrue, IfOk};
 ghost use Rattle.script_text.specs.Limits.{PassesLimits};
-ghost use Rattle.script_text.specs.Steps.{IsCount, IsStepOf};
-ghost use Rattle.world_core.specs.Shared.{IsSharedRun};
-ghost use Rattle.top_call.specs.Runs.{Meets, empty_book, refusal_text};
+ghost use Rattle.world_core.specs.Shared.{IsInRange, IsSharedRun};
+ghost use Rattle.top_call.specs.Runs.{IsOwed, empty_book, given_script, refusal_text};
 
 use ids_core::NoMemory;
 use run_book::Book;
@@ -11,7 +10,7 @@ use script_text::{Input, Script, ScriptFault, parse};
 use std::alloc::Global;
 use world_core::play_steps;
 
-/// How a run ends where nothing fails: its status, its text, and its book.
+/// What is owed: the status, the text and the book with which a run ends where nothing fails.
 #[derive(Drop)]
 pub struct Owed {
     pub status: u8,
@@ -34,17 +33,11 @@ fn refusal(alloc: Global) -> Result<Owed, NoMemory>
 
 // What is owed for a script.
 fn script_run(alloc: Global, script: &Script) -> Result<Owed, NoMemory>
-    requires clients { IsCount 1024 script.now.clients }
-    requires cache { IsCount 100000 script.now.cache }
-    requires most { IsCount 1000000 script.now.limit }
-    requires steps { All (IsStepOf script.now.clients) script.now.steps }
-    requires few { length script.now.steps ≤ 200000 }
+    requires { IsInRange script.now }
     ensures status { IfOk result (λ owed. owed.status ≡ 0) }
-    ensures run { IfOk result (λ owed. IsSharedRun script.now.clients script.now.limit script.now.cache script.now.steps owed.book owed.text.items) }
+    ensures run { IfOk result (λ owed. IsSharedRun script.now owed.book owed.text.items) }
 {
-    let steps = script.steps.as_slice();
-    let cache = script.cache as usize;
-    let run = play_steps(alloc, script.clients, cache, script.limit, steps)?;
+    let run = play_steps(alloc, script)?;
     Ok(Owed {
         status: 0,
         text: run.text,
@@ -55,7 +48,7 @@ fn script_run(alloc: Global, script: &Script) -> Result<Owed, NoMemory>
 /// What is owed for an input: a script is played, and other bytes are refused.
 pub fn owed_for(alloc: Global, input: &Input) -> Result<Owed, NoMemory>
     requires { IsTrue input.now.past_limits ↔ PassesLimits input.now.bytes.items }
-    ensures { IfOk result (λ owed. Meets input.now.bytes.items owed.status owed.text.items owed.book) }
+    ensures { IfOk result (IsOwed (given_script (Some input.now.bytes.items))) }
 {
     match parse(alloc, input) {
         Ok(script) => {

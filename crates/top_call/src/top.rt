@@ -1,7 +1,7 @@
 // The top call.
-ghost use Rattle.std.specs.Prelude.{◌≡◌, ◌≢◌, ◌⊎◌, ◌↔◌, Err, IfOk, IfSome, IsTrue, None, codes};
+ghost use Rattle.std.specs.Prelude.{◌≡◌, ◌≢◌, ◌⊎◌, ◌↔◌, ℕ, List, Option, [], Err, IfOk, IfSome, IsTrue, codes};
 ghost use Rattle.io_edge.specs.Streams.{HasRisen};
-ghost use Rattle.top_call.specs.Runs.{EndsSo, IsCausalRun, IsNothing, IsSomeScript, IsStatus, Owes, OwesFor, RefusedInput, RefusedWords, Serves, WroteFront, WroteShort, empty_book, serial_words, texts, usage_text};
+ghost use Rattle.top_call.specs.Runs.{EndsSo, IsCausalRun, IsOwed, IsPlayable, IsPlayed, IsRefusal, IsStatus, IsUsage, Wrote, WroteFront, WroteNothing, WroteShort, empty_book, given_by, given_script, serial_words, texts, usage_text};
 
 use crate::engine::{Owed, owed_for};
 use crate::stream::{ReadFault, read_input, write_all};
@@ -54,8 +54,8 @@ fn usage(alloc: Global) -> Result<Owed, NoMemory>
 
 // Reads an input, and what is owed for it.
 fn owed_of<S: Source>(alloc: Global, source: &mut S) -> Result<Owed, ReadFault>
-    ensures owed { IfOk result (λ owed. OwesFor (S.left source.old) owed.status owed.text.items owed.book) }
-    ensures end { IfOk result (λ owed. owed.status ≡ 0 → IfSome (S.left source.new) IsNothing) }
+    ensures owed { IfOk result (IsOwed (given_script (S.left source.old))) }
+    ensures end { IfOk result (λ owed. owed.status ≡ 0 → IfSome (S.left source.new) (λ rest. rest ≡ [])) }
     ensures failed { result ≡ Err ReadFault.Failed → HasRisen (S.faults source.old) (S.faults source.new) }
     ensures quiet { result ≢ Err ReadFault.Failed → S.faults source.new ≡ S.faults source.old }
 {
@@ -66,8 +66,8 @@ fn owed_of<S: Source>(alloc: Global, source: &mut S) -> Result<Owed, ReadFault>
 
 // What is owed for the words and the source, from which nothing is read for words of no form.
 fn owed_to<S: Source>(alloc: Global, words: &[String], source: &mut S) -> Result<Owed, ReadFault>
-    ensures owed { IfOk result (λ owed. Owes (texts words.now) (S.left source.old) owed.status owed.text.items owed.book) }
-    ensures end { IfOk result (λ owed. owed.status ≡ 0 → IfSome (S.left source.new) IsNothing) }
+    ensures owed { IfOk result (λ owed. (taken : Option (List ℕ)) → IsOwed (given_by words.now (S.left source.old) taken) owed) }
+    ensures end { IfOk result (λ owed. owed.status ≡ 0 → IfSome (S.left source.new) (λ rest. rest ≡ [])) }
     ensures form { result ≡ Err ReadFault.Failed → texts words.now ≡ serial_words }
     ensures failed { result ≡ Err ReadFault.Failed → HasRisen (S.faults source.old) (S.faults source.new) }
     ensures quiet { result ≢ Err ReadFault.Failed → S.faults source.new ≡ S.faults source.old }
@@ -94,8 +94,8 @@ fn ended_empty(alloc: Global, status: u8) -> Ended
 
 // Runs the words, by what is owed for them.
 fn run<S: Source, W: Sink>(alloc: Global, words: &[String], source: &mut S, sink: &mut W) -> Ended
-    ensures ends { EndsSo (texts words.now) (S.left source.old) (W.taken sink.old) (W.taken sink.new) result.status result.book }
-    ensures end { result.status ≡ 0 → IfSome (S.left source.new) IsNothing }
+    ensures ends { EndsSo (given_by words.now (S.left source.old) (W.taken sink.old)) result (W.taken sink.new) }
+    ensures end { result.status ≡ 0 → IfSome (S.left source.new) (λ rest. rest ≡ []) }
     ensures read { result.status ≡ 4 → HasRisen (S.faults source.old) (S.faults source.new) }
     ensures write { result.status ≡ 5 → HasRisen (W.faults sink.old) (W.faults sink.new) }
     ensures read_quiet { result.status ≢ 4 → S.faults source.new ≡ S.faults source.old }
@@ -133,9 +133,9 @@ pub fn swift_main<S: Source, W: Sink, G: Gate>(
 
     // 0: all that the source had is a script that was played, the book is one of its run, and the
     // sink took the text of that book.
-    ensures success { result.status ≡ 0 → Serves (texts words.now) (S.left source.old) (W.taken sink.old) (W.taken sink.new) result.book }
+    ensures success { result.status ≡ 0 → Wrote IsPlayed (given_by words.now (S.left source.old) (W.taken sink.old)) result (W.taken sink.new) }
 
-    ensures read_to_end { result.status ≡ 0 → IfSome (S.left source.new) IsNothing }
+    ensures read_to_end { result.status ≡ 0 → IfSome (S.left source.new) (λ rest. rest ≡ []) }
 
     // Each value that was read stands on a causally closed set of transactions. This set holds all that
     // the session committed and the sets of its earlier reads, each other member of it was known to K
@@ -143,24 +143,24 @@ pub fn swift_main<S: Source, W: Sink, G: Gate>(
     ensures causal { result.status ≡ 0 → IsCausalRun (S.left source.old) result.book }
 
     // 2: words of no form. 3: an input that is no script.
-    ensures words { result.status ≡ 2 → RefusedWords (texts words.now) (W.taken sink.old) (W.taken sink.new) result.book }
-    ensures refused { result.status ≡ 3 → RefusedInput (texts words.now) (S.left source.old) (W.taken sink.old) (W.taken sink.new) result.book }
+    ensures words { result.status ≡ 2 → Wrote IsUsage (given_by words.now (S.left source.old) (W.taken sink.old)) result (W.taken sink.new) }
+    ensures refused { result.status ≡ 3 → Wrote IsRefusal (given_by words.now (S.left source.old) (W.taken sink.old)) result (W.taken sink.new) }
 
     // A script is played where no read and no write failed, or memory ran out.
-    ensures completeness { texts words.now ≡ serial_words → S.left source.old ≢ None → IfSome (S.left source.old) IsSomeScript
-        → (HasRisen (S.faults source.old) (S.faults source.new) → ⊥) → (HasRisen (W.faults sink.old) (W.faults sink.new) → ⊥)
+    ensures completeness { IsPlayable (given_by words.now (S.left source.old) (W.taken sink.old))
+        → ¬ HasRisen (S.faults source.old) (S.faults source.new) → ¬ HasRisen (W.faults sink.old) (W.faults sink.new)
         → (result.status ≡ 0) ⊎ (result.status ≡ 6) }
 
-    // 4: a read failed, and nothing was written.
-    ensures read_fault { result.status ≡ 4 → (texts words.now ≡ serial_words) × HasRisen (S.faults source.old) (S.faults source.new) }
-    ensures failed_read { result.status ≡ 4 → (W.taken sink.new ≡ W.taken sink.old) × (result.book ≡ empty_book) }
+    // 4: a read failed of what the words ask for, and nothing was written.
+    ensures read_fault { result.status ≡ 4 → HasRisen (S.faults source.old) (S.faults source.new) }
+    ensures failed_read { result.status ≡ 4 → WroteNothing (given_by words.now (S.left source.old) (W.taken sink.old)) result (W.taken sink.new) }
 
     // 5: a write failed, and the sink took a front of what is owed; the book is that of the run.
     ensures write_fault { result.status ≡ 5 → HasRisen (W.faults sink.old) (W.faults sink.new) }
-    ensures failed_write { result.status ≡ 5 → WroteFront (texts words.now) (S.left source.old) (W.taken sink.old) (W.taken sink.new) result.book }
+    ensures failed_write { result.status ≡ 5 → WroteFront (given_by words.now (S.left source.old) (W.taken sink.old)) result.book (W.taken sink.new) }
 
     // 6: want of memory, after nothing or a front of what is owed.
-    ensures no_memory { result.status ≡ 6 → WroteShort (texts words.now) (S.left source.old) (W.taken sink.old) (W.taken sink.new) × (result.book ≡ empty_book) }
+    ensures no_memory { result.status ≡ 6 → WroteShort (given_by words.now (S.left source.old) (W.taken sink.old)) result (W.taken sink.new) }
 
     // At every other status the counts of faults stand as they were.
     ensures read_quiet { result.status ≢ 4 → S.faults source.new ≡ S.faults source.old }
