@@ -4,9 +4,9 @@
 #   bench/gate.sh --time LOG [WORD..]   runs `rt ci WORD..`, and adds what it says, and the times, to LOG
 #   bench/gate.sh LOG                   prints the table of such a log
 #   bench/gate.sh --write LOG           puts it into docs/benchmarks.md
-# What rt ci has kept from earlier runs takes no time: --anew as the WORD does all from nothing. Of runs
-# that one LOG has of the same part the last one counts. Where a part of a crate is in no run, it is
-# named on standard error, and the status is 1.
+# Where the kit keeps what earlier runs passed, that takes no time: there --anew as the WORD does all
+# from nothing. Of runs that one LOG has of the same part the last one counts. Where a part of a crate
+# is in no run, it is named on standard error, and the status is 1.
 set -u
 root=$(cd "$(dirname "$0")/.." && pwd) || exit 1
 page=$root/docs/benchmarks.md
