@@ -94,16 +94,6 @@ fn a_snapshot_shows_what_is_in_it(rt: HostRuntime) -> Result<(), Fail> {
     stamp_and_ask(&rt, rt.alloc(), &mut centre)
 }
 
-// The settings of one centre that stamps one transaction.
-fn only_centre() -> Settings {
-    Settings {
-        me: 1,
-        n: 1,
-        k: 1,
-        limit: 1,
-    }
-}
-
 // Has callers 2 and 5 ask for a newer snapshot, the latter of one that does not fit.
 fn refresh(desk: &mut Desk) -> Result<(), NoMemory> {
     let client = 1;
@@ -126,7 +116,13 @@ fn are_two(entries: &[Entry]) -> bool {
 
 #[test]
 fn the_trail_has_each_ask_with_its_answer(rt: HostRuntime) -> Result<(), Fail> {
-    let mut desk = Desk::new(rt.alloc(), only_centre())?;
+    let settings = Settings {
+        me: 1,
+        n: 1,
+        k: 1,
+        limit: 1,
+    };
+    let mut desk = Desk::new(rt.alloc(), settings)?;
     refresh(&mut desk)?;
     assert!(rt; are_two(desk.into_trail().as_slice()));
     Ok(())
