@@ -4,6 +4,7 @@ pub mod Entries
 pub mod Trails
 pub mod Answers
 pub mod Logs
+pub mod Doors
 pub mod Clients
 pub mod Calls
 pub mod Rule

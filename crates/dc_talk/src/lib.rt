@@ -4,6 +4,7 @@
 
 mod ask;
 mod calls;
+mod door;
 mod entry;
 mod fold;
 mod laws;
@@ -14,6 +15,7 @@ mod settings;
 
 pub use ask::{Ask, MOST_SENT};
 pub use calls::{Cached, Call, Change, Connection, Outcome, Refusal};
+pub use door::Door;
 pub use entry::Entry;
 pub use fold::fold_updates;
 pub use laws::law_history;

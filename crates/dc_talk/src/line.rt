@@ -174,6 +174,19 @@ pub enum Line {
         number: u64,
         end: PushEnd,
     },
+    /// There is no commit of this number that the client has asked a centre to take.
+    AgainNone {
+        client: u32,
+        centre: u8,
+        number: u64,
+    },
+    /// The commit of this number was sent once more, to this centre, and that ended so.
+    Again {
+        client: u32,
+        centre: u8,
+        number: u64,
+        end: PushEnd,
+    },
     /// A flush left nothing to push. The client has committed so many transactions.
     Flushed {
         client: u32,

@@ -24,6 +24,9 @@ pub enum Say {
     /// To a refresh: the new snapshot, the greatest number of the client's own transactions within
     /// it, and the greatest rank that the centre has seen.
     Snap { vector: Vector, mine: u64, top: u64 },
+    /// To a fetch: the centre keeps states from its base on alone, and the base is above the snapshot. The
+    /// least centre of which that is so, with the base's entry and the snapshot's.
+    Pruned { centre: u8, base: u64, at: u64 },
     /// To a fetch: the state of the object at the snapshot.
     Object { state: State },
     /// The transaction was here before: the greatest number of its client that is here.
@@ -34,6 +37,8 @@ pub enum Say {
     Full { limit: u64 },
     /// The transaction has this stamp now.
     Stamped { stamp: Stamp },
+    /// To a send: the centre keeps its own records from behind this number on alone.
+    Trimmed { from: u64 },
     /// To a send: the centre's own records that were asked for.
     Records { list: Records },
     /// The record is here: as many of its origin are.
@@ -75,6 +80,11 @@ impl Clone for Say {
                 mine: *mine,
                 top: *top,
             }),
+            Say::Pruned { centre, base, at } => Ok(Say::Pruned {
+                centre: *centre,
+                base: *base,
+                at: *at,
+            }),
             Say::Object { state } => Ok(Say::Object {
                 state: state.clone()?,
             }),
@@ -82,6 +92,7 @@ impl Clone for Say {
             Say::OutOfOrder { have } => Ok(Say::OutOfOrder { have: *have }),
             Say::Full { limit } => Ok(Say::Full { limit: *limit }),
             Say::Stamped { stamp } => Ok(Say::Stamped { stamp: *stamp }),
+            Say::Trimmed { from } => Ok(Say::Trimmed { from: *from }),
             Say::Records { list } => Ok(Say::Records {
                 list: list.clone()?,
             }),
