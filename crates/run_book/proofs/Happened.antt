@@ -21,8 +21,8 @@ use Rattle.dc_talk.specs.Clients.{Client, settled}
 use Rattle.dc_talk.specs.Rule.{Sends, Gives, Allows, Follows, client_after, commits_of}
 use Rattle.script_text.specs.declared.steps.Step.{Step}
 use Rattle.script_text.specs.Steps.{IsStepOf}
-use Rattle.run_book.specs.Parts.{exchanged_in, exchanged, entries_by}
-use Rattle.dc_talk.specs.Logs.{entry_of}
+use Rattle.run_book.specs.Parts.{exchanged, entries_by}
+use Rattle.dc_talk.specs.Logs.{entry_of, exchanged_in}
 use Rattle.run_book.specs.Together.{Happened, notes_by, entry_in, entries_in, IsNear, IsOfStep}
 use Rattle.run_book.proofs.Held.{Held, held_after}
 

@@ -22,7 +22,8 @@ use Rattle.dc_talk.specs.Answers.{answer}
 use Rattle.dc_talk.specs.Rule.{commits_of}
 use Rattle.run_book.specs.Setups.{Setup, centre_settings}
 use Rattle.run_book.specs.declared.book.Book.{Book}
-use Rattle.run_book.specs.Parts.{trail_of, notes_of, answered, exchanged_in, exchanged, entries_by, IsClient}
+use Rattle.run_book.specs.Parts.{trail_of, notes_of, exchanged, entries_by, IsClient}
+use Rattle.dc_talk.specs.Logs.{answered, exchanged_in}
 use Rattle.run_book.specs.Fit.{FitsWith}
 use Rattle.run_book.specs.Graphs.{commits_at}
 use Rattle.run_book.proofs.Numbered.{numbered_In}

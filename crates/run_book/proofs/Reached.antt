@@ -11,8 +11,8 @@ use Rattle.dc_talk.specs.declared.log.Deed.{Deed}
 use Rattle.dc_talk.specs.declared.log.Deed.TheVariants.{Did, Asked, Told}
 use Rattle.dc_talk.specs.declared.log.Note.{Note}
 use Rattle.dc_talk.specs.Entries.{Entry}
-use Rattle.dc_talk.specs.Logs.{Ascend}
-use Rattle.run_book.specs.Parts.{exchanged_in, reached, entries_by}
+use Rattle.dc_talk.specs.Logs.{Ascend, exchanged_in}
+use Rattle.run_book.specs.Parts.{reached, entries_by}
 use Rattle.dc_talk.specs.Logs.{entry_of}
 use Rattle.run_book.specs.Together.{Happened, notes_by, all_notes, entry_in, entries_in, IsNear}
 use Rattle.run_book.proofs.Happened.{caller_of}

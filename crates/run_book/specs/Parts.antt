@@ -1,17 +1,12 @@
 -- The parts of a book, and how its logs and trails tell of one another.
 use Rattle.std.specs.Prelude.{ℕ, zero, suc, ◌+◌, ◌≤◌, cond, ◌==◌, take, filter, List, [], Option, Some, None, is_some, slice_index_or}
-use Rattle.std.specs.Option.{option_map}
 use Rattle.std.specs.List.{filter_map}
 use Rattle.tx_core.specs.declared.tx.Record.{Record}
 use Rattle.dc_talk.specs.declared.ask.Ask.{Ask}
 use Rattle.dc_talk.specs.declared.say.Say.{Say}
-use Rattle.dc_talk.specs.declared.log.Fate.{Fate}
-use Rattle.dc_talk.specs.declared.log.Fate.TheVariants.{AskLost, ReplyLost, Heard, Unheard}
-use Rattle.dc_talk.specs.declared.log.Deed.{Deed}
-use Rattle.dc_talk.specs.declared.log.Deed.TheVariants.{Asked}
 use Rattle.dc_talk.specs.declared.log.Note.{Note}
 use Rattle.dc_talk.specs.Entries.{Entry}
-use Rattle.dc_talk.specs.Logs.{Logged}
+use Rattle.dc_talk.specs.Logs.{Logged, exchanged_in}
 use Rattle.dc_talk.specs.Trails.{applied}
 use Rattle.run_book.specs.declared.book.Book.{Book}
 use Rattle.run_book.specs.Setups.{Setup}
@@ -42,18 +37,6 @@ notes_of b a = (log_of b a).notes
 pub record IsClient (setup : Setup) (a : ℕ) : Type 0 where
   pub low : 2 ≤ a
   pub high : a ≤ setup.clients + 1
-
--- what the centre answered, where the ask reached it
-abbrev pub answered : Fate → Option Say
-answered AskLost = None
-answered (ReplyLost say) = Some say
-answered (Heard say) = Some say
-answered (Unheard say) = Some say
-
--- what a deed exchanged with centre i: the ask and the answer, where the ask went there and reached it
-abbrev pub exchanged_in : ℕ → Deed → Option (Ask × Say)
-exchanged_in i (Asked j ask fate) = cond (j == i) (option_map (λ say. (ask, say)) (answered fate)) None
-exchanged_in i _ = None
 
 -- what the notes exchanged with centre i, in order
 abbrev pub exchanged : ℕ → List Note → List (Ask × Say)

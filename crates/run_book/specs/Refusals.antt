@@ -15,7 +15,8 @@ use Rattle.dc_talk.specs.Records.{vector, guard}
 use Rattle.dc_talk.specs.Rule.{Gives}
 use Rattle.run_book.specs.declared.book.Book.{Book}
 use Rattle.run_book.specs.Setups.{Setup}
-use Rattle.run_book.specs.Parts.{trail_of, notes_of, applied_at, answered, entries_by, exchanged, IsClient}
+use Rattle.run_book.specs.Parts.{trail_of, notes_of, applied_at, entries_by, exchanged, IsClient}
+use Rattle.dc_talk.specs.Logs.{answered}
 use Rattle.run_book.specs.Graphs.{client_at}
 
 -- the entry stands in the trail of centre i

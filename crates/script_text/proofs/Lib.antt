@@ -1,10 +1,2 @@
 pub mod LongTexts
 pub mod CountedLines
-pub mod Cuts
-pub mod Deltas
-pub mod Spellings
-pub mod Rows
-pub mod Readings
-pub mod FewLines
-pub mod OneStep
-pub mod OneScript

@@ -1,15 +1,17 @@
--- What a client's step leaves in its log: the calls of the session with how they ended, the ask with
--- the answer that was heard, and the line of the step.
-use Rattle.std.specs.Prelude.{◌≡◌, ◌⊎◌, ℕ, Bool, true, false, cond, List, [], ◌∷◌, Option, Some, None}
-use Rattle.std.specs.Option.{option_map}
+-- What a step leaves in a log: the calls of the session with how they ended, the asks with what became of them,
+-- and the line of the step. All but the answers of the centres is fixed.
+use Rattle.std.specs.Prelude.{◌≡◌, ℕ, Bool, true, false, ◌==◌, cond, fold, map, List, [], ◌∷◌, ◌++◌, Option, Some, None}
+use Rattle.std.specs.Option.{option_map, option_or}
+use Rattle.std.specs.List.{list_any}
+use Rattle.list_core.specs.Choices.{when}
 use Rattle.vv_core.specs.declared.stamp.Lack.{Lack}
 use Rattle.tx_core.specs.declared.tx.Tx.{Tx}
 use Rattle.tx_core.specs.declared.tx.Update.{Update}
 use Rattle.ids_core.specs.declared.object.ObjectId.{ObjectId}
 use Rattle.dc_talk.specs.declared.ask.Ask.{Ask}
-use Rattle.dc_talk.specs.declared.ask.Ask.TheVariants.{Commit as CommitAsk}
+use Rattle.dc_talk.specs.declared.ask.Ask.TheVariants.{Commit as CommitAsk, Stop, Start}
 use Rattle.dc_talk.specs.declared.say.Say.{Say}
-use Rattle.dc_talk.specs.declared.say.Say.TheVariants.{Misfit, Down, Lacks, Welcome, Snap, Object, Known, OutOfOrder, Full, Stamped}
+use Rattle.dc_talk.specs.declared.say.Say.TheVariants.{Misfit, Down as DownSay, Lacks, Welcome, Snap, Pruned, Object, Known, OutOfOrder, Full, Stamped}
 use Rattle.dc_talk.specs.declared.calls.Change.{Change as ChangeOf}
 use Rattle.dc_talk.specs.declared.calls.Change.TheVariants.{Inc, Write, Add, Remove, Put, Erase}
 use Rattle.dc_talk.specs.declared.calls.Call.{Call}
@@ -18,9 +20,11 @@ use Rattle.dc_talk.specs.declared.calls.Refusal.TheVariants.{AlreadyOpen, ClockF
 use Rattle.dc_talk.specs.declared.calls.Outcome.{Outcome}
 use Rattle.dc_talk.specs.declared.calls.Outcome.TheVariants.{Got, Number, Nothing, Refused}
 use Rattle.dc_talk.specs.declared.calls.Connection.{Connection}
-use Rattle.dc_talk.specs.declared.log.Fate.TheVariants.{Heard}
+use Rattle.dc_talk.specs.declared.log.Fate.{Fate}
+use Rattle.dc_talk.specs.declared.log.Fate.TheVariants.{AskLost, ReplyLost, Heard, Unheard}
 use Rattle.dc_talk.specs.declared.log.Deed.{Deed}
 use Rattle.dc_talk.specs.declared.log.Deed.TheVariants.{Did, Asked, Told}
+use Rattle.dc_talk.specs.declared.log.Note.{Note}
 use Rattle.dc_talk.specs.declared.line.Miss.{Miss}
 use Rattle.dc_talk.specs.declared.line.Miss.TheVariants as miss
 use Rattle.dc_talk.specs.declared.line.StepWord.{StepWord}
@@ -31,28 +35,39 @@ use Rattle.dc_talk.specs.declared.line.Line.{Line}
 use Rattle.dc_talk.specs.declared.line.Line.TheVariants as line
 use Rattle.dc_talk.specs.Clients.{Client}
 use Rattle.dc_talk.specs.Calls.{outcome_of}
-use Rattle.dc_talk.specs.Rule.{after, takes, heard, hello_of, refresh_of, fetch_of, next_commit}
+use Rattle.dc_talk.specs.Rule.{after, takes, hello_of, refresh_of, fetch_of, next_commit}
 use Rattle.script_text.specs.declared.object_call.ObjectCall.{ObjectCall}
+use Rattle.script_text.specs.declared.steps.AskFault.{AskFault}
+use Rattle.script_text.specs.declared.steps.AskFault.TheVariants.{LoseAsk, LoseReply, Twice}
 use Rattle.script_text.specs.declared.steps.ClientStep.{ClientStep}
-use Rattle.script_text.specs.declared.steps.ClientStep.TheVariants.{Connect, Begin, Change, Read, Commit, Abort, Push, Flush, Refresh}
+use Rattle.script_text.specs.declared.steps.ClientStep.TheVariants.{Connect, Begin, Change, Read, Commit, Abort, Push, Flush, Refresh, Again, Arm}
+use Rattle.script_text.specs.declared.steps.OperatorStep.{OperatorStep}
+use Rattle.script_text.specs.declared.steps.OperatorStep.TheVariants.{Down, Up}
 
--- ---- the lines of steps, none where an answer is to an ask of another kind
+-- ---- the lines of steps, by what became of an ask; none where an answer is to an ask of another kind
 
 -- what a centre of which records are missing has, and what is needed of it
 abbrev pub lack : ℕ → ℕ → ℕ → Lack
 lack centre need have = record { centre = centre; need = need; have = have }
 
 -- why an answer counts for nothing, where it does
-abbrev pub miss_of : Say → Option Miss
-miss_of Down = Some miss.Unreachable
-miss_of Misfit = Some miss.Misfit
-miss_of _ = None
+abbrev pub missed_by : Say → Option Miss
+missed_by DownSay = Some miss.Unreachable
+missed_by Misfit = Some miss.Misfit
+missed_by _ = None
 
--- the line of a connect that was answered so
-abbrev pub hello_line : ℕ → ℕ → Say → Option Line
-hello_line client centre (Welcome through) = Some (line.At client centre)
-hello_line client centre (Lacks of need have) = Some (line.Refused client centre (lack of need have))
-hello_line client centre say = option_map (line.ConnectMissed client centre) (miss_of say)
+-- why an ask has no answer that counts, where it has none: a fault lost it or its answer, whatever that was
+abbrev pub miss_of : Fate → Option Miss
+miss_of AskLost = Some miss.Lost
+miss_of (ReplyLost say) = Some miss.Lost
+miss_of (Heard say) = missed_by say
+miss_of (Unheard say) = missed_by say
+
+-- the line of a connect
+abbrev pub hello_line : ℕ → ℕ → Fate → Option Line
+hello_line client centre (Heard (Welcome through)) = Some (line.At client centre)
+hello_line client centre (Heard (Lacks of need have)) = Some (line.Refused client centre (lack of need have))
+hello_line client centre fate = option_map (line.ConnectMissed client centre) (miss_of fate)
 
 -- the word of the step that makes a change
 abbrev pub word_of : ChangeOf → StepWord
@@ -79,71 +94,126 @@ call_line client AbortCall (Refused NotOpen) = Some (line.AbortClosed client)
 call_line client _ _ = None
 
 -- the line of a fetch for a call, where it gave no state
-abbrev pub fetch_line : ℕ → ObjectCall → Say → Option Line
-fetch_line client c (Lacks of need have) = Some (line.FetchLacks client c.word c.object (lack of need have))
-fetch_line client c (Object state) = Some (line.FetchIgnored client c.word c.object)
-fetch_line client c say = option_map (line.FetchMissed client c.word c.object) (miss_of say)
+abbrev pub fetch_line : ℕ → ObjectCall → Fate → Option Line
+fetch_line client c (Heard (Lacks of need have)) = Some (line.FetchLacks client c.word c.object (lack of need have))
+fetch_line client c (Heard (Pruned centre base low)) = Some (line.FetchPruned client c.word c.object centre base low)
+fetch_line client c (Heard (Object state)) = Some (line.FetchIgnored client c.word c.object)
+fetch_line client c fate = option_map (line.FetchMissed client c.word c.object) (miss_of fate)
 
 -- how a push that was answered so ended
-abbrev pub push_end : Say → Option PushEnd
-push_end (Stamped stamp) = Some (ended.Stamped stamp)
-push_end (Known through) = Some (ended.Known through)
-push_end (Full limit) = Some (ended.Full limit)
-push_end (OutOfOrder have) = Some (ended.Order have)
-push_end (Lacks of need have) = Some (ended.Lacks (lack of need have))
-push_end say = option_map ended.Missed (miss_of say)
+abbrev pub answer_end : Say → Option PushEnd
+answer_end (Stamped stamp) = Some (ended.Stamped stamp)
+answer_end (Known through) = Some (ended.Known through)
+answer_end (Full limit) = Some (ended.Full limit)
+answer_end (OutOfOrder have) = Some (ended.Order have)
+answer_end (Lacks of need have) = Some (ended.Lacks (lack of need have))
+answer_end say = option_map ended.Missed (missed_by say)
+
+-- how a push ended, whether or not its answer was heard
+abbrev pub push_end : Fate → Option PushEnd
+push_end (Heard say) = answer_end say
+push_end (Unheard say) = answer_end say
+push_end fate = Some (ended.Missed miss.Lost)
 
 -- the line of the push of a commit of this number
-abbrev pub push_line : ℕ → ℕ → Say → Option Line
-push_line client number say = option_map (line.Push client number) (push_end say)
+abbrev pub push_line : ℕ → ℕ → Fate → Option Line
+push_line client number fate = option_map (line.Push client number) (push_end fate)
 
--- the line of a refresh that was answered so, by whether the session took the answer
-abbrev pub refresh_line : ℕ → Bool → Say → Option Line
-refresh_line client true (Snap vector mine top) = Some (line.Sees client vector mine)
-refresh_line client false (Snap vector mine top) = Some (line.RefreshIgnored client)
-refresh_line client took (Lacks of need have) = Some (line.RefreshLacks client (lack of need have))
-refresh_line client took say = option_map (line.RefreshMissed client) (miss_of say)
+-- the line of a late copy of the commit of this number
+abbrev pub again_line : ℕ → ℕ → ℕ → Fate → Option Line
+again_line client centre number fate = option_map (line.Again client centre number) (push_end fate)
 
--- ---- the deeds of steps
+-- the line of a refresh, by whether the session took the answer
+abbrev pub refresh_line : ℕ → Bool → Fate → Option Line
+refresh_line client true (Heard (Snap vector mine top)) = Some (line.Sees client vector mine)
+refresh_line client false (Heard (Snap vector mine top)) = Some (line.RefreshIgnored client)
+refresh_line client took (Heard (Lacks of need have)) = Some (line.RefreshLacks client (lack of need have))
+refresh_line client took fate = option_map (line.RefreshMissed client) (miss_of fate)
+
+-- ---- how far a client is
+
+-- a client with the fault that is armed for its next ask, and what its log has
+pub record Progress : Type 0 where
+  pub client : Client
+  pub armed : Option AskFault
+  pub notes : List Note
+
+-- the client after deeds
+abbrev pub after_all : Client → List Deed → Client
+after_all s deeds = fold after s deeds
+
+-- whether a deed is an ask
+abbrev pub is_ask : Deed → Bool
+is_ask (Asked i ask fate) = true
+is_ask _ = false
+
+-- the fault that is armed after a step with these deeds: the one that the step arms; and else the one before, unless
+-- an ask was sent, which uses it. A late copy uses none.
+abbrev pub armed_after : Option AskFault → ClientStep → List Deed → Option AskFault
+armed_after armed (Arm fault) deeds = Some fault
+armed_after armed (Again centre number) deeds = armed
+armed_after armed step deeds = cond (list_any is_ask deeds) None armed
+
+-- ---- asks
+
+-- what becomes of an ask under the fault that is armed, where the centre answers so
+abbrev pub fate_of : Option AskFault → Say → Fate
+fate_of (Some LoseAsk) say = AskLost
+fate_of (Some LoseReply) say = ReplyLost say
+fate_of _ say = Heard say
+
+-- the second copy of an ask, where the fault that is armed makes one, with the answer to it
+abbrev pub copies : Option AskFault → ℕ → Ask → Say → List Deed
+copies (Some Twice) i ask say = Asked i ask (Unheard say) ∷ []
+copies _ i ask say = []
+
+-- whether the session takes what became of an ask of centre i
+abbrev pub took : Client → ℕ → Ask → Fate → Bool
+took s i ask (Heard say) = takes s i ask say
+took s i ask _ = false
 
 -- a line is told, where there is one
 abbrev pub told : Option Line → List Deed
 told None = []
 told (Some line) = Told line ∷ []
 
--- a call, and its line
-abbrev pub calls : Client → Call → List Deed
-calls s call = Did call (outcome_of s call) ∷ told (call_line s.client call (outcome_of s call))
-
--- an ask of centre i, with the answer that was heard, and the deeds that follow that answer
-pub record Asks (i : ℕ) (ask : Ask) (following : Say → List Deed) (deeds : List Deed) : Type 0 where
+-- an ask of centre i under the fault that is armed, with its second copy where there is one, and the deeds that
+-- follow what became of it
+pub record Asks (armed : Option AskFault) (i : ℕ) (ask : Ask) (following : Fate → List Deed) (deeds : List Deed) : Type 0 where
   pub say : Say
-  pub whole : deeds ≡ Asked i ask (Heard say) ∷ following say
+  pub again : Say
+  pub whole : deeds ≡ Asked i ask (fate_of armed say) ∷ (copies armed i ask again ++ following (fate_of armed say))
 
 -- deeds over what is there, and the line alone where nothing is
 abbrev pub OrTells : {X : Type 0} → Option X → Line → (X → List Deed → Type 0) → List Deed → Type 0
 OrTells None line Over deeds = deeds ≡ Told line ∷ []
 OrTells (Some x) line Over deeds = Over x deeds
 
+-- ---- calls
+
+-- a call, and its line
+abbrev pub calls : Client → Call → List Deed
+calls s call = Did call (outcome_of s call) ∷ told (call_line s.client call (outcome_of s call))
+
 -- what follows a fetch for a call: where the state was taken the call again, and else the line that
 -- says why not
-abbrev pub after_fetch : Client → ℕ → ObjectCall → Say → List Deed
-after_fetch s i c say = cond (takes s i (fetch_of s c.object) say) (calls (heard s i (fetch_of s c.object) say) c.call) (told (fetch_line s.client c say))
+abbrev pub after_fetch : Client → ℕ → ObjectCall → Fate → List Deed
+after_fetch s i c fate = cond (took s i (fetch_of s c.object) fate) (calls (after s (Asked i (fetch_of s c.object) fate)) c.call) (told (fetch_line s.client c fate))
 
 -- a fetch for a call
-abbrev pub FetchDeeds : Client → ObjectCall → List Deed → Type 0
-FetchDeeds s c deeds = OrTells s.link (line.Unconnected s.client c.word c.object) (λ link. Asks link.centre (fetch_of s c.object) (after_fetch s link.centre c)) deeds
+abbrev pub FetchDeeds : Progress → ObjectCall → List Deed → Type 0
+FetchDeeds p c deeds = OrTells p.client.link (line.Unconnected p.client.client c.word c.object) (λ link. Asks p.armed link.centre (fetch_of p.client c.object) (after_fetch p.client link.centre c)) deeds
 
 -- a call that has to have its object fetched
-pub record CallsBehind (s : Client) (c : ObjectCall) (deeds : List Deed) : Type 0 where
+pub record CallsBehind (p : Progress) (c : ObjectCall) (deeds : List Deed) : Type 0 where
   pub rest : List Deed
-  pub whole : deeds ≡ Did c.call (outcome_of s c.call) ∷ rest
-  pub fetch : FetchDeeds s c rest
+  pub whole : deeds ≡ Did c.call (outcome_of p.client c.call) ∷ rest
+  pub fetch : FetchDeeds p c rest
 
 -- a call on an object whose first try ended so
-abbrev pub CallDeeds : Client → ObjectCall → Outcome → List Deed → Type 0
-CallDeeds s c (Refused (NeedsFetch o)) deeds = CallsBehind s c deeds
-CallDeeds s c outcome deeds = deeds ≡ calls s c.call
+abbrev pub CallDeeds : Progress → ObjectCall → Outcome → List Deed → Type 0
+CallDeeds p c (Refused (NeedsFetch o)) deeds = CallsBehind p c deeds
+CallDeeds p c outcome deeds = deeds ≡ calls p.client c.call
 
 -- a change of an object as a call on it
 abbrev pub change_call : ObjectId → ChangeOf → ObjectCall
@@ -153,52 +223,96 @@ change_call o change = record { word = word_of change; object = o; call = Change
 abbrev pub read_call : ObjectId → ObjectCall
 read_call o = record { word = step.Read; object = o; call = ReadCall o }
 
+-- ---- pushes
+
 -- a push of a transaction over the link
-abbrev pub Pushes : Client → Connection → Tx → List Deed → Type 0
-Pushes s link tx deeds = Asks link.centre (CommitAsk tx) (λ say. told (push_line s.client tx.dot.number say)) deeds
+abbrev pub Pushes : Progress → Connection → Tx → List Deed → Type 0
+Pushes p link tx deeds = Asks p.armed link.centre (CommitAsk tx) (λ fate. told (push_line p.client.client tx.dot.number fate)) deeds
 
 -- deeds over the link and the next commit for it; where no commit is left the line alone
 abbrev pub OverNext : Client → Line → (Connection → Tx → List Deed → Type 0) → List Deed → Type 0
 OverNext s none_left Over deeds = OrTells s.link (line.PushUnconnected s.client) (λ link. OrTells (next_commit s link) none_left (Over link)) deeds
 
--- whether a flush goes on after a push that was answered so
-abbrev pub goes_on : Say → Bool
-goes_on (Stamped stamp) = true
-goes_on (Known through) = true
+-- whether a flush goes on after a push of which this became: the commit is at the centre
+abbrev pub goes_on : Fate → Bool
+goes_on (Heard (Stamped stamp)) = true
+goes_on (Heard (Known through)) = true
 goes_on _ = false
 
 -- a push of a flush after which it goes on; it has no line of its own
-pub record PushesOn (s : Client) (deed : Deed) : Type 0 where
+pub record PushesOn (p : Progress) (deeds : List Deed) : Type 0 where
   pub link : Connection
-  pub linked : s.link ≡ Some link
+  pub linked : p.client.link ≡ Some link
   pub tx : Tx
-  pub next : next_commit s link ≡ Some tx
+  pub next : next_commit p.client link ≡ Some tx
   pub say : Say
-  pub on : goes_on say ≡ true
-  pub asked : deed ≡ Asked link.centre (CommitAsk tx) (Heard say)
+  pub again : Say
+  pub on : goes_on (fate_of p.armed say) ≡ true
+  pub asked : deeds ≡ Asked link.centre (CommitAsk tx) (fate_of p.armed say) ∷ copies p.armed link.centre (CommitAsk tx) again
 
 -- the end of a flush: no commit is left, or a push after which it does not go on
-abbrev pub FlushEnds : Client → List Deed → Type 0
-FlushEnds s deeds = OverNext s (line.Flushed s.client s.own) (λ link tx deeds. (push : Pushes s link tx deeds) × (goes_on push.say ≡ false)) deeds
+abbrev pub FlushEnds : Progress → List Deed → Type 0
+FlushEnds p deeds = OverNext p.client (line.Flushed p.client.client p.client.own) (λ link tx deeds. (push : Pushes p link tx deeds) × (goes_on (fate_of p.armed push.say) ≡ false)) deeds
+
+-- a client after a push of these deeds, which used the fault that was armed
+abbrev pub pushed : Progress → List Deed → Progress
+pushed p deeds = record p { client = after_all p.client deeds; armed = None }
 
 -- a flush: pushes after which it goes on, and then its end
-abbrev pub FlushDeeds : Client → List Deed → Type 0
-FlushDeeds s [] = ⊥
-FlushDeeds s (deed ∷ deeds) = FlushEnds s (deed ∷ deeds) ⊎ (PushesOn s deed × FlushDeeds (after s deed) deeds)
+pub data FlushDeeds : Progress → List Deed → Type 0 where
+  flush_ends : {p : Progress} {deeds : List Deed} → FlushEnds p deeds → FlushDeeds p deeds
+  flush_goes : {p : Progress} {deeds : List Deed} (first later : List Deed) → deeds ≡ first ++ later → PushesOn p first → FlushDeeds (pushed p first) later → FlushDeeds p deeds
+
+-- ---- late copies
+
+-- the transaction of a commit ask with this number
+abbrev pub commit_asked : ℕ → Deed → Option Tx
+commit_asked number (Asked i (CommitAsk tx) fate) = when (tx.dot.number == number) tx
+commit_asked number _ = None
+
+-- the transaction of the first commit ask with this number among the notes, whatever became of it
+abbrev pub commit_sent : ℕ → List Note → Option Tx
+commit_sent number [] = None
+commit_sent number (note ∷ notes) = option_or (commit_asked number note.deed) (commit_sent number notes)
+
+-- a late copy of a commit ask, unheard
+abbrev pub AgainDeeds : ℕ → ℕ → ℕ → Tx → List Deed → Type 0
+AgainDeeds client centre number tx deeds = (say : Say) × (deeds ≡ Asked centre (CommitAsk tx) (Unheard say) ∷ told (again_line client centre number (Unheard say)))
+
+-- ---- steps
 
 -- a refresh over the link, while a transaction of these updates is open or none is
-abbrev pub RefreshDeeds : Client → Option (List Update) → Connection → List Deed → Type 0
-RefreshDeeds s (Some draft) link deeds = deeds ≡ Told (line.RefreshOpen s.client) ∷ []
-RefreshDeeds s None link deeds = Asks link.centre (refresh_of s) (λ say. told (refresh_line s.client (takes s link.centre (refresh_of s) say) say)) deeds
+abbrev pub RefreshDeeds : Progress → Option (List Update) → Connection → List Deed → Type 0
+RefreshDeeds p (Some draft) link deeds = deeds ≡ Told (line.RefreshOpen p.client.client) ∷ []
+RefreshDeeds p None link deeds = Asks p.armed link.centre (refresh_of p.client) (λ fate. told (refresh_line p.client.client (took p.client link.centre (refresh_of p.client) fate) fate)) deeds
 
--- the deeds are those of the step, for a client that is so before it
-abbrev pub StepDeeds : Client → ClientStep → List Deed → Type 0
-StepDeeds s (Connect centre) deeds = Asks centre (hello_of s) (λ say. told (hello_line s.client centre say)) deeds
-StepDeeds s Begin deeds = deeds ≡ calls s BeginCall
-StepDeeds s (Change o change) deeds = CallDeeds s (change_call o change) (outcome_of s (ChangeCall o change)) deeds
-StepDeeds s (Read o) deeds = CallDeeds s (read_call o) (outcome_of s (ReadCall o)) deeds
-StepDeeds s Commit deeds = deeds ≡ calls s CommitCall
-StepDeeds s Abort deeds = deeds ≡ calls s AbortCall
-StepDeeds s Push deeds = OverNext s (line.PushNone s.client) (Pushes s) deeds
-StepDeeds s Flush deeds = FlushDeeds s deeds
-StepDeeds s Refresh deeds = OrTells s.link (line.RefreshUnconnected s.client) (RefreshDeeds s s.draft) deeds
+-- the deeds are those of the step, for a client that has come so far
+abbrev pub StepDeeds : Progress → ClientStep → List Deed → Type 0
+StepDeeds p (Connect centre) deeds = Asks p.armed centre (hello_of p.client) (λ fate. told (hello_line p.client.client centre fate)) deeds
+StepDeeds p Begin deeds = deeds ≡ calls p.client BeginCall
+StepDeeds p (Change o change) deeds = CallDeeds p (change_call o change) (outcome_of p.client (ChangeCall o change)) deeds
+StepDeeds p (Read o) deeds = CallDeeds p (read_call o) (outcome_of p.client (ReadCall o)) deeds
+StepDeeds p Commit deeds = deeds ≡ calls p.client CommitCall
+StepDeeds p Abort deeds = deeds ≡ calls p.client AbortCall
+StepDeeds p Push deeds = OverNext p.client (line.PushNone p.client.client) (Pushes p) deeds
+StepDeeds p Flush deeds = FlushDeeds p deeds
+StepDeeds p Refresh deeds = OrTells p.client.link (line.RefreshUnconnected p.client.client) (RefreshDeeds p p.client.draft) deeds
+StepDeeds p (Again centre number) deeds = OrTells (commit_sent number p.notes) (line.AgainNone p.client.client centre number) (AgainDeeds p.client.client centre number) deeds
+StepDeeds p (Arm fault) deeds = deeds ≡ []
+
+-- a client after a step with these notes
+abbrev pub stepped : Progress → ClientStep → List Note → Progress
+stepped p step notes = record {
+  client = fold (λ s note. after s note.deed) p.client notes;
+  armed = armed_after p.armed step (map (λ note. note.deed) notes);
+  notes = p.notes ++ notes;
+}
+
+-- an ask of the operator, whose answer no session hears
+abbrev pub Orders : ℕ → Ask → List Deed → Type 0
+Orders centre ask deeds = (say : Say) × (deeds ≡ Asked centre ask (Unheard say) ∷ [])
+
+-- the deeds are those of the operator's step; they have no line
+abbrev pub OperatorDeeds : OperatorStep → List Deed → Type 0
+OperatorDeeds (Down centre) deeds = Orders centre Stop deeds
+OperatorDeeds (Up centre) deeds = Orders centre Start deeds

@@ -1,5 +1,6 @@
 -- The steps of a script and their one spelling.
 use Rattle.std.specs.Prelude.{◌≡◌, ◌≤◌, ℕ, ℤ, IsTrue, List, ◌∷◌, ◌++◌, codes, decimal}
+use Rattle.ids_core.specs.declared.limits.TheConstants.{MOST_CENTRES, MOST_CLIENTS, MOST_NUMBER}
 use Rattle.std.specs.Fmt.{signed_decimal}
 use Rattle.ids_core.specs.Name.{IsName}
 use Rattle.ids_core.specs.declared.object.ObjectId.{ObjectId}
@@ -12,9 +13,15 @@ use Rattle.dc_talk.specs.Calls.{sort_of_change}
 use Rattle.dc_talk.specs.declared.line.StepWord.{StepWord}
 use Rattle.dc_talk.specs.declared.line.StepWord.TheVariants.{Inc as IncWord, Set as SetWord, Add as AddWord, Del as DelWord, Put as PutWord, Drop as DropWord, Read as ReadWord}
 use Rattle.script_text.specs.Deeds.{word_of}
+use Rattle.script_text.specs.declared.script.Header.{Header}
+use Rattle.script_text.specs.declared.steps.AskFault.{AskFault}
+use Rattle.script_text.specs.declared.steps.AskFault.TheVariants.{LoseAsk, LoseReply, Twice}
 use Rattle.script_text.specs.declared.steps.ClientStep.{ClientStep}
-use Rattle.script_text.specs.declared.steps.ClientStep.TheVariants.{Connect, Begin, Change, Read, Commit, Abort, Push, Flush, Refresh}
+use Rattle.script_text.specs.declared.steps.ClientStep.TheVariants.{Connect, Begin, Change, Read, Commit, Abort, Push, Flush, Refresh, Again, Arm}
+use Rattle.script_text.specs.declared.steps.OperatorStep.{OperatorStep}
+use Rattle.script_text.specs.declared.steps.OperatorStep.TheVariants.{Down, Up}
 use Rattle.script_text.specs.declared.steps.Step.{Step}
+use Rattle.script_text.specs.declared.steps.Step.TheVariants.{Client, Operator}
 
 -- what stands before the name of an object of this sort: the letter of its kind, and a full stop
 abbrev pub mark_of : Sort → List ℕ
@@ -54,6 +61,12 @@ change_text (Erase key) = key
 abbrev pub change_line : ObjectId → ChangeOf → List ℕ
 change_line object change = change_word change ++ 32 ∷ (object_text object ++ 32 ∷ change_text change)
 
+-- a fault for the client's next ask, in words
+abbrev pub fault_text : AskFault → List ℕ
+fault_text LoseAsk = codes "lose ask"
+fault_text LoseReply = codes "lose reply"
+fault_text Twice = codes "twice"
+
 -- what a client does, in words
 abbrev pub does_text : ClientStep → List ℕ
 does_text (Connect centre) = codes "connect " ++ decimal centre
@@ -65,10 +78,18 @@ does_text Abort = codes "abort"
 does_text Push = codes "push"
 does_text Flush = codes "flush"
 does_text Refresh = codes "refresh"
+does_text (Again centre number) = codes "again " ++ (decimal centre ++ 32 ∷ decimal number)
+does_text (Arm fault) = fault_text fault
 
--- the line of a step: the client, and what it does
+-- what the operator does, in words
+abbrev pub operator_text : OperatorStep → List ℕ
+operator_text (Down centre) = codes "down " ++ decimal centre
+operator_text (Up centre) = codes "up " ++ decimal centre
+
+-- the line of a step: the client and what it does, or what the operator does
 abbrev pub spelling : Step → List ℕ
-spelling step = codes "c" ++ (decimal step.client ++ 32 ∷ does_text step.does)
+spelling (Client client step) = codes "c" ++ (decimal client ++ 32 ∷ does_text step)
+spelling (Operator step) = operator_text step
 
 -- no further from 0 than a delta may be
 abbrev pub IsDelta : ℤ → Type 0
@@ -83,24 +104,37 @@ IsSound (Remove word) = IsName word
 IsSound (Put key word) = IsName key × IsName word
 IsSound (Erase key) = IsName key
 
--- what a client may do in a script: its centre is the one that there is, its object has a name, and
--- its change is sound and one of the object's sort
-abbrev pub IsStep : ClientStep → Type 0
-IsStep (Connect centre) = centre ≡ 1
-IsStep Begin = Unit {0}
-IsStep (Change object change) = (object.sort ≡ sort_of_change change) × IsName object.name × IsSound change
-IsStep (Read object) = IsName object.name
-IsStep Commit = Unit {0}
-IsStep Abort = Unit {0}
-IsStep Push = Unit {0}
-IsStep Flush = Unit {0}
-IsStep Refresh = Unit {0}
-
 -- from 1 to a most
 abbrev pub IsCount : ℕ → ℕ → Type 0
 IsCount most n = (1 ≤ n) × (n ≤ most)
 
--- a step of one of so many clients
-pub record IsStepOf (clients : ℕ) (step : Step) : Type 0 where
-  pub client : IsCount clients step.client
-  pub does : IsStep step.does
+-- numbers of centres, of those that make an update stable, and of clients, that a script may have
+pub record IsHeader (header : Header) : Type 0 where
+  pub n : IsCount MOST_CENTRES header.n
+  pub k : IsCount header.n header.k
+  pub clients : IsCount MOST_CLIENTS header.clients
+
+-- what a client may do in a script of n centres: its centre is one of these, its object has a name, its change
+-- is sound and one of the object's sort, and the number of a commit is in range
+abbrev pub IsStep : ℕ → ClientStep → Type 0
+IsStep n (Connect centre) = IsCount n centre
+IsStep n Begin = Unit {0}
+IsStep n (Change object change) = (object.sort ≡ sort_of_change change) × IsName object.name × IsSound change
+IsStep n (Read object) = IsName object.name
+IsStep n Commit = Unit {0}
+IsStep n Abort = Unit {0}
+IsStep n Push = Unit {0}
+IsStep n Flush = Unit {0}
+IsStep n Refresh = Unit {0}
+IsStep n (Again centre number) = IsCount n centre × IsCount MOST_NUMBER number
+IsStep n (Arm fault) = Unit {0}
+
+-- what the operator may do in a script of n centres
+abbrev pub IsOperatorStep : ℕ → OperatorStep → Type 0
+IsOperatorStep n (Down centre) = IsCount n centre
+IsOperatorStep n (Up centre) = IsCount n centre
+
+-- a step of one of the clients, or of the operator
+abbrev pub IsStepOf : Header → Step → Type 0
+IsStepOf header (Client client step) = IsCount header.clients client × IsStep header.n step
+IsStepOf header (Operator step) = IsOperatorStep header.n step

@@ -1,15 +1,23 @@
 // The steps of a script.
-ghost use Rattle.std.specs.Prelude.{◌≡◌, ◌∷◌, ◌++◌, [], OnOk, OnErr};
-
 use dc_talk::Change;
 use ids_core::ObjectId;
 use list_core::List;
-use std::alloc::AllocError;
 
-/// What a client does in one step.
+/// What goes wrong with a client's next ask.
+#[derive(Clone, Copy)]
+pub enum AskFault {
+    /// The ask reaches no centre.
+    LoseAsk,
+    /// The centre answers, and the client hears nothing.
+    LoseReply,
+    /// The ask comes twice, one copy at once behind the other. The client hears the first answer alone.
+    Twice,
+}
+
+/// What a client does in one step. Centres are counted from 1.
 #[derive(Clone, Copy)]
 pub enum ClientStep {
-    /// Hello to this centre, counted from 1.
+    /// Hello to this centre: for the first time, again, or to move there.
     Connect { centre: u8 },
     /// Opens a transaction.
     Begin,
@@ -27,28 +35,39 @@ pub enum ClientStep {
     Flush,
     /// Takes a new snapshot.
     Refresh,
+    /// Sends the first commit ask of this number, from 1 to 2^62, once more, late, to this centre. The answer is
+    /// not heard.
+    Again { centre: u8, number: u64 },
+    /// Arms a fault for the client's next ask, in place of one that is armed.
+    Arm { fault: AskFault },
 }
 
-/// A step of a script: a client, counted from 1, and what it does.
+/// What the operator does in one step. Centres are counted from 1.
 #[derive(Clone, Copy)]
-pub struct Step {
-    pub client: u32,
-    pub does: ClientStep,
+pub enum OperatorStep {
+    /// Stops the centre: until it is started it answers nothing.
+    Down { centre: u8 },
+    /// Starts the centre.
+    Up { centre: u8 },
 }
 
-/// The steps of a script, seen as their list. Each is a section of its own.
+/// A step of a script: one of a client, counted from 1, or one of the operator.
+#[derive(Clone, Copy)]
+pub enum Step {
+    /// A step of this client.
+    Client { client: u32, step: ClientStep },
+    /// A step of the operator.
+    Operator { step: OperatorStep },
+}
+
+/// Steps in their order, seen as their list.
 pub type Steps = List<Step>;
 
-/// Puts a step behind the others. Nothing changes where memory is refused.
-pub fn push_step(steps: &mut Steps, step: Step) -> Result<(), AllocError>
-    ensures ok { OnOk result (steps.new ≡ steps.old ++ step ∷ []) }
-    ensures err { OnErr result (steps.new ≡ steps.old) }
-{
-    // A change is taken apart, since the proof of the push has to name its type.
-    let Step { client, does } = step;
-    let does = match does {
-        ClientStep::Change { object, change } => ClientStep::Change { object, change },
-        other => other,
-    };
-    steps.push(Step { client, does })
+/// A part of a script: nothing of another part is done before all its steps are.
+#[derive(Drop)]
+pub struct Section {
+    pub steps: Steps,
 }
+
+/// The sections of a script in their order, seen as their list.
+pub type Sections = List<Section>;

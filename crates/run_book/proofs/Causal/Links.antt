@@ -34,7 +34,8 @@ use Rattle.dc_talk.proofs.Applied.{new_record}
 use Rattle.dc_talk.proofs.Growth.{later_covers, later_guard}
 use Rattle.run_book.specs.Setups.{Setup, centre_settings}
 use Rattle.run_book.specs.declared.book.Book.{Book}
-use Rattle.run_book.specs.Parts.{trail_of, notes_of, exchanged_in, exchanged, entries_by, IsClient}
+use Rattle.run_book.specs.Parts.{trail_of, notes_of, exchanged, entries_by, IsClient}
+use Rattle.dc_talk.specs.Logs.{exchanged_in}
 use Rattle.run_book.specs.Fit.{FitsWith}
 use Rattle.run_book.specs.Graphs.{client_at}
 use Rattle.run_book.specs.Refusals.{IsReached}

@@ -1,0 +1,2 @@
+// The plain reader of scripts.
+mod row;
