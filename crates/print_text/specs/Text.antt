@@ -9,7 +9,7 @@ use Rattle.vv_core.specs.Vectors.{most}
 use Rattle.tx_core.specs.declared.state.Value.{Value}
 use Rattle.tx_core.specs.declared.state.Value.TheVariants.{Number, Word, Words, Pairs}
 use Rattle.dc_talk.specs.declared.line.Line.{Line}
-use Rattle.dc_talk.specs.declared.line.Line.TheVariants.{At, Refused, ConnectMissed, BeginOpen, BeginClock, Closed, ManyUpdates, ManyTags, Unconnected, FetchMissed, FetchLacks, FetchPruned, FetchIgnored, ReadValue, CommitNumber, CommitNone, CommitClosed, CommitPending, AbortClosed, PushUnconnected, PushNone, Push, Flushed, Sees, RefreshUnconnected, RefreshOpen, RefreshLacks, RefreshMissed, RefreshIgnored}
+use Rattle.dc_talk.specs.declared.line.Line.TheVariants.{At, Refused, ConnectMissed, BeginOpen, BeginClock, Closed, ManyUpdates, ManyTags, Unconnected, FetchMissed, FetchLacks, FetchPruned, FetchIgnored, ReadValue, CommitNumber, CommitNone, CommitClosed, CommitPending, AbortClosed, PushUnconnected, PushNone, Push, AgainNone, Again, Flushed, Sees, RefreshUnconnected, RefreshOpen, RefreshLacks, RefreshMissed, RefreshIgnored}
 use Rattle.dc_talk.specs.declared.line.Miss.{Miss}
 use Rattle.dc_talk.specs.declared.line.Miss.TheVariants.{Unreachable, Lost, Misfit}
 use Rattle.dc_talk.specs.declared.line.PushEnd.{PushEnd}
@@ -106,6 +106,8 @@ line_text (AbortClosed client) = client_text client ++ codes " abort closed"
 line_text (PushUnconnected client) = client_text client ++ codes " push unconnected"
 line_text (PushNone client) = client_text client ++ codes " push none"
 line_text (Push client number end) = client_text client ++ codes " push " ++ decimal number ++ codes " " ++ end_text end
+line_text (AgainNone client centre number) = client_text client ++ codes " again " ++ decimal centre ++ codes " " ++ decimal number ++ codes " none"
+line_text (Again client centre number end) = client_text client ++ codes " again " ++ decimal centre ++ codes " " ++ decimal number ++ codes " " ++ end_text end
 line_text (Flushed client own) = client_text client ++ codes " flushed " ++ decimal own
 line_text (Sees client vector mine) = client_text client ++ codes " sees " ++ vector_text vector ++ codes " own " ++ decimal mine
 line_text (RefreshUnconnected client) = client_text client ++ codes " refresh unconnected"
@@ -140,7 +142,11 @@ operator_last (operator ∷ others) = others ++ operator ∷ []
 abbrev pub last_section : List Logged → ℕ
 last_section logs = most (map (λ note. note.section) (flat_map (λ log. log.notes) logs))
 
+-- the lines of a section in logs, one log behind the other
+abbrev pub lines_in : List Logged → ℕ → List ℕ
+lines_in logs section = flat_map (λ log. section_text section log.notes) logs
+
 -- the text of the logs of all actors: section by section the lines of the clients, in the order of
 -- the clients, and those of the operator last
 abbrev pub text_of : List Logged → List ℕ
-text_of logs = flat_map (λ section. flat_map (λ log. section_text section log.notes) (operator_last logs)) (range_with_len 1 (last_section logs))
+text_of logs = flat_map (lines_in (operator_last logs)) (range_with_len 1 (last_section logs))

@@ -1,7 +1,9 @@
-//! The text of lines, of notes and of books.
+//! The text of lines and of logs.
 #![tactic(auto)]
 
+mod line;
 mod text;
 mod value;
 
-pub use text::{write_deed, write_line, write_notes};
+pub use line::write_line;
+pub use text::{text_of, write_deed};

@@ -3,7 +3,7 @@ use Rattle.std.proofs.Common.{◌++◌, ◌∙◌, ap}
 use Rattle.std.specs.Prelude.{decimal}
 use Rattle.print_text.specs.Text.{vector_text}
 use Rattle.print_text.proofs.Texts.{joined_written}
-use Rattle.print_text.proofs.text.write_vector.Goals as goal
+use Rattle.print_text.proofs.line.write_vector.Goals as goal
 
 pub returns-in_ok-write_later : goal.returns-in_ok-write_later
 returns-in_ok-write_later c =

@@ -1,0 +1,377 @@
+// The lines of steps as bytes.
+ghost use Rattle.std.specs.Prelude.{◌≡◌, ◌++◌, OnOk, codes, decimal, map};
+ghost use Rattle.script_text.specs.Steps.{object_text};
+ghost use Rattle.print_text.specs.Text.{client_text, end_text, lack_text, later, line_text, miss_text, stamp_text, step_text, vector_text};
+
+use crate::value::write_value;
+use dc_talk::{Line, Miss, PushEnd, StepWord};
+use ids_core::{NoMemory, ObjectId, Sort};
+use itoa::Buffer;
+use vv_core::{Lack, Stamp, Vector};
+
+/// Writes a line at the end, without its line feed. An `Err` leaves a part of the line there.
+pub fn write_line(text: &mut Vec<u8>, line: &Line) -> Result<(), NoMemory>
+    ensures { OnOk result (text.new.items ≡ text.old.items ++ line_text line.now) }
+{
+    match line {
+        Line::At { client, centre } => write_centre(text, *client, b" at ", *centre),
+        Line::Refused {
+            client,
+            centre,
+            lack,
+        } => write_refused(text, *client, *centre, lack),
+        Line::ConnectMissed {
+            client,
+            centre,
+            miss,
+        } => write_connect_missed(text, *client, *centre, *miss),
+        Line::BeginOpen { client } => write_words(text, *client, b" begin open"),
+        Line::BeginClock { client } => write_words(text, *client, b" begin clock"),
+        Line::Closed {
+            client,
+            word,
+            object,
+        } => write_step(text, *client, *word, object, b" closed"),
+        Line::ManyUpdates {
+            client,
+            word,
+            object,
+        } => write_step(text, *client, *word, object, b" many 256"),
+        Line::ManyTags {
+            client,
+            word,
+            object,
+            count,
+        } => write_tags(text, *client, *word, object, *count),
+        Line::Unconnected {
+            client,
+            word,
+            object,
+        } => write_step(text, *client, *word, object, b" unconnected"),
+        Line::FetchMissed {
+            client,
+            word,
+            object,
+            miss,
+        } => write_fetch_missed(text, *client, *word, object, *miss),
+        Line::FetchLacks {
+            client,
+            word,
+            object,
+            lack,
+        } => write_fetch_lacks(text, *client, *word, object, lack),
+        Line::FetchPruned {
+            client,
+            word,
+            object,
+            centre,
+            base,
+            at,
+        } => {
+            write_step(text, *client, *word, object, b" pruned ")?;
+            write_pruned(text, *centre, *base, *at)
+        }
+        Line::FetchIgnored {
+            client,
+            word,
+            object,
+        } => write_step(text, *client, *word, object, b" ignored"),
+        Line::ReadValue {
+            client,
+            object,
+            value,
+        } => {
+            write_step(text, *client, StepWord::Read, object, b" ")?;
+            write_value(text, value)
+        }
+        Line::CommitNumber { client, number } => write_numbered(
+            text,
+            *client,
+            b" commit ",
+            *number,
+        ),
+        Line::CommitNone { client } => write_words(text, *client, b" commit none"),
+        Line::CommitClosed { client } => write_words(text, *client, b" commit closed"),
+        Line::CommitPending { client } => write_words(text, *client, b" commit pending 1024"),
+        Line::AbortClosed { client } => write_words(text, *client, b" abort closed"),
+        Line::PushUnconnected { client } => write_words(text, *client, b" push unconnected"),
+        Line::PushNone { client } => write_words(text, *client, b" push none"),
+        Line::Push {
+            client,
+            number,
+            end,
+        } => write_push(text, *client, *number, end),
+        Line::AgainNone {
+            client,
+            centre,
+            number,
+        } => {
+            write_again(text, *client, *centre, *number)?;
+            text.extend_from_slice(b"none")?;
+            Ok(())
+        }
+        Line::Again {
+            client,
+            centre,
+            number,
+            end,
+        } => {
+            write_again(text, *client, *centre, *number)?;
+            write_end(text, end)
+        }
+        Line::Flushed { client, own } => write_numbered(text, *client, b" flushed ", *own),
+        Line::Sees {
+            client,
+            vector,
+            mine,
+        } => write_sees(text, *client, vector, *mine),
+        Line::RefreshUnconnected { client } => write_words(text, *client, b" refresh unconnected"),
+        Line::RefreshOpen { client } => write_words(text, *client, b" refresh open"),
+        Line::RefreshLacks { client, lack } => {
+            write_words(text, *client, b" refresh ")?;
+            write_lack(text, lack)
+        }
+        Line::RefreshMissed { client, miss } => {
+            write_words(text, *client, b" refresh ")?;
+            write_miss(text, *miss)
+        }
+        Line::RefreshIgnored { client } => write_words(text, *client, b" refresh ignored"),
+    }
+}
+
+fn write_refused(text: &mut Vec<u8>, client: u32, centre: u8, lack: &Lack) -> Result<(), NoMemory>
+    ensures { OnOk result (text.new.items ≡ text.old.items ++ (client_text client ++ codes " refused " ++ decimal centre ++ codes " " ++ lack_text lack.now)) }
+{
+    write_centre(text, client, b" refused ", centre)?;
+    text.extend_from_slice(b" ")?;
+    write_lack(text, lack)
+}
+
+fn write_connect_missed(
+    text: &mut Vec<u8>,
+    client: u32,
+    centre: u8,
+    miss: Miss,
+) -> Result<(), NoMemory>
+    ensures { OnOk result (text.new.items ≡ text.old.items ++ (client_text client ++ codes " connect " ++ decimal centre ++ codes " " ++ miss_text miss)) }
+{
+    write_centre(text, client, b" connect ", centre)?;
+    text.extend_from_slice(b" ")?;
+    write_miss(text, miss)
+}
+
+fn write_tags(
+    text: &mut Vec<u8>,
+    client: u32,
+    word: StepWord,
+    object: &ObjectId,
+    count: u64,
+) -> Result<(), NoMemory>
+    ensures { OnOk result (text.new.items ≡ text.old.items ++ (step_text client word object.now ++ codes " tags " ++ decimal count)) }
+{
+    write_step(text, client, word, object, b" tags ")?;
+    write_number(text, count)
+}
+
+fn write_fetch_missed(
+    text: &mut Vec<u8>,
+    client: u32,
+    word: StepWord,
+    object: &ObjectId,
+    miss: Miss,
+) -> Result<(), NoMemory>
+    ensures { OnOk result (text.new.items ≡ text.old.items ++ (step_text client word object.now ++ codes " " ++ miss_text miss)) }
+{
+    write_step(text, client, word, object, b" ")?;
+    write_miss(text, miss)
+}
+
+fn write_fetch_lacks(
+    text: &mut Vec<u8>,
+    client: u32,
+    word: StepWord,
+    object: &ObjectId,
+    lack: &Lack,
+) -> Result<(), NoMemory>
+    ensures { OnOk result (text.new.items ≡ text.old.items ++ (step_text client word object.now ++ codes " " ++ lack_text lack.now)) }
+{
+    write_step(text, client, word, object, b" ")?;
+    write_lack(text, lack)
+}
+
+// Where a base is above a snapshot.
+fn write_pruned(text: &mut Vec<u8>, centre: u8, base: u64, at: u64) -> Result<(), NoMemory>
+    ensures { OnOk result (text.new.items ≡ text.old.items ++ (decimal centre ++ codes ":" ++ decimal base ++ codes " at " ++ decimal at)) }
+{
+    write_number(text, u64::from(centre))?;
+    write_named(text, b":", base)?;
+    write_named(text, b" at ", at)
+}
+
+fn write_push(text: &mut Vec<u8>, client: u32, number: u64, end: &PushEnd) -> Result<(), NoMemory>
+    ensures { OnOk result (text.new.items ≡ text.old.items ++ (client_text client ++ codes " push " ++ decimal number ++ codes " " ++ end_text end.now)) }
+{
+    write_numbered(text, client, b" push ", number)?;
+    text.extend_from_slice(b" ")?;
+    write_end(text, end)
+}
+
+// A late copy of a commit, in front of how it ended.
+fn write_again(text: &mut Vec<u8>, client: u32, centre: u8, number: u64) -> Result<(), NoMemory>
+    ensures { OnOk result (text.new.items ≡ text.old.items ++ (client_text client ++ codes " again " ++ decimal centre ++ codes " " ++ decimal number ++ codes " ")) }
+{
+    write_centre(text, client, b" again ", centre)?;
+    write_named(text, b" ", number)?;
+    text.extend_from_slice(b" ")?;
+    Ok(())
+}
+
+fn write_sees(text: &mut Vec<u8>, client: u32, vector: &Vector, mine: u64) -> Result<(), NoMemory>
+    ensures { OnOk result (text.new.items ≡ text.old.items ++ (client_text client ++ codes " sees " ++ vector_text vector.now ++ codes " own " ++ decimal mine)) }
+{
+    write_words(text, client, b" sees ")?;
+    write_vector(text, vector)?;
+    write_named(text, b" own ", mine)
+}
+
+// A client with the words and the centre behind it.
+fn write_centre(text: &mut Vec<u8>, client: u32, words: &[u8], centre: u8) -> Result<(), NoMemory>
+    ensures { OnOk result (text.new.items ≡ text.old.items ++ (client_text client ++ words.now ++ decimal centre)) }
+{
+    write_numbered(text, client, words, u64::from(centre))
+}
+
+// A client with the words behind it.
+fn write_words(text: &mut Vec<u8>, client: u32, words: &[u8]) -> Result<(), NoMemory>
+    ensures { OnOk result (text.new.items ≡ text.old.items ++ (client_text client ++ words.now)) }
+{
+    text.extend_from_slice(b"c")?;
+    write_number(text, u64::from(client))?;
+    text.extend_from_slice(words)?;
+    Ok(())
+}
+
+// A client with the words and the number behind it.
+fn write_numbered(
+    text: &mut Vec<u8>,
+    client: u32,
+    words: &[u8],
+    number: u64,
+) -> Result<(), NoMemory>
+    ensures { OnOk result (text.new.items ≡ text.old.items ++ (client_text client ++ words.now ++ decimal number)) }
+{
+    write_words(text, client, words)?;
+    write_number(text, number)
+}
+
+// A step on an object with the words behind it.
+fn write_step(
+    text: &mut Vec<u8>,
+    client: u32,
+    word: StepWord,
+    object: &ObjectId,
+    words: &[u8],
+) -> Result<(), NoMemory>
+    ensures { OnOk result (text.new.items ≡ text.old.items ++ (step_text client word object.now ++ words.now)) }
+{
+    match word {
+        StepWord::Inc => write_words(text, client, b" inc ")?,
+        StepWord::Set => write_words(text, client, b" set ")?,
+        StepWord::Add => write_words(text, client, b" add ")?,
+        StepWord::Del => write_words(text, client, b" del ")?,
+        StepWord::Put => write_words(text, client, b" put ")?,
+        StepWord::Drop => write_words(text, client, b" drop ")?,
+        StepWord::Read => write_words(text, client, b" read ")?,
+    }
+    write_object(text, object)?;
+    text.extend_from_slice(words)?;
+    Ok(())
+}
+
+fn write_object(text: &mut Vec<u8>, object: &ObjectId) -> Result<(), NoMemory>
+    ensures { OnOk result (text.new.items ≡ text.old.items ++ object_text object.now) }
+{
+    match object.sort {
+        Sort::Counter => text.extend_from_slice(b"c.")?,
+        Sort::Register => text.extend_from_slice(b"r.")?,
+        Sort::Set => text.extend_from_slice(b"s.")?,
+        Sort::Map => text.extend_from_slice(b"m.")?,
+    }
+    text.extend_from_slice(object.name.as_slice())?;
+    Ok(())
+}
+
+fn write_vector(text: &mut Vec<u8>, vector: &Vector) -> Result<(), NoMemory>
+    ensures { OnOk result (text.new.items ≡ text.old.items ++ vector_text vector.now) }
+{
+    if let [first, rest @ ..] = vector.as_slice() {
+        write_number(text, *first)?;
+        write_later(text, rest)?;
+    }
+    Ok(())
+}
+
+// Entries behind a first one.
+fn write_later(text: &mut Vec<u8>, entries: &[u64]) -> Result<(), NoMemory>
+    ensures { OnOk result (text.new.items ≡ text.old.items ++ later 44 (map decimal entries.now)) }
+{
+    for entry in entries {
+        write_named(text, b",", *entry)?;
+    }
+    Ok(())
+}
+
+fn write_end(text: &mut Vec<u8>, end: &PushEnd) -> Result<(), NoMemory>
+    ensures { OnOk result (text.new.items ≡ text.old.items ++ end_text end.now) }
+{
+    match end {
+        PushEnd::Stamped { stamp } => write_stamp(text, stamp),
+        PushEnd::Known { through } => write_named(text, b"known ", *through),
+        PushEnd::Full { limit } => write_named(text, b"full ", *limit),
+        PushEnd::Order { have } => write_named(text, b"order ", *have),
+        PushEnd::Lacks { lack } => write_lack(text, lack),
+        PushEnd::Missed { miss } => write_miss(text, *miss),
+    }
+}
+
+fn write_stamp(text: &mut Vec<u8>, stamp: &Stamp) -> Result<(), NoMemory>
+    ensures { OnOk result (text.new.items ≡ text.old.items ++ (codes "stamp " ++ stamp_text stamp.now)) }
+{
+    write_named(text, b"stamp ", u64::from(stamp.centre))?;
+    write_named(text, b":", stamp.seq)
+}
+
+fn write_lack(text: &mut Vec<u8>, lack: &Lack) -> Result<(), NoMemory>
+    ensures { OnOk result (text.new.items ≡ text.old.items ++ lack_text lack.now) }
+{
+    write_named(text, b"lacks ", u64::from(lack.centre))?;
+    write_named(text, b":", lack.need)?;
+    write_named(text, b" has ", lack.have)
+}
+
+fn write_miss(text: &mut Vec<u8>, miss: Miss) -> Result<(), NoMemory>
+    ensures { OnOk result (text.new.items ≡ text.old.items ++ miss_text miss) }
+{
+    match miss {
+        Miss::Unreachable => text.extend_from_slice(b"unreachable")?,
+        Miss::Lost => text.extend_from_slice(b"lost")?,
+        Miss::Misfit => text.extend_from_slice(b"misfit")?,
+    }
+    Ok(())
+}
+
+// Words with a number behind them.
+fn write_named(text: &mut Vec<u8>, words: &[u8], number: u64) -> Result<(), NoMemory>
+    ensures { OnOk result (text.new.items ≡ text.old.items ++ (words.now ++ decimal number)) }
+{
+    text.extend_from_slice(words)?;
+    write_number(text, number)
+}
+
+fn write_number(text: &mut Vec<u8>, number: u64) -> Result<(), NoMemory>
+    ensures { OnOk result (text.new.items ≡ text.old.items ++ decimal number) }
+{
+    let mut buffer = Buffer::new();
+    text.extend_from_slice(buffer.format(number).as_bytes())?;
+    Ok(())
+}
