@@ -19,7 +19,7 @@ pub use door::Door;
 pub use entry::Entry;
 pub use fold::fold_updates;
 pub use laws::law_history;
-pub use line::{Line, Miss, PushEnd, StepWord};
+pub use line::{Line, Miss, PushEnd, ShipEnd, StepWord};
 pub use log::{Deed, Fate, Log, Note};
 pub use say::{Records, Say};
 pub use settings::Settings;

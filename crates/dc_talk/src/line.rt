@@ -50,6 +50,31 @@ pub enum PushEnd {
     Missed { miss: Miss },
 }
 
+/// How a delivery of records by hand ended.
+#[derive(Clone, Copy)]
+pub enum ShipEnd {
+    /// The record of this number is not there.
+    Absent { seq: u64 },
+    /// The record of this number, the last one, is applied; its transaction is new there.
+    Applied { seq: u64 },
+    /// It is applied, and is one more stamp of a transaction that was there.
+    Alias { seq: u64 },
+    /// The last record was there: as many of its origin are.
+    Old { have: u64 },
+    /// An earlier record of its origin is missing, of which so many are there.
+    Gap { have: u64 },
+    /// The centre lacks records that the last record depends on.
+    Waits { lack: Lack },
+    /// An earlier transaction of its client is missing: its number, and the greatest that is there.
+    Orphan { number: u64, have: u64 },
+    /// The origin keeps its records from behind this number on alone.
+    Trimmed { from: u64 },
+    /// This centre is stopped.
+    Down { centre: u8 },
+    /// An ask does not fit the system.
+    Misfit,
+}
+
 /// What a step of a script writes, one variant for each form of line.
 #[derive(Drop)]
 pub enum Line {
@@ -219,5 +244,22 @@ pub enum Line {
     /// The session did not take the snapshot.
     RefreshIgnored {
         client: u32,
+    },
+    /// Records were delivered from a centre to another one, and that ended so.
+    Ship {
+        from: u8,
+        to: u8,
+        end: ShipEnd,
+    },
+    /// What a centre has was not told to another one: this one of the two is stopped.
+    ToldDown {
+        from: u8,
+        to: u8,
+        centre: u8,
+    },
+    /// What a centre has was not told to another one: an ask does not fit the system.
+    ToldMisfit {
+        from: u8,
+        to: u8,
     },
 }

@@ -9,7 +9,7 @@ use Rattle.tx_core.specs.declared.tx.Tx.{Tx}
 use Rattle.tx_core.specs.declared.tx.Update.{Update}
 use Rattle.ids_core.specs.declared.object.ObjectId.{ObjectId}
 use Rattle.dc_talk.specs.declared.ask.Ask.{Ask}
-use Rattle.dc_talk.specs.declared.ask.Ask.TheVariants.{Commit as CommitAsk, Stop, Start}
+use Rattle.dc_talk.specs.declared.ask.Ask.TheVariants.{Commit as CommitAsk}
 use Rattle.dc_talk.specs.declared.say.Say.{Say}
 use Rattle.dc_talk.specs.declared.say.Say.TheVariants.{Misfit, Down as DownSay, Lacks, Welcome, Snap, Pruned, Object, Known, OutOfOrder, Full, Stamped}
 use Rattle.dc_talk.specs.declared.calls.Change.{Change as ChangeOf}
@@ -41,8 +41,6 @@ use Rattle.script_text.specs.declared.steps.AskFault.{AskFault}
 use Rattle.script_text.specs.declared.steps.AskFault.TheVariants.{LoseAsk, LoseReply, Twice}
 use Rattle.script_text.specs.declared.steps.ClientStep.{ClientStep}
 use Rattle.script_text.specs.declared.steps.ClientStep.TheVariants.{Connect, Begin, Change, Read, Commit, Abort, Push, Flush, Refresh, Again, Arm}
-use Rattle.script_text.specs.declared.steps.OperatorStep.{OperatorStep}
-use Rattle.script_text.specs.declared.steps.OperatorStep.TheVariants.{Down, Up}
 
 -- ---- the lines of steps, by what became of an ask; none where an answer is to an ask of another kind
 
@@ -307,12 +305,3 @@ stepped p step notes = record {
   armed = armed_after p.armed step (map (λ note. note.deed) notes);
   notes = p.notes ++ notes;
 }
-
--- an ask of the operator, whose answer no session hears
-abbrev pub Orders : ℕ → Ask → List Deed → Type 0
-Orders centre ask deeds = (say : Say) × (deeds ≡ Asked centre ask (Unheard say) ∷ [])
-
--- the deeds are those of the operator's step; they have no line
-abbrev pub OperatorDeeds : OperatorStep → List Deed → Type 0
-OperatorDeeds (Down centre) deeds = Orders centre Stop deeds
-OperatorDeeds (Up centre) deeds = Orders centre Start deeds

@@ -5,3 +5,5 @@ pub mod Steps
 pub mod Rows
 pub mod Scripts
 pub mod Deeds
+pub mod Carrying
+pub mod Orders

@@ -1,6 +1,6 @@
 -- The steps of a script and their one spelling.
-use Rattle.std.specs.Prelude.{◌≡◌, ◌≤◌, ℕ, ℤ, IsTrue, List, ◌∷◌, ◌++◌, codes, decimal}
-use Rattle.ids_core.specs.declared.limits.TheConstants.{MOST_CENTRES, MOST_CLIENTS, MOST_NUMBER}
+use Rattle.std.specs.Prelude.{◌≡◌, ◌≢◌, ◌≤◌, ℕ, ℤ, IsTrue, List, ◌∷◌, ◌++◌, codes, decimal}
+use Rattle.ids_core.specs.declared.limits.TheConstants.{MOST_CENTRES, MOST_CLIENTS, MOST_NUMBER, MOST_RECORDS}
 use Rattle.std.specs.Fmt.{signed_decimal}
 use Rattle.ids_core.specs.Name.{IsName}
 use Rattle.ids_core.specs.declared.object.ObjectId.{ObjectId}
@@ -19,7 +19,7 @@ use Rattle.script_text.specs.declared.steps.AskFault.TheVariants.{LoseAsk, LoseR
 use Rattle.script_text.specs.declared.steps.ClientStep.{ClientStep}
 use Rattle.script_text.specs.declared.steps.ClientStep.TheVariants.{Connect, Begin, Change, Read, Commit, Abort, Push, Flush, Refresh, Again, Arm}
 use Rattle.script_text.specs.declared.steps.OperatorStep.{OperatorStep}
-use Rattle.script_text.specs.declared.steps.OperatorStep.TheVariants.{Down, Up}
+use Rattle.script_text.specs.declared.steps.OperatorStep.TheVariants.{Down, Up, ShipOne, Ship, Tell, Settle}
 use Rattle.script_text.specs.declared.steps.Step.{Step}
 use Rattle.script_text.specs.declared.steps.Step.TheVariants.{Client, Operator}
 
@@ -85,6 +85,10 @@ does_text (Arm fault) = fault_text fault
 abbrev pub operator_text : OperatorStep → List ℕ
 operator_text (Down centre) = codes "down " ++ decimal centre
 operator_text (Up centre) = codes "up " ++ decimal centre
+operator_text (ShipOne from to seq) = codes "ship " ++ (decimal from ++ 32 ∷ (decimal to ++ 32 ∷ decimal seq))
+operator_text (Ship from to) = codes "ship " ++ (decimal from ++ 32 ∷ decimal to)
+operator_text (Tell from to) = codes "tell " ++ (decimal from ++ 32 ∷ decimal to)
+operator_text Settle = codes "settle"
 
 -- the line of a step: the client and what it does, or what the operator does
 abbrev pub spelling : Step → List ℕ
@@ -129,10 +133,20 @@ IsStep n Refresh = Unit {0}
 IsStep n (Again centre number) = IsCount n centre × IsCount MOST_NUMBER number
 IsStep n (Arm fault) = Unit {0}
 
+-- two of n centres
+pub record IsRoute (n from to : ℕ) : Type 0 where
+  pub from_there : IsCount n from
+  pub to_there : IsCount n to
+  pub apart : from ≢ to
+
 -- what the operator may do in a script of n centres
 abbrev pub IsOperatorStep : ℕ → OperatorStep → Type 0
 IsOperatorStep n (Down centre) = IsCount n centre
 IsOperatorStep n (Up centre) = IsCount n centre
+IsOperatorStep n (ShipOne from to seq) = IsRoute n from to × IsCount MOST_RECORDS seq
+IsOperatorStep n (Ship from to) = IsRoute n from to
+IsOperatorStep n (Tell from to) = IsRoute n from to
+IsOperatorStep n Settle = Unit {0}
 
 -- a step of one of the clients, or of the operator
 abbrev pub IsStepOf : Header → Step → Type 0

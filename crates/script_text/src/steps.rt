@@ -49,6 +49,15 @@ pub enum OperatorStep {
     Down { centre: u8 },
     /// Starts the centre.
     Up { centre: u8 },
+    /// Delivers the record of this number that a centre stamped, from 1 to 1,000,000, to another centre.
+    ShipOne { from: u8, to: u8, seq: u64 },
+    /// Delivers the records that a centre stamped and another one lacks there, at most 1,024 of them, until one is
+    /// not taken.
+    Ship { from: u8, to: u8 },
+    /// Tells a centre what another one has.
+    Tell { from: u8, to: u8 },
+    /// Delivers and tells between all centres until nothing is new to any that is running.
+    Settle,
 }
 
 /// A step of a script: one of a client, counted from 1, or one of the operator.
