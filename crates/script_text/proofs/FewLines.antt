@@ -7,11 +7,12 @@ use Rattle.std.proofs.lemmas.Bool.{leb-true, leb-false}
 use Rattle.script_text.specs.declared.plain.row.Row.{Row}
 use Rattle.script_text.specs.declared.plain.row.Row.TheVariants.{Cache, Limit, Does}
 use Rattle.script_text.specs.declared.limits.TheConstants.{MAX_LINES}
-use Rattle.script_text.specs.declared.script.Header.{Header}
+use Rattle.script_text.specs.declared.script.Script.{Script}
+use Rattle.script_text.specs.declared.steps.Section.{Section}
 use Rattle.script_text.specs.Limits.{line_feeds, HasManyLines, PassesLimits}
 use Rattle.script_text.specs.Lines.{lines_of, onto_first}
 use Rattle.script_text.specs.Rows.{row_text, section_of, steps_in, sections_in}
-use Rattle.script_text.specs.Scripts.{header_lines}
+use Rattle.script_text.specs.Scripts.{header_lines, header_of, IsScript}
 
 feeds_first : (b : ℕ) (bs : List ℕ) → line_feeds (b ∷ bs) ≡ cond (b == 10) 1 0 + line_feeds bs
 feeds_first b bs = sum_by-cons (λ x. cond (x == 10) 1 0) b bs
@@ -75,7 +76,8 @@ steps_fewer (Limit most ∷ rows) = let fewer = steps_fewer rows in omega (arith
 steps_fewer (Does step ∷ rows) = let fewer = steps_fewer rows in omega (arith, fewer)
 
 -- a script has no more sections than lines
-pub sections_few : (bytes : List ℕ) (header : Header) (rows : List Row) → lines_of bytes ≡ header_lines header ++ map row_text rows → (PassesLimits bytes → ⊥) → length (sections_in rows) ≤ MAX_LINES
-sections_few bytes header rows parts limits =
-    let lines : length (lines_of bytes) ≡ length (header_lines header ++ map row_text rows) = ap (λ (l : List (List ℕ)). length l) parts in
-    omega (arith, lines_few bytes, feeds_few bytes limits, lines, length-append (header_lines header) (map row_text rows), length-map rows row_text, length-map (steps_in rows) section_of, steps_fewer rows)
+pub sections_few : (bytes : List ℕ) (script : Script) → IsScript bytes script → length script.sections ≤ MAX_LINES
+sections_few bytes script is =
+    let lines : length (lines_of bytes) ≡ length (header_lines (header_of script) ++ map row_text is.rows) = ap (λ (l : List (List ℕ)). length l) is.lines in
+    let sections : length script.sections ≡ length (sections_in is.rows) = ap (λ (l : List Section). length l) is.sections in
+    omega (arith, lines_few bytes, feeds_few bytes is.limits, lines, sections, length-append (header_lines (header_of script)) (map row_text is.rows), length-map is.rows row_text, length-map (steps_in is.rows) section_of, steps_fewer is.rows)

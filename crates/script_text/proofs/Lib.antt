@@ -6,3 +6,4 @@ pub mod Spellings
 pub mod Rows
 pub mod Readings
 pub mod FewLines
+pub mod Scripts

@@ -5,8 +5,8 @@ use Rattle.std.specs.Option.{option_or, unwrap_or}
 use Rattle.std.proofs.lemmas.List.Sums.{fold_push}
 use Rattle.std.proofs.lemmas.List.Elements.{filter_map-append, All-nil, All-cons, All-head, All-tail}
 use Rattle.std.proofs.lemmas.List.{append-nil, map-append, length-map, nil_from_length}
-use Rattle.ids_core.specs.declared.limits.TheConstants.{MOST_CACHED, MOST_NUMBER, MOST_RECORDS}
-use Rattle.script_text.specs.Steps.{IsCount, does_text}
+use Rattle.ids_core.specs.declared.limits.TheConstants.{MOST_CACHED, MOST_RECORDS}
+use Rattle.script_text.specs.Steps.{IsCount, IsHeader, does_text}
 use Rattle.script_text.specs.Rows.{row_text, IsRow, IsLine, MayFollow, cache_set, limit_set, set_in, section_of, step_in, steps_in, sections_in}
 use Rattle.script_text.specs.Readings.{HasRead}
 use Rattle.script_text.specs.declared.script.Header.{Header}
@@ -23,12 +23,12 @@ use Rattle.script_text.proofs.Numbers.{count_front}
 -- ---- which row a line spells
 
 -- a line that begins as the size of caches is no other row
-pub row_cache : (header : Header) (row : Row) (text rest : List ℕ) (found : Option Row) → header.clients ≤ MOST_NUMBER → IsRow header row → row_text row ≡ text → text ≡ codes "cache " ++ rest → ((n : ℕ) → IsCount MOST_CACHED n → decimal n ≡ rest → found ≡ Some (Cache n)) → found ≡ Some row
-row_cache header (Cache n) text rest found few is e cut exact = exact n is (ap (drop 6) (e ∙ cut))
-row_cache header (Limit n) text rest found few is e cut exact = absurd (let first : 108 ≡ 99 = ap (λ bytes. get_or bytes 0 0) (e ∙ cut) in omega arith)
-row_cache header (Does (Client client does)) text rest found few is e cut exact = absurd (count_front client 97 (32 ∷ does_text does) (codes "che " ++ rest) (omega (arith, few, is.0.1)) (inr (omega arith)) (ap (drop 1) (e ∙ cut)))
-row_cache header (Does (Operator (Down centre))) text rest found few is e cut exact = absurd (let first : 100 ≡ 99 = ap (λ bytes. get_or bytes 0 0) (e ∙ cut) in omega arith)
-row_cache header (Does (Operator (Up centre))) text rest found few is e cut exact = absurd (let first : 117 ≡ 99 = ap (λ bytes. get_or bytes 0 0) (e ∙ cut) in omega arith)
+pub row_cache : (header : Header) (row : Row) (text rest : List ℕ) (found : Option Row) → IsHeader header → IsRow header row → row_text row ≡ text → text ≡ codes "cache " ++ rest → ((n : ℕ) → IsCount MOST_CACHED n → decimal n ≡ rest → found ≡ Some (Cache n)) → found ≡ Some row
+row_cache header (Cache n) text rest found head is e cut exact = exact n is (ap (drop 6) (e ∙ cut))
+row_cache header (Limit n) text rest found head is e cut exact = absurd (let first : 108 ≡ 99 = ap (λ bytes. get_or bytes 0 0) (e ∙ cut) in omega arith)
+row_cache header (Does (Client client does)) text rest found head is e cut exact = absurd (count_front client 97 (32 ∷ does_text does) (codes "che " ++ rest) (omega (arith, head.clients.1, is.0.1)) (inr (omega arith)) (ap (drop 1) (e ∙ cut)))
+row_cache header (Does (Operator (Down centre))) text rest found head is e cut exact = absurd (let first : 100 ≡ 99 = ap (λ bytes. get_or bytes 0 0) (e ∙ cut) in omega arith)
+row_cache header (Does (Operator (Up centre))) text rest found head is e cut exact = absurd (let first : 117 ≡ 99 = ap (λ bytes. get_or bytes 0 0) (e ∙ cut) in omega arith)
 
 -- ---- what rows set
 

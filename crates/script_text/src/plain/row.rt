@@ -1,6 +1,6 @@
 // The lines of a script behind its first two.
 ghost use Rattle.std.specs.Prelude.{◌≡◌, ◌++◌, ℕ, Some, IfSome, codes, decimal};
-ghost use Rattle.script_text.specs.Steps.{IsCount};
+ghost use Rattle.script_text.specs.Steps.{IsCount, IsHeader};
 ghost use Rattle.script_text.specs.Rows.{IsRow, row_text};
 ghost use Rattle.script_text.specs.declared.plain.row.Row.{Row as RowTold};
 ghost use Rattle.script_text.specs.declared.plain.row.Row.TheVariants.{Cache, Limit};
@@ -25,6 +25,7 @@ pub enum Row {
 
 /// The one row of a script with this header that a line spells, if it spells one.
 pub fn read_row(header: Header, text: &[u8]) -> Option<Row>
+    requires { IsHeader header }
     ensures taken { IfSome result (λ row. IsRow header row × (row_text row ≡ text.now)) }
     ensures exact { (row : RowTold) → IsRow header row → row_text row ≡ text.now → result ≡ Some row }
 {

@@ -63,6 +63,7 @@ fn script_of(header: Header, reading: Reading) -> Script
 
 // What the lines of a script with this header say, behind its first two.
 fn read_rows(alloc: Global, header: Header, text: &[u8]) -> Result<Reading, ScriptFault>
+    requires { IsHeader header }
     ensures taken { IfOk result (λ reading. (rows : List RowTold) × HasRead rows reading × AreRows header (lines_of text.now) rows) }
     ensures only { IfOk result (λ reading. (rows : List RowTold) → AreRows header (lines_of text.now) rows → HasRead rows reading) }
     ensures refused { result ≡ Err ScriptFault.Refused → (rows : List RowTold) → AreRows header (lines_of text.now) rows → ⊥ }

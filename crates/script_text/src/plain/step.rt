@@ -4,7 +4,7 @@ ghost use Rattle.script_text.specs.declared.steps.ClientStep.{ClientStep as Does
 ghost use Rattle.script_text.specs.declared.steps.OperatorStep.TheVariants.{Down, Up};
 ghost use Rattle.script_text.specs.declared.steps.Step.{Step as StepTold};
 ghost use Rattle.script_text.specs.declared.steps.Step.TheVariants.{Client, Operator};
-ghost use Rattle.script_text.specs.Steps.{IsCount, IsStepOf, does_text, spelling};
+ghost use Rattle.script_text.specs.Steps.{IsCount, IsHeader, IsStepOf, does_text, spelling};
 
 use crate::plain::cut::{at_byte, behind};
 use crate::plain::does::read_does;
@@ -14,6 +14,7 @@ use crate::steps::{OperatorStep, Step};
 
 /// The one step of a script with this header that a line spells, if it spells one.
 pub fn read_step(header: Header, text: &[u8]) -> Option<Step>
+    requires { IsHeader header }
     ensures taken { IfSome result (λ step. IsStepOf header step × (spelling step ≡ text.now)) }
     ensures exact { (step : StepTold) → IsStepOf header step → spelling step ≡ text.now → result ≡ Some step }
 {
@@ -57,6 +58,7 @@ fn up_of(n: u8, text: &[u8]) -> Option<Step>
 
 // The step of a client that a text says behind its `c`.
 fn client_step(header: Header, text: &[u8]) -> Option<Step>
+    requires { IsHeader header }
     ensures taken { IfSome result (λ step. IsStepOf header step × (spelling step ≡ codes "c" ++ text.now)) }
     ensures exact { (client : ℕ) (does : DoesTold) → IsStepOf header (Client client does) → decimal client ++ 32 ∷ does_text does ≡ text.now → result ≡ Some (Client client does) }
 {
