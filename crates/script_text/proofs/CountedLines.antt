@@ -6,6 +6,7 @@ use Rattle.std.proofs.lemmas.List.Elements.{All-nil, All-push}
 use Rattle.std.proofs.lemmas.List.Sums.{sum_by-append}
 use Rattle.script_text.specs.Limits.{line_feeds, PassesLimits}
 use Rattle.script_text.specs.LineCounts.{HasLines}
+use Rattle.script_text.specs.declared.limits.TheConstants.{MAX_LINE, MAX_LINES}
 use Rattle.script_text.proofs.LongTexts.{none_passes, longest_none, longest_byte, longest_feed, within_more, long_more, many_more}
 
 pub lines_none : HasLines 0 0 []
@@ -29,7 +30,7 @@ feed_is_one b e = ap (λ x. line_feeds (x ∷ [])) e
 plain_is_none : (b : ℕ) → b ≢ 10 → line_feeds (b ∷ []) ≡ 0
 plain_is_none b n = grind arith
 
-pub lines_feed : (feeds column b : ℕ) (seen : List ℕ) → b ≡ 10 → feeds < 200000 → HasLines feeds column seen → HasLines (feeds + 1) 0 (seen ++ b ∷ [])
+pub lines_feed : (feeds column b : ℕ) (seen : List ℕ) → b ≡ 10 → feeds < MAX_LINES → HasLines feeds column seen → HasLines (feeds + 1) 0 (seen ++ b ∷ [])
 lines_feed feeds column b seen feed few h =
     let count : line_feeds seen ≡ feeds = h.feed_count in
     record {
@@ -43,7 +44,7 @@ lines_feed feeds column b seen feed few h =
       limits = within_more seen b 0 h.limits (omega arith) (longest_feed seen b feed) (omega arith);
     }
 
-pub lines_byte : (feeds column b : ℕ) (seen : List ℕ) → b ≢ 10 → feeds < 200000 → column < 256 → HasLines feeds column seen → HasLines feeds (column + 1) (seen ++ b ∷ [])
+pub lines_byte : (feeds column b : ℕ) (seen : List ℕ) → b ≢ 10 → feeds < MAX_LINES → column < MAX_LINE → HasLines feeds column seen → HasLines feeds (column + 1) (seen ++ b ∷ [])
 lines_byte feeds column b seen plain few short h =
     let count : line_feeds seen ≡ feeds = h.feed_count in
     let open_length : length h.line ≡ column = h.line_length in
@@ -59,8 +60,8 @@ lines_byte feeds column b seen plain few short h =
       limits = within_more seen b (column + 1) h.limits (omega arith) longest (omega arith);
     }
 
-pub lines_too_many : (feeds column b : ℕ) (seen : List ℕ) → 200000 ≤ feeds → HasLines feeds column seen → PassesLimits (seen ++ b ∷ [])
+pub lines_too_many : (feeds column b : ℕ) (seen : List ℕ) → MAX_LINES ≤ feeds → HasLines feeds column seen → PassesLimits (seen ++ b ∷ [])
 lines_too_many feeds column b seen many h = many_more seen b (let count : line_feeds seen ≡ feeds = h.feed_count in omega arith)
 
-pub lines_too_long : (feeds column b : ℕ) (seen : List ℕ) → b ≢ 10 → 256 ≤ column → HasLines feeds column seen → PassesLimits (seen ++ b ∷ [])
+pub lines_too_long : (feeds column b : ℕ) (seen : List ℕ) → b ≢ 10 → MAX_LINE ≤ column → HasLines feeds column seen → PassesLimits (seen ++ b ∷ [])
 lines_too_long feeds column b seen plain full h = long_more seen h.before h.line b h.parts h.one_line plain (let column_is : length h.line ≡ column = h.line_length in omega arith)

@@ -4,6 +4,7 @@ use Rattle.std.specs.Prelude.{Some}
 use Rattle.std.proofs.lemmas.List.{append-nil, length_push}
 use Rattle.std.proofs.lemmas.List.Elements.{All-pop, All-push}
 use Rattle.script_text.specs.Limits.{line_feeds, IsOfOneLine, PassesLimits}
+use Rattle.script_text.specs.declared.limits.TheConstants.{MAX_LINE, MAX_LINES}
 
 -- a text that ends in a byte, in two parts: the byte ends the second, or that one is empty
 pub ends : (a b s : List ℕ) (x : ℕ) → a ++ b ≡ s ++ x ∷ [] → ((b ≡ []) × (a ≡ s ++ x ∷ [])) ⊎ ((b' : List ℕ) × (b ≡ b' ++ x ∷ []) × (s ≡ a ++ b'))
@@ -39,7 +40,7 @@ passes_more bytes more (inr h) = inr (record {
 
 -- no byte passes none
 pub none_passes : PassesLimits [] → ⊥
-none_passes (inl h) = let e : 0 ≡ length (h.before ++ (h.line ++ h.rest)) = ap length h.parts in let long : 256 < length h.line = h.long in omega (arith, length-append h.before (h.line ++ h.rest), length-append h.line h.rest)
+none_passes (inl h) = let e : 0 ≡ length (h.before ++ (h.line ++ h.rest)) = ap length h.parts in let long : MAX_LINE < length h.line = h.long in omega (arith, length-append h.before (h.line ++ h.rest), length-append h.line h.rest)
 none_passes (inr h) = let e : 0 ≡ length (h.before ++ h.byte ∷ h.rest) = ap length h.parts in omega (arith, length-append h.before (h.byte ∷ h.rest))
 
 -- no ending within one line is longer
@@ -67,12 +68,12 @@ longest_feed bytes b feed front tail e one =
     ]
 
 -- one more byte does not pass the limits, with few line feeds before it and none of the lines long
-pub within_more : (bytes : List ℕ) (b column : ℕ) → (PassesLimits bytes → ⊥) → line_feeds bytes < 200000 → IsLongest column (bytes ++ b ∷ []) → column ≤ 256 → PassesLimits (bytes ++ b ∷ []) → ⊥
+pub within_more : (bytes : List ℕ) (b column : ℕ) → (PassesLimits bytes → ⊥) → line_feeds bytes < MAX_LINES → IsLongest column (bytes ++ b ∷ []) → column ≤ MAX_LINE → PassesLimits (bytes ++ b ∷ []) → ⊥
 within_more bytes b column within few longest short (inl h) =
     elim (ends (h.before ++ h.line) h.rest bytes b (append_assoc h.before h.line h.rest ∙ sym h.parts)) [
       | inl p ↦
           let most : length h.line ≤ column = longest h.before h.line (sym p.1) h.one_line in
-          let long : 256 < length h.line = h.long in
+          let long : MAX_LINE < length h.line = h.long in
           omega arith
       | inr p ↦ within (inl (record {
         before = h.before;
@@ -92,12 +93,12 @@ within_more bytes b column within few longest short (inr h) =
     many_before : (seen : List ℕ) → bytes ≡ h.before ++ seen → ⊥
     many_before [] e =
         let same : line_feeds bytes ≡ line_feeds h.before = ap line_feeds (e ∙ append-nil h.before) in
-        let many : 200000 ≤ line_feeds h.before = h.many in
+        let many : MAX_LINES ≤ line_feeds h.before = h.many in
         omega arith
     many_before (x ∷ xs) e = within (inr (record { before = h.before; byte = x; rest = xs; parts = e; many = h.many }))
 
 -- a byte that makes the last line too long
-pub long_more : (bytes before line : List ℕ) (b : ℕ) → bytes ≡ before ++ line → IsOfOneLine line → b ≢ 10 → 256 ≤ length line → PassesLimits (bytes ++ b ∷ [])
+pub long_more : (bytes before line : List ℕ) (b : ℕ) → bytes ≡ before ++ line → IsOfOneLine line → b ≢ 10 → MAX_LINE ≤ length line → PassesLimits (bytes ++ b ∷ [])
 long_more bytes before line b parts one plain full = inl (record {
   before = before;
   line = line ++ b ∷ [];
@@ -108,5 +109,5 @@ long_more bytes before line b parts one plain full = inl (record {
 })
 
 -- a byte behind the last line feed that may stand
-pub many_more : (bytes : List ℕ) (b : ℕ) → 200000 ≤ line_feeds bytes → PassesLimits (bytes ++ b ∷ [])
+pub many_more : (bytes : List ℕ) (b : ℕ) → MAX_LINES ≤ line_feeds bytes → PassesLimits (bytes ++ b ∷ [])
 many_more bytes b many = inr (record { before = bytes; byte = b; rest = []; parts = refl; many = many })

@@ -3,6 +3,7 @@ pub mod LineCounts
 pub mod Lines
 pub mod Steps
 pub mod Rows
+pub mod Readings
 pub mod Scripts
 pub mod Deeds
 pub mod Carrying

@@ -56,6 +56,10 @@ section_of step = record { steps = step ∷ [] }
 abbrev pub sections_in : List Row → List Section
 sections_in rows = map section_of (steps_in rows)
 
+-- a section that is one step, of a script with this header
+abbrev pub IsLine : Header → Section → Type 0
+IsLine header section = (step : Step) × (section ≡ section_of step) × IsStepOf header step
+
 -- a setting may stand behind these lines: none of them sets it, and none is a step
 abbrev pub MaySet : (Row → Option ℕ) → List Row → Type 0
 MaySet setting before = (set_in setting before ≡ None) × (steps_in before ≡ [])

@@ -8,6 +8,7 @@ use Rattle.script_text.specs.Lines.{lines_of}
 use Rattle.script_text.specs.Steps.{IsCount, IsHeader, IsStepOf}
 use Rattle.script_text.specs.Rows.{row_text, IsRow, MayFollow, cache_set, limit_set, set_in, sections_in}
 use Rattle.script_text.specs.declared.plain.row.Row.{Row}
+use Rattle.script_text.specs.declared.script.TheConstants.{DEFAULT_CACHE}
 use Rattle.script_text.specs.declared.script.Header.{Header}
 use Rattle.script_text.specs.declared.script.Script.{Script}
 
@@ -33,7 +34,7 @@ pub record IsScript (bytes : List ℕ) (script : Script) : Type 0 where
   pub lines : lines_of bytes ≡ header_lines (header_of script) ++ map row_text rows
   pub each : All (IsRow (header_of script)) rows
   pub order : Each MayFollow rows
-  pub cache : script.cache ≡ unwrap_or (set_in cache_set rows) 1024
+  pub cache : script.cache ≡ unwrap_or (set_in cache_set rows) DEFAULT_CACHE
   pub limit : script.limit ≡ unwrap_or (set_in limit_set rows) MOST_RECORDS
   pub sections : script.sections ≡ sections_in rows
   pub limits : PassesLimits bytes → ⊥

@@ -1,2 +1,13 @@
 // The plain reader of scripts.
+mod change;
+mod cut;
+mod does;
+mod header;
+mod number;
+mod object;
+mod reading;
 mod row;
+mod scripts;
+mod step;
+
+pub use scripts::parse;

@@ -6,6 +6,9 @@ use crate::steps::Sections;
 use std::alloc::AllocError;
 use thiserror::Error;
 
+/// How many objects a client's cache holds where no line says it.
+pub const DEFAULT_CACHE: u32 = 1_024;
+
 /// What the first two lines of a script say.
 #[derive(Clone, Copy)]
 pub struct Header {
