@@ -6,6 +6,7 @@ use Rattle.std.proofs.lemmas.Bool.Decides.{Decides-eqb}
 use Rattle.std.proofs.lemmas.List.{map_push}
 use Rattle.std.proofs.lemmas.List.Elements.{All-nil, All-cons, All-append, All-head, All-tail}
 use Rattle.list_core.specs.Members.{In}
+use Rattle.ids_core.specs.declared.limits.TheConstants.{MOST_CENTRES}
 use Rattle.ids_core.specs.declared.ids.Dot.{Dot}
 use Rattle.ids_core.specs.declared.object.ObjectId.{ObjectId}
 use Rattle.ids_core.specs.Ids.{same_dot}
@@ -32,7 +33,7 @@ use Rattle.dc_centre.proofs.Firsts.{new_dot, has_before, has_last, first_had, fi
 zeros_count : (n : ℕ) → zeros n ≡ vector n []
 zeros_count n = is_tabulate (zeros n) n (λ e. count e []) (length-zeros n) (λ e low high. at-zeros n e)
 
-pub applied_none : (n : ℕ) (counts : List ℕ) (lasts : List Last) (dots : List (List (List Stamp))) → (1 ≤ n) × (n ≤ 8) → counts ≡ zeros n → ((client : ℕ) → number_of lasts client ≡ 0) → ((d : Dot) → stamps_at dots d ≡ []) → ((client : ℕ) → length (of_client dots client) ≡ 0) → IsApplied n (record { counts = counts; lasts = lasts; dots = dots; greatest = 0; held = [] }) []
+pub applied_none : (n : ℕ) (counts : List ℕ) (lasts : List Last) (dots : List (List (List Stamp))) → (1 ≤ n) × (n ≤ MOST_CENTRES) → counts ≡ zeros n → ((client : ℕ) → number_of lasts client ≡ 0) → ((d : Dot) → stamps_at dots d ≡ []) → ((client : ℕ) → length (of_client dots client) ≡ 0) → IsApplied n (record { counts = counts; lasts = lasts; dots = dots; greatest = 0; held = [] }) []
 applied_none n counts lasts dots width are numbers stamps lengths = record {
   width = width;
   wide = ap (λ (v : List ℕ). length v) are ∙ length-zeros n;

@@ -1,7 +1,7 @@
 -- What a centre has of its applied list, and which record can be applied next.
 use Rattle.std.specs.Prelude.{◌≡◌, ◌≤◌, ℕ, ◌+◌, Bool, true, ◌&&◌, ◌==◌, List, map, filter, flat_map, length, All}
 use Rattle.list_core.specs.Members.{In}
-use Rattle.ids_core.specs.declared.limits.TheConstants.{MOST_CLIENTS, MOST_UPDATES}
+use Rattle.ids_core.specs.declared.limits.TheConstants.{MOST_CENTRES, MOST_CLIENTS, MOST_UPDATES}
 use Rattle.ids_core.specs.declared.ids.Dot.{Dot}
 use Rattle.ids_core.specs.declared.object.ObjectId.{ObjectId}
 use Rattle.vv_core.specs.declared.stamp.Stamp.{Stamp}
@@ -72,7 +72,7 @@ pub record Index : Type 0 where
 
 -- all that is kept is as it is after the records A of n centres
 pub record IsApplied (n : ℕ) (x : Index) (A : List Record) : Type 0 where
-  pub width : (1 ≤ n) × (n ≤ 8)
+  pub width : (1 ≤ n) × (n ≤ MOST_CENTRES)
   pub wide : length x.counts ≡ n
   pub counted : x.counts ≡ vector n A
   pub guarded : IsGuard A x.lasts

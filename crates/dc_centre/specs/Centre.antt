@@ -1,7 +1,7 @@
 -- What a centre holds, which trails it stands for, and what it answers.
 use Rattle.std.specs.Prelude.{◌≡◌, ◌≢◌, ◌≤◌, ℕ, ◌+◌, Bool, ◌&&◌, not, cond, List, [], ◌∷◌, ◌++◌}
 use Rattle.std.specs.Option.{unwrap_or}
-use Rattle.ids_core.specs.declared.limits.TheConstants.{MOST_RECORDS}
+use Rattle.ids_core.specs.declared.limits.TheConstants.{MOST_CENTRES, MOST_RECORDS}
 use Rattle.vv_core.specs.declared.stamp.Stamp.{Stamp}
 use Rattle.k_stable.specs.Tables.{Table, IsTable, told_by, stable_of}
 use Rattle.tx_core.specs.declared.tx.Tx.{Tx}
@@ -34,7 +34,7 @@ pub record StandsFor (c : CentreView) (trail : List Entry) : Type 0 where
 -- a centre as it may be, with the own records that it keeps
 pub record IsCentre (s : Settings) (a : Have) (mine : List Record) (t : Table) : Type 0 where
   pub centre : (1 ≤ s.me) × (s.me ≤ s.n)
-  pub few : s.n ≤ 8
+  pub few : s.n ≤ MOST_CENTRES
   pub known : (1 ≤ s.k) × (s.k ≤ s.n)
   pub most : s.limit ≤ MOST_RECORDS
   pub width : a.n ≡ s.n

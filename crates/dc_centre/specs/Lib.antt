@@ -1,4 +1,3 @@
 pub mod Dots
 pub mod Applied
 pub mod Centre
-pub mod Desk

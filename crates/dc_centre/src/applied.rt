@@ -1,6 +1,7 @@
 // The applied list of a centre, with what is kept beside it so that it is not searched.
 ghost use Rattle.std.specs.Prelude.{◌≡◌, ◌≢◌, ◌≤◌, ◌+◌, ◌==◌, ◌<◌, ◌++◌, ◌∷◌, [], ◌↔◌, ℕ, true, All, IfOk, OnOk, OnErr, IsTrue, cond, length, max, Some, Option};
 ghost use Rattle.list_core.specs.Members.{In};
+ghost use Rattle.ids_core.specs.declared.limits.TheConstants.{MOST_CENTRES, MOST_CLIENTS};
 ghost use Rattle.vv_core.specs.Vectors.{at};
 ghost use Rattle.vv_core.specs.declared.stamp.Stamp.{Stamp};
 ghost use Rattle.dup_guard.specs.Notes.{number_of, stamp_of};
@@ -54,7 +55,7 @@ impl Model for Applied {
 impl Applied {
     /// Nothing is applied yet, among `n` centres.
     pub fn new(alloc: Global, n: u8) -> Result<Applied, NoMemory>
-        requires { (1 ≤ n) × (n ≤ 8) }
+        requires { (1 ≤ n) × (n ≤ MOST_CENTRES) }
         ensures { IfOk result (λ a. a ≡ record { n = n; records = [] }) }
     {
         Ok(Applied {
@@ -172,7 +173,7 @@ fn is_counted(counts: &Vector, stamp: &Stamp) -> bool
 
 // Notes the number of a new transaction.
 fn note_if(guard: &mut Guard, fresh: bool, dot: &Dot, stamp: &Stamp)
-    requires client { (1 ≤ dot.now.client) × (dot.now.client ≤ 1024) }
+    requires client { (1 ≤ dot.now.client) × (dot.now.client ≤ MOST_CLIENTS) }
     requires next { fresh ≡ true → dot.now.number ≡ number_of guard.old dot.now.client + 1 }
     requires known { fresh ≢ true → dot.now.number ≤ number_of guard.old dot.now.client }
     ensures numbers { (client : ℕ) → number_of guard.new client ≡ max (number_of guard.old client) (cond (client == dot.now.client) dot.now.number 0) }

@@ -1,6 +1,7 @@
 // A centre on one thread.
 ghost use Rattle.std.specs.Prelude.{◌≡◌, ◌&&◌, not, ◌≤◌, ◌↔◌, ℕ, IfOk, OnErr, IsTrue, List, [], ◌∷◌, ◌++◌, true, false};
 ghost use Rattle.list_core.specs.Members.{In};
+ghost use Rattle.ids_core.specs.declared.limits.TheConstants.{MOST_CENTRES, MOST_RECORDS};
 ghost use Rattle.tx_core.specs.declared.tx.Record.{Record};
 ghost use Rattle.dc_talk.specs.Answers.{answer, fits, is_switch};
 ghost use Rattle.dc_talk.specs.Entries.{Entry};
@@ -44,9 +45,9 @@ impl Centre {
     /// it stamps at most `limit` transactions.
     pub fn new(alloc: Global, me: u8, n: u8, k: u8, limit: u64) -> Result<Centre, NoMemory>
         requires centre { (1 ≤ me) × (me ≤ n) }
-        requires width { n ≤ 8 }
+        requires width { n ≤ MOST_CENTRES }
         requires known { (1 ≤ k) × (k ≤ n) }
-        requires most { (1 ≤ limit) × (limit ≤ 1000000) }
+        requires most { (1 ≤ limit) × (limit ≤ MOST_RECORDS) }
         ensures settings { IfOk result (λ centre. centre.settings ≡ record { me = me; n = n; k = k; limit = limit }) }
         ensures stands { IfOk result (λ centre. StandsFor centre []) }
     {

@@ -3,13 +3,13 @@ ghost use Rattle.std.specs.Prelude.{◌≡◌, ◌≢◌, ◌≤◌, ◌+◌, �
 ghost use Rattle.ids_core.specs.declared.ids.Dot.{Dot};
 ghost use Rattle.dc_centre.specs.Dots.{of_client, of_number, stamps_at, is_any_within, IsCentreOf};
 
-use ids_core::{Dot, NoMemory};
+use ids_core::{Dot, MOST_CLIENTS, NoMemory};
 use std::alloc::Global;
 use std::marker::Model;
 use vv_core::{Stamp, Vector};
 
 // How many clients there are, counted from 1.
-const CLIENTS: usize = 1024;
+const CLIENTS: usize = MOST_CLIENTS as usize;
 
 // The stamps of one transaction, in the order in which they came.
 #[derive(Clone, Drop)]
@@ -50,13 +50,14 @@ pub struct Dots {
 
 impl Model for Dots {
     ghost use Rattle.std.specs.Prelude.{◌≡◌, List, length};
+    ghost use Rattle.ids_core.specs.declared.limits.TheConstants.{MOST_CLIENTS};
     ghost use Rattle.vv_core.specs.declared.stamp.Stamp.{Stamp};
 
     ghost Value = { List (List (List Stamp)) };
 
     ghost view = { λ d. d.clients.items };
 
-    ghost invariant = { λ d. length d.clients.items ≡ 1024 };
+    ghost invariant = { λ d. length d.clients.items ≡ MOST_CLIENTS };
 }
 
 impl Dots {
@@ -75,7 +76,7 @@ impl Dots {
     /// One more stamp of a transaction, which is one of a client's before or the next. Nothing
     /// changes where memory is refused.
     pub fn add(&mut self, alloc: Global, dot: &Dot, stamp: &Stamp) -> Result<(), NoMemory>
-        requires client { (1 ≤ dot.now.client) × (dot.now.client ≤ 1024) }
+        requires client { (1 ≤ dot.now.client) × (dot.now.client ≤ MOST_CLIENTS) }
         requires number { (1 ≤ dot.now.number) × (dot.now.number ≤ length (of_client self.old dot.now.client) + 1) }
         ensures here { OnOk result (stamps_at self.new dot.now ≡ stamps_at self.old dot.now ++ stamp.now ∷ []) }
         ensures others { OnOk result ((other : Dot) → other ≢ dot.now → stamps_at self.new other ≡ stamps_at self.old other) }

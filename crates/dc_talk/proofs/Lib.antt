@@ -1,3 +1,5 @@
+pub mod Belonging
+pub mod ListDoors
 pub mod Answers
 pub mod ClientAnswers
 pub mod PeerAnswers

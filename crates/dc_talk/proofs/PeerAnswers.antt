@@ -5,6 +5,7 @@ use Rattle.std.proofs.lemmas.Bool.{and_parts, and_from, or_parts, le-leb, leb-tr
 use Rattle.list_core.specs.Members.{In}
 use Rattle.list_core.proofs.Members.{In_take, In_drop}
 use Rattle.list_core.proofs.Choices.{is_none_true, when_none, when_holds}
+use Rattle.ids_core.specs.declared.limits.TheConstants.{MOST_RECORDS}
 use Rattle.vv_core.specs.Vectors.{at, Covers}
 use Rattle.tx_core.specs.declared.tx.Record.{Record}
 use Rattle.tx_core.specs.Checks.{is_within, fault_of, IsFit}
@@ -72,32 +73,32 @@ vector_by s trail ask v is = from_report (vector_asked ask v (answers_it s trail
 -- a record that can be delivered to a centre among n
 pub record IsFitItem (n : ℕ) (item : Record) : Type 0 where
   pub centre : (1 ≤ item.stamp.centre) × (item.stamp.centre ≤ n)
-  pub seq : (1 ≤ item.stamp.seq) × (item.stamp.seq ≤ 1000000)
+  pub seq : (1 ≤ item.stamp.seq) × (item.stamp.seq ≤ MOST_RECORDS)
   pub width : length item.deps ≡ n
   pub fit : IsFit n item.tx
 
 -- a record that passes the test can
 pub item_fits : (n : ℕ) (item : Record) → is_fit_item n item ≡ true → IsFitItem n item
 item_fits n item is =
-    let tx = and_parts (is_within 1 n item.stamp.centre && is_within 1 1000000 item.stamp.seq && (length item.deps == n) && are_modest item.deps) (is_none (fault_of n item.tx)) is in
-    let modest = and_parts (is_within 1 n item.stamp.centre && is_within 1 1000000 item.stamp.seq && (length item.deps == n)) (are_modest item.deps) tx.0 in
-    let width = and_parts (is_within 1 n item.stamp.centre && is_within 1 1000000 item.stamp.seq) (length item.deps == n) modest.0 in
-    let stamp = and_parts (is_within 1 n item.stamp.centre) (is_within 1 1000000 item.stamp.seq) width.0 in
+    let tx = and_parts (is_within 1 n item.stamp.centre && is_within 1 MOST_RECORDS item.stamp.seq && (length item.deps == n) && are_modest item.deps) (is_none (fault_of n item.tx)) is in
+    let modest = and_parts (is_within 1 n item.stamp.centre && is_within 1 MOST_RECORDS item.stamp.seq && (length item.deps == n)) (are_modest item.deps) tx.0 in
+    let width = and_parts (is_within 1 n item.stamp.centre && is_within 1 MOST_RECORDS item.stamp.seq) (length item.deps == n) modest.0 in
+    let stamp = and_parts (is_within 1 n item.stamp.centre) (is_within 1 MOST_RECORDS item.stamp.seq) width.0 in
     let centre = and_parts (nat_le 1 item.stamp.centre) (nat_le item.stamp.centre n) stamp.0 in
-    let seq = and_parts (nat_le 1 item.stamp.seq) (nat_le item.stamp.seq 1000000) stamp.1 in
+    let seq = and_parts (nat_le 1 item.stamp.seq) (nat_le item.stamp.seq MOST_RECORDS) stamp.1 in
     record {
       centre = (leb-true 1 item.stamp.centre centre.0, leb-true item.stamp.centre n centre.1);
-      seq = (leb-true 1 item.stamp.seq seq.0, leb-true item.stamp.seq 1000000 seq.1);
+      seq = (leb-true 1 item.stamp.seq seq.0, leb-true item.stamp.seq MOST_RECORDS seq.1);
       width = eqb-true (length item.deps) n width.1;
       fit = fault_of-none n item.tx (is_none_true (fault_of n item.tx) tx.1);
     }
 
 -- a vector of small entries is modest
-pub modest_from : (v : List ℕ) → ((e : ℕ) → at v e ≤ 1000000) → are_modest v ≡ true
+pub modest_from : (v : List ℕ) → ((e : ℕ) → at v e ≤ MOST_RECORDS) → are_modest v ≡ true
 modest_from [] small = refl
-modest_from (x ∷ v) small = and_from (nat_le x 1000000) (are_modest v) (le-leb x 1000000 (small 1)) (modest_from v rest)
+modest_from (x ∷ v) small = and_from (nat_le x MOST_RECORDS) (are_modest v) (le-leb x MOST_RECORDS (small 1)) (modest_from v rest)
   where
-    rest : (e : ℕ) → at v e ≤ 1000000
+    rest : (e : ℕ) → at v e ≤ MOST_RECORDS
     rest zero = omega arith
     rest (suc e) = small (suc (suc e))
 
@@ -105,13 +106,13 @@ modest_from (x ∷ v) small = and_from (nat_le x 1000000) (are_modest v) (le-leb
 pub fits_item : (n : ℕ) (item : Record) → IsFitItem n item → are_modest item.deps ≡ true → is_fit_item n item ≡ true
 fits_item n item fit modest =
     let centre : is_within 1 n item.stamp.centre ≡ true = and_from (nat_le 1 item.stamp.centre) (nat_le item.stamp.centre n) (le-leb 1 item.stamp.centre fit.centre.0) (le-leb item.stamp.centre n fit.centre.1) in
-    let seq : is_within 1 1000000 item.stamp.seq ≡ true = and_from (nat_le 1 item.stamp.seq) (nat_le item.stamp.seq 1000000) (le-leb 1 item.stamp.seq fit.seq.0) (le-leb item.stamp.seq 1000000 fit.seq.1) in
+    let seq : is_within 1 MOST_RECORDS item.stamp.seq ≡ true = and_from (nat_le 1 item.stamp.seq) (nat_le item.stamp.seq MOST_RECORDS) (le-leb 1 item.stamp.seq fit.seq.0) (le-leb item.stamp.seq MOST_RECORDS fit.seq.1) in
     let width : (length item.deps == n) ≡ true = eq-eqb (length item.deps) n fit.width in
     let tx : is_none (fault_of n item.tx) ≡ true = ap is_none (none-fault_of n item.tx fit.fit) in
-    and_from (is_within 1 n item.stamp.centre && is_within 1 1000000 item.stamp.seq && (length item.deps == n) && are_modest item.deps) (is_none (fault_of n item.tx))
-    (and_from (is_within 1 n item.stamp.centre && is_within 1 1000000 item.stamp.seq && (length item.deps == n)) (are_modest item.deps)
-    (and_from (is_within 1 n item.stamp.centre && is_within 1 1000000 item.stamp.seq) (length item.deps == n)
-    (and_from (is_within 1 n item.stamp.centre) (is_within 1 1000000 item.stamp.seq) centre seq) width) modest) tx
+    and_from (is_within 1 n item.stamp.centre && is_within 1 MOST_RECORDS item.stamp.seq && (length item.deps == n) && are_modest item.deps) (is_none (fault_of n item.tx))
+    (and_from (is_within 1 n item.stamp.centre && is_within 1 MOST_RECORDS item.stamp.seq && (length item.deps == n)) (are_modest item.deps)
+    (and_from (is_within 1 n item.stamp.centre && is_within 1 MOST_RECORDS item.stamp.seq) (length item.deps == n)
+    (and_from (is_within 1 n item.stamp.centre) (is_within 1 MOST_RECORDS item.stamp.seq) centre seq) width) modest) tx
 
 -- the ask is a delivery
 pub record IsDelivery (ask : Ask) : Type 0 where

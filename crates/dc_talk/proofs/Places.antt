@@ -11,6 +11,7 @@ use Rattle.list_core.specs.Members.{In}
 use Rattle.list_core.proofs.Gets.{get_within, get_last, get_In_take, In_get}
 use Rattle.list_core.proofs.Members.{In_left, In_right}
 use Rattle.list_core.proofs.Moments.{each_take, by_steps}
+use Rattle.ids_core.specs.declared.limits.TheConstants.{MOST_RECORDS}
 use Rattle.vv_core.specs.declared.stamp.Stamp.{Stamp}
 use Rattle.vv_core.specs.Vectors.{at}
 use Rattle.tx_core.specs.declared.tx.Record.{Record}
@@ -45,10 +46,10 @@ have_stamp g A each = by_steps (λ X. (e k : ℕ) → 1 ≤ k → k ≤ count e 
             absurd (omega (arith, more, lt, high))
 
 -- so no count is above 1,000,000
-pub count_few : (g : Settings) (A : List Record) → Each (IsInOrder g) A → (e : ℕ) → count e A ≤ 1000000
+pub count_few : (g : Settings) (A : List Record) → Each (IsInOrder g) A → (e : ℕ) → count e A ≤ MOST_RECORDS
 count_few g A each e = go (count e A) refl
   where
-    go : (c : ℕ) → count e A ≡ c → count e A ≤ 1000000
+    go : (c : ℕ) → count e A ≡ c → count e A ≤ MOST_RECORDS
     go zero is = omega (arith, is)
     go (suc c) is =
         let h = have_stamp g A each e (suc c) (omega arith) (omega (arith, is)) in

@@ -1,5 +1,6 @@
 // What is asked of a centre.
 ghost use Rattle.std.specs.Prelude.{◌≡◌, ◌≤◌, IfOk};
+ghost use Rattle.ids_core.specs.declared.limits.TheConstants.{MOST_CENTRES};
 ghost use Rattle.tx_core.specs.Checks.{is_within};
 ghost use Rattle.dc_talk.specs.Answers.{are_modest, is_fit_item};
 
@@ -11,7 +12,7 @@ use vv_core::Vector;
 /// How many records a send asks for at most.
 pub const MOST_SENT: u32 = 1_024;
 
-/// One ask of a centre (Middleware 2015, sections 4 and 5). Clients are numbered from 1 to 1,024.
+/// One ask of a centre (Middleware 2015, sections 4 and 5). Clients are numbered from 1 to `MOST_CLIENTS`.
 #[derive(Drop)]
 pub enum Ask {
     /// A client comes, for the first time, again, or from another centre. It has seen `need`.
@@ -83,10 +84,11 @@ impl Ask {
     }
 
     /// Whether the ask can be made of a centre among `n`: its vectors have `n` entries, its centre is
-    /// in 1 to `n`, its client in 1 to 1,024, and its transaction passes `Tx::check`; a send asks for
-    /// 1 to 1,024 records, and what is delivered or learned has numbers of at most 1,000,000.
+    /// in 1 to `n`, its client in 1 to `MOST_CLIENTS`, and its transaction passes `Tx::check`; a send
+    /// asks for 1 to `MOST_SENT` records, and what is delivered or learned has numbers of at most
+    /// `MOST_RECORDS`.
     pub fn fits(&self, n: u8) -> bool
-        requires { (1 ≤ n) × (n ≤ 8) }
+        requires { (1 ≤ n) × (n ≤ MOST_CENTRES) }
         ensures { result ≡ fits n self.now }
     {
         match self {
@@ -113,7 +115,7 @@ fn is_client(client: u32) -> bool
 
 // Whether a record can be delivered to a centre among `n`.
 fn is_fit_item(item: &Record, n: u8) -> bool
-    requires { (1 ≤ n) × (n ≤ 8) }
+    requires { (1 ≤ n) × (n ≤ MOST_CENTRES) }
     ensures { result ≡ is_fit_item n item.now }
 {
     (1..=n).contains(&item.stamp.centre)

@@ -1,5 +1,6 @@
 // Folds of a transaction's updates into the state of an object.
 ghost use Rattle.std.specs.Prelude.{◌≡◌, ◌≤◌, length, OnOk};
+ghost use Rattle.ids_core.specs.declared.limits.TheConstants.{MOST_UPDATES};
 ghost use Rattle.dc_talk.specs.Objects.{ops_from};
 ghost use Rattle.tx_core.specs.States.{fold_of};
 
@@ -15,7 +16,7 @@ pub fn fold_updates(
     dot: &Dot,
     updates: &[Update],
 ) -> Result<(), NoMemory>
-    requires { length updates.now ≤ 256 }
+    requires { length updates.now ≤ MOST_UPDATES }
     ensures { OnOk result (state.new ≡ fold_of state.old (ops_from object.now rank dot.now 0 updates.now)) }
 {
     for (place, update) in updates.iter().enumerate() {

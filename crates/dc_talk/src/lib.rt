@@ -9,7 +9,9 @@ mod entry;
 mod fold;
 mod laws;
 mod line;
+mod list_door;
 mod log;
+mod replies;
 mod say;
 mod settings;
 
@@ -20,6 +22,8 @@ pub use entry::Entry;
 pub use fold::fold_updates;
 pub use laws::law_history;
 pub use line::{Line, Miss, PushEnd, ShipEnd, StepWord};
+pub use list_door::ListDoor;
 pub use log::{Deed, Fate, Log, Note};
+pub use replies::belongs;
 pub use say::{Records, Say};
 pub use settings::Settings;

@@ -109,7 +109,7 @@ pub enum Line {
         word: StepWord,
         object: ObjectId,
     },
-    /// A change was refused: the open transaction has 256 updates.
+    /// A change was refused: the open transaction has `MOST_UPDATES` updates.
     ManyUpdates {
         client: u32,
         word: StepWord,
@@ -177,7 +177,7 @@ pub enum Line {
     CommitClosed {
         client: u32,
     },
-    /// A commit was refused: 1,024 commits are pending.
+    /// A commit was refused: `MOST_PENDING` commits are pending.
     CommitPending {
         client: u32,
     },
