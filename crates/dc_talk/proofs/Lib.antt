@@ -8,3 +8,4 @@ pub mod Firsts
 pub mod Applied
 pub mod Places
 pub mod Growth
+pub mod Doors
