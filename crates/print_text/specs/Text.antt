@@ -9,11 +9,13 @@ use Rattle.vv_core.specs.Vectors.{most}
 use Rattle.tx_core.specs.declared.state.Value.{Value}
 use Rattle.tx_core.specs.declared.state.Value.TheVariants.{Number, Word, Words, Pairs}
 use Rattle.dc_talk.specs.declared.line.Line.{Line}
-use Rattle.dc_talk.specs.declared.line.Line.TheVariants.{At, Refused, ConnectMissed, BeginOpen, BeginClock, Closed, ManyUpdates, ManyTags, Unconnected, FetchMissed, FetchLacks, FetchPruned, FetchIgnored, ReadValue, CommitNumber, CommitNone, CommitClosed, CommitPending, AbortClosed, PushUnconnected, PushNone, Push, AgainNone, Again, Flushed, Sees, RefreshUnconnected, RefreshOpen, RefreshLacks, RefreshMissed, RefreshIgnored}
+use Rattle.dc_talk.specs.declared.line.Line.TheVariants.{At, Refused, ConnectMissed, BeginOpen, BeginClock, Closed, ManyUpdates, ManyTags, Unconnected, FetchMissed, FetchLacks, FetchPruned, FetchIgnored, ReadValue, CommitNumber, CommitNone, CommitClosed, CommitPending, AbortClosed, PushUnconnected, PushNone, Push, AgainNone, Again, Flushed, Sees, RefreshUnconnected, RefreshOpen, RefreshLacks, RefreshMissed, RefreshIgnored, Ship, ToldDown, ToldMisfit}
 use Rattle.dc_talk.specs.declared.line.Miss.{Miss}
 use Rattle.dc_talk.specs.declared.line.Miss.TheVariants.{Unreachable, Lost, Misfit}
 use Rattle.dc_talk.specs.declared.line.PushEnd.{PushEnd}
 use Rattle.dc_talk.specs.declared.line.PushEnd.TheVariants.{Stamped, Known, Full, Order, Lacks, Missed}
+use Rattle.dc_talk.specs.declared.line.ShipEnd.{ShipEnd}
+use Rattle.dc_talk.specs.declared.line.ShipEnd.TheVariants.{Absent, Applied, Alias, Old, Gap, Waits, Orphan, Trimmed, Down, Misfit as Undelivered}
 use Rattle.dc_talk.specs.declared.line.StepWord.{StepWord}
 use Rattle.dc_talk.specs.declared.line.StepWord.TheVariants.{Read}
 use Rattle.dc_talk.specs.declared.log.Deed.{Deed}
@@ -59,9 +61,13 @@ value_text (Word word) = word_or_none word
 value_text (Words words) = braced words
 value_text (Pairs pairs) = braced (map pair_text pairs)
 
--- what is lacked: the entry that is needed and the one that is there
+-- what is lacked, behind a word: the entry that is needed and the one that is there
+abbrev pub lacking_text : List ℕ → Lack → List ℕ
+lacking_text word lack = word ++ decimal lack.centre ++ codes ":" ++ decimal lack.need ++ codes " has " ++ decimal lack.have
+
+-- what an answering centre lacks
 abbrev pub lack_text : Lack → List ℕ
-lack_text lack = codes "lacks " ++ decimal lack.centre ++ codes ":" ++ decimal lack.need ++ codes " has " ++ decimal lack.have
+lack_text lack = lacking_text (codes "lacks ") lack
 
 -- why an ask has no reply that counts
 abbrev pub miss_text : Miss → List ℕ
@@ -81,6 +87,23 @@ end_text (Full limit) = codes "full " ++ decimal limit
 end_text (Order have) = codes "order " ++ decimal have
 end_text (Lacks lack) = lack_text lack
 end_text (Missed miss) = miss_text miss
+
+-- how a delivery by hand ended
+abbrev pub ship_end_text : ShipEnd → List ℕ
+ship_end_text (Absent seq) = codes "none " ++ decimal seq
+ship_end_text (Applied seq) = codes "applied " ++ decimal seq
+ship_end_text (Alias seq) = codes "alias " ++ decimal seq
+ship_end_text (Old have) = codes "old " ++ decimal have
+ship_end_text (Gap have) = codes "gap " ++ decimal have
+ship_end_text (Waits lack) = lacking_text (codes "waits ") lack
+ship_end_text (Orphan number have) = codes "orphan " ++ decimal number ++ codes " has " ++ decimal have
+ship_end_text (Trimmed low) = codes "trimmed " ++ decimal low
+ship_end_text (Down centre) = codes "down " ++ decimal centre
+ship_end_text Undelivered = codes "misfit"
+
+-- a centre, and another one behind a word: `2 from 1`
+abbrev pub centres_text : ℕ → List ℕ → ℕ → List ℕ
+centres_text to word from = decimal to ++ word ++ decimal from
 
 -- a line, without its line feed
 abbrev pub line_text : Line → List ℕ
@@ -115,6 +138,9 @@ line_text (RefreshOpen client) = client_text client ++ codes " refresh open"
 line_text (RefreshLacks client lack) = client_text client ++ codes " refresh " ++ lack_text lack
 line_text (RefreshMissed client miss) = client_text client ++ codes " refresh " ++ miss_text miss
 line_text (RefreshIgnored client) = client_text client ++ codes " refresh ignored"
+line_text (Ship from to end) = centres_text to (codes " from ") from ++ codes " " ++ ship_end_text end
+line_text (ToldDown from to centre) = centres_text to (codes " told ") from ++ codes " down " ++ decimal centre
+line_text (ToldMisfit from to) = centres_text to (codes " told ") from ++ codes " misfit"
 
 -- the line that a deed tells, with its line feed, and nothing of the other deeds
 abbrev pub told_text : Deed → List ℕ

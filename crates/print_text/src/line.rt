@@ -1,10 +1,10 @@
 // The lines of steps as bytes.
 ghost use Rattle.std.specs.Prelude.{◌≡◌, ◌++◌, OnOk, codes, decimal, map};
 ghost use Rattle.script_text.specs.Steps.{object_text};
-ghost use Rattle.print_text.specs.Text.{client_text, end_text, lack_text, later, line_text, miss_text, stamp_text, step_text, vector_text};
+ghost use Rattle.print_text.specs.Text.{centres_text, client_text, end_text, lack_text, lacking_text, later, line_text, miss_text, ship_end_text, stamp_text, step_text, vector_text};
 
 use crate::value::write_value;
-use dc_talk::{Line, Miss, PushEnd, StepWord};
+use dc_talk::{Line, Miss, PushEnd, ShipEnd, StepWord};
 use ids_core::{NoMemory, ObjectId, Sort};
 use itoa::Buffer;
 use vv_core::{Lack, Stamp, Vector};
@@ -136,6 +136,20 @@ pub fn write_line(text: &mut Vec<u8>, line: &Line) -> Result<(), NoMemory>
             write_miss(text, *miss)
         }
         Line::RefreshIgnored { client } => write_words(text, *client, b" refresh ignored"),
+        Line::Ship { from, to, end } => {
+            write_centres(text, *to, b" from ", *from)?;
+            text.extend_from_slice(b" ")?;
+            write_ship_end(text, end)
+        }
+        Line::ToldDown { from, to, centre } => {
+            write_centres(text, *to, b" told ", *from)?;
+            write_named(text, b" down ", u64::from(*centre))
+        }
+        Line::ToldMisfit { from, to } => {
+            write_centres(text, *to, b" told ", *from)?;
+            text.extend_from_slice(b" misfit")?;
+            Ok(())
+        }
     }
 }
 
@@ -344,9 +358,48 @@ fn write_stamp(text: &mut Vec<u8>, stamp: &Stamp) -> Result<(), NoMemory>
 fn write_lack(text: &mut Vec<u8>, lack: &Lack) -> Result<(), NoMemory>
     ensures { OnOk result (text.new.items ≡ text.old.items ++ lack_text lack.now) }
 {
-    write_named(text, b"lacks ", u64::from(lack.centre))?;
+    write_lacking(text, b"lacks ", lack)
+}
+
+// What is lacked, behind a word.
+fn write_lacking(text: &mut Vec<u8>, word: &[u8], lack: &Lack) -> Result<(), NoMemory>
+    ensures { OnOk result (text.new.items ≡ text.old.items ++ lacking_text word.now lack.now) }
+{
+    write_named(text, word, u64::from(lack.centre))?;
     write_named(text, b":", lack.need)?;
     write_named(text, b" has ", lack.have)
+}
+
+// How a delivery by hand ended.
+fn write_ship_end(text: &mut Vec<u8>, end: &ShipEnd) -> Result<(), NoMemory>
+    ensures { OnOk result (text.new.items ≡ text.old.items ++ ship_end_text end.now) }
+{
+    match end {
+        ShipEnd::Absent { seq } => write_named(text, b"none ", *seq),
+        ShipEnd::Applied { seq } => write_named(text, b"applied ", *seq),
+        ShipEnd::Alias { seq } => write_named(text, b"alias ", *seq),
+        ShipEnd::Old { have } => write_named(text, b"old ", *have),
+        ShipEnd::Gap { have } => write_named(text, b"gap ", *have),
+        ShipEnd::Waits { lack } => write_lacking(text, b"waits ", lack),
+        ShipEnd::Orphan { number, have } => {
+            write_named(text, b"orphan ", *number)?;
+            write_named(text, b" has ", *have)
+        }
+        ShipEnd::Trimmed { from } => write_named(text, b"trimmed ", *from),
+        ShipEnd::Down { centre } => write_named(text, b"down ", u64::from(*centre)),
+        ShipEnd::Misfit => {
+            text.extend_from_slice(b"misfit")?;
+            Ok(())
+        }
+    }
+}
+
+// A centre, and another one behind a word.
+fn write_centres(text: &mut Vec<u8>, to: u8, word: &[u8], from: u8) -> Result<(), NoMemory>
+    ensures { OnOk result (text.new.items ≡ text.old.items ++ centres_text to word.now from) }
+{
+    write_number(text, u64::from(to))?;
+    write_named(text, word, u64::from(from))
 }
 
 fn write_miss(text: &mut Vec<u8>, miss: Miss) -> Result<(), NoMemory>
