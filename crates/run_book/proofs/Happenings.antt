@@ -2,3 +2,7 @@
 pub mod Entries
 pub mod Places
 pub mod Fits
+pub mod Timely
+pub mod More
+pub mod Orders
+pub mod Playing

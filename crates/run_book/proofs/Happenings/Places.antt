@@ -1,8 +1,11 @@
 -- What holds of each that happened, at its place, and of the trails and logs of it.
-use Rattle.std.proofs.Common.{◌≡◌, ℕ, ◌+◌, ◌-◌, ◌*◌, ◌≤◌, ⊎_elim, List, length, take, Option, Some, refl, sym, ap, ◌∙◌, subst, arith, [], ◌∷◌}
+use Rattle.std.proofs.Common.{◌≡◌, ℕ, ◌+◌, ◌-◌, ◌*◌, ◌≤◌, ⊎_elim, List, length, take, Some, sym, ap, ◌∙◌, subst, arith}
 use Rattle.std.specs.Prelude.{slice_get}
 use Rattle.list_core.specs.Members.{In}
-use Rattle.list_core.proofs.Gets.{get_In, In_get}
+use Rattle.std.proofs.lemmas.Option.{slice_get_within}
+use Rattle.std.proofs.lemmas.List.{length-take, take-take}
+use Rattle.std.specs.Option.{option_map}
+use Rattle.list_core.proofs.Gets.{get_In, In_get, get_in_take}
 use Rattle.list_core.proofs.Members.{In_take}
 use Rattle.list_core.proofs.Passing.{In_filter_map, In_from_filter_map}
 use Rattle.tx_core.specs.declared.tx.Tx.{Tx}
@@ -24,6 +27,7 @@ use Rattle.dc_talk.specs.Rule.{Allows, Follows, client_after, commits_of}
 use Rattle.run_book.specs.Setups.{Setup, settings_among}
 use Rattle.run_book.specs.Parts.{IsClient}
 use Rattle.run_book.specs.Happenings.{Happened, note_by, notes_by, entry_in, trail_in, trails_in, GoesToOneOf, HasAnswer, WasSent, CarrierAllows, IsCarrier, ByClient, ByCarrier, AreTogether}
+use Rattle.run_book.proofs.Pairing.{exchanges}
 use Rattle.run_book.proofs.OwnAsks.{own_commit, delivers_none, teaches_none}
 use Rattle.run_book.proofs.Filtered.{from_place, each_filtered, to_place}
 use Rattle.run_book.proofs.Happenings.Entries.{IsMade, made_by, note_made, own_note, answer_given}
@@ -156,6 +160,19 @@ module _ (n k : ℕ) (setup : Setup) (all : List Happened) (t : AreTogether n k 
       let centre = reached_one p h i entry.ask made.exchange.fate there made.exchange.is in
       let at = to_place (entry_in i) all p h entry there makes in
       (t.histories i centre.0 centre.1).holds (length (trail_in i (take p all))) entry at.there ∙ ap (λ es. answer (settings_among n k setup i) es entry.ask) at.front
+
+  -- so where a deed tells of it
+  pub answered_deed : (p : ℕ) (h : Happened) (i : ℕ) (ask : Ask) (fate : Fate) (say : Say) → slice_get all p ≡ Some h → h.note.deed ≡ Asked i ask fate → answered fate ≡ Some say → say ≡ answer (settings_among n k setup i) (trail_in i (take p all)) ask
+  answered_deed p h i ask fate say there is told = answered_so p h i (entry_for h.actor (ask, say)) there (ap (λ deed. option_map (entry_for h.actor) (exchanged_in i deed)) is ∙ ap (option_map (entry_for h.actor)) (exchanges i ask say fate told))
+
+  -- and so in the front of a trail
+  pub answered_by_then : (p i q : ℕ) (entry : Entry) → slice_get (trail_in i (take p all)) q ≡ Some entry → entry.say ≡ answer (settings_among n k setup i) (take q (trail_in i (take p all))) entry.ask
+  answered_by_then p i q entry there =
+      let r = from_place (entry_in i) (take p all) q entry there in
+      let below = slice_get_within (take p all) r.place r.item r.there in
+      let long = length-take p all in
+      let front : trail_in i (take r.place all) ≡ take q (trail_in i (take p all)) = ap (trail_in i) (sym (take-take r.place p all (omega (arith, below, long)))) ∙ r.front in
+      answered_so r.place r.item i entry (get_in_take all p r.place r.item r.there) r.gives ∙ ap (λ es. answer (settings_among n k setup i) es entry.ask) front
 
   -- an answer was given by one of the centres, in an entry of its trail
   pub record IsInTrail (i : ℕ) (say : Say) : Type 0 where
