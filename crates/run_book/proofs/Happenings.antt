@@ -6,3 +6,5 @@ pub mod Timely
 pub mod More
 pub mod Orders
 pub mod Playing
+pub mod Reach
+pub mod Steps

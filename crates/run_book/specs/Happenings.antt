@@ -9,6 +9,7 @@ use Rattle.dc_talk.specs.declared.ask.Ask.{Ask}
 use Rattle.dc_talk.specs.declared.ask.Ask.TheVariants.{Send, Deliver, Report, Learn, Stop, Start}
 use Rattle.dc_talk.specs.declared.say.Say.{Say}
 use Rattle.dc_talk.specs.declared.say.Say.TheVariants.{Records, Vector}
+use Rattle.dc_talk.specs.declared.calls.Connection.{Connection}
 use Rattle.dc_talk.specs.declared.log.Deed.{Deed}
 use Rattle.dc_talk.specs.declared.log.Deed.TheVariants.{Did, Asked, Told}
 use Rattle.dc_talk.specs.declared.log.Note.{Note}
@@ -62,6 +63,11 @@ happening actor notes = map (λ note. record { actor = actor; note = note }) not
 abbrev pub GoesToOneOf : ℕ → Deed → Type 0
 GoesToOneOf n (Asked i ask fate) = (1 ≤ i) × (i ≤ n)
 GoesToOneOf n _ = Unit {0}
+
+-- a link, where there is one, is to one of n centres
+abbrev pub IsLinkWithin : ℕ → Option Connection → Type 0
+IsLinkWithin n None = Unit {0}
+IsLinkWithin n (Some link) = (1 ≤ link.centre) × (link.centre ≤ n)
 
 -- an answer stands in the trail, whoever asked and whether or not it was heard
 pub record HasAnswer (trail : List Entry) (say : Say) : Type 0 where

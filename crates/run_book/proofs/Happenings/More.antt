@@ -1,5 +1,5 @@
 -- What happened, with more of one actor.
-use Rattle.std.proofs.Common.{◌≡◌, ℕ, ◌+◌, ◌≤◌, inl, inr, List, [], ◌∷◌, ◌++◌, refl, sym, ap, ◌∙◌, subst, append_assoc}
+use Rattle.std.proofs.Common.{◌≡◌, ℕ, ◌+◌, ◌≤◌, inl, inr, List, [], ◌∷◌, ◌++◌, map, refl, sym, ap, ◌∙◌, subst, append_assoc}
 use Rattle.std.specs.Prelude.{All}
 use Rattle.std.specs.List.{cons_option}
 use Rattle.std.proofs.lemmas.List.{append-nil}
@@ -52,25 +52,25 @@ allows_as trails others same (Told line) h = tt
 
 module _ (n : ℕ) (setup : Setup) where
   -- more of a client
-  client_each : (client : ℕ) → (1 ≤ client) × (client ≤ setup.clients) → (more : List Note) (all : List Happened) (s : Client) (before : List Note) → before ≡ notes_by (client + 1) all → s ≡ client_after n client setup.capacity before → All (λ (note : Note). GoesToOneOf n note.deed) more → ClientDoes s before more → Each (Happens n setup) all → Each (Happens n setup) (all ++ happening (client + 1) more)
+  client_each : (client : ℕ) → (1 ≤ client) × (client ≤ setup.clients) → (more : List Note) (all : List Happened) (s : Client) (before : List Note) → before ≡ notes_by (client + 1) all → s ≡ client_after n client setup.capacity before → All (GoesToOneOf n) (map (λ (note : Note). note.deed) more) → ClientDoes s before more → Each (Happens n setup) all → Each (Happens n setup) (all ++ happening (client + 1) more)
   client_each client range [] all s before is state reach does each = subst (Each (Happens n setup)) (sym (append-nil all)) each
   client_each client range (note ∷ more) all s before is state reach does each =
       let one : Happened = record { actor = client + 1; note = note } in
       let allowed : Allows (client_after n client setup.capacity (notes_by (client + 1) all)) (notes_by (client + 1) all) note.deed = subst (λ ns. Allows (client_after n client setup.capacity ns) ns note.deed) is (subst (λ s. Allows s before note.deed) state does.0) in
-      let here : Happens n setup all one = record { reach = All-head (λ (note : Note). GoesToOneOf n note.deed) note more reach; by = inl (record { client = client; range = range; actor = refl; allowed = allowed }) } in
+      let here : Happens n setup all one = record { reach = All-head (GoesToOneOf n) note.deed (map (λ (note : Note). note.deed) more) reach; by = inl (record { client = client; range = range; actor = refl; allowed = allowed }) } in
       let notes : before ++ note ∷ [] ≡ notes_by (client + 1) (all ++ one ∷ []) = ap (λ ns. ns ++ note ∷ []) is ∙ sym (own_then (client + 1) all (note ∷ [])) in
       let next : after s note.deed ≡ client_after n client setup.capacity (before ++ note ∷ []) = ap (λ s. after s note.deed) state ∙ sym (fold_push (λ (s : Client) (note : Note). after s note.deed) (new_client n client setup.capacity) before note) in
       subst (Each (Happens n setup)) (append_assoc all (one ∷ []) (happening (client + 1) more))
-      (client_each client range more (all ++ one ∷ []) (after s note.deed) (before ++ note ∷ []) notes next (All-tail (λ (note : Note). GoesToOneOf n note.deed) note more reach) does.1 (each_more (Happens n setup) all one each here))
+      (client_each client range more (all ++ one ∷ []) (after s note.deed) (before ++ note ∷ []) notes next (All-tail (GoesToOneOf n) note.deed (map (λ (note : Note). note.deed) more) reach) does.1 (each_more (Happens n setup) all one each here))
 
   -- more of the operator or of a worker
-  carrier_each : (actor : ℕ) → IsCarrier n setup.clients actor → (more : List Note) (all : List Happened) (trails : ℕ → List Entry) → ((i : ℕ) → trails i ≡ trail_in i all) → All (λ (note : Note). GoesToOneOf n note.deed) more → CarrierDoes actor trails more → Each (Happens n setup) all → Each (Happens n setup) (all ++ happening actor more)
+  carrier_each : (actor : ℕ) → IsCarrier n setup.clients actor → (more : List Note) (all : List Happened) (trails : ℕ → List Entry) → ((i : ℕ) → trails i ≡ trail_in i all) → All (GoesToOneOf n) (map (λ (note : Note). note.deed) more) → CarrierDoes actor trails more → Each (Happens n setup) all → Each (Happens n setup) (all ++ happening actor more)
   carrier_each actor carrier [] all trails same reach does each = subst (Each (Happens n setup)) (sym (append-nil all)) each
   carrier_each actor carrier (note ∷ more) all trails same reach does each =
       let one : Happened = record { actor = actor; note = note } in
-      let here : Happens n setup all one = record { reach = All-head (λ (note : Note). GoesToOneOf n note.deed) note more reach; by = inr (record { carrier = carrier; allowed = allows_as trails (trails_in all) same note.deed does.0 }) } in
+      let here : Happens n setup all one = record { reach = All-head (GoesToOneOf n) note.deed (map (λ (note : Note). note.deed) more) reach; by = inr (record { carrier = carrier; allowed = allows_as trails (trails_in all) same note.deed does.0 }) } in
       subst (Each (Happens n setup)) (append_assoc all (one ∷ []) (happening actor more))
-      (carrier_each actor carrier more (all ++ one ∷ []) (trails_after actor note.deed trails) (λ i. ap (λ es. es ++ cons_option (entry_in i one) []) (same i) ∙ sym (trail_more i all one)) (All-tail (λ (note : Note). GoesToOneOf n note.deed) note more reach) does.1 (each_more (Happens n setup) all one each here))
+      (carrier_each actor carrier more (all ++ one ∷ []) (trails_after actor note.deed trails) (λ i. ap (λ es. es ++ cons_option (entry_in i one) []) (same i) ∙ sym (trail_more i all one)) (All-tail (GoesToOneOf n) note.deed (map (λ (note : Note). note.deed) more) reach) does.1 (each_more (Happens n setup) all one each here))
 
 -- ---- what happened together
 
@@ -88,14 +88,14 @@ module _ (n k : ℕ) (setup : Setup) where
   together_more all one t histories here = record { histories = histories; each = each_more (Happens n setup) all one t.each here }
 
   -- more of a client
-  pub client_then : (client : ℕ) (all : List Happened) (more : List Note) → (1 ≤ client) × (client ≤ setup.clients) → AreTogether n k setup all → AreHistories (all ++ happening (client + 1) more) → All (λ (note : Note). GoesToOneOf n note.deed) more → ClientDoes (client_after n client setup.capacity (notes_by (client + 1) all)) (notes_by (client + 1) all) more → AreTogether n k setup (all ++ happening (client + 1) more)
+  pub client_then : (client : ℕ) (all : List Happened) (more : List Note) → (1 ≤ client) × (client ≤ setup.clients) → AreTogether n k setup all → AreHistories (all ++ happening (client + 1) more) → All (GoesToOneOf n) (map (λ (note : Note). note.deed) more) → ClientDoes (client_after n client setup.capacity (notes_by (client + 1) all)) (notes_by (client + 1) all) more → AreTogether n k setup (all ++ happening (client + 1) more)
   client_then client all more range t histories reach does = record {
     histories = histories;
     each = client_each n setup client range more all (client_after n client setup.capacity (notes_by (client + 1) all)) (notes_by (client + 1) all) refl refl reach does t.each;
   }
 
   -- more of the operator or of a worker
-  pub carrier_then : (actor : ℕ) (all : List Happened) (more : List Note) → IsCarrier n setup.clients actor → AreTogether n k setup all → AreHistories (all ++ happening actor more) → All (λ (note : Note). GoesToOneOf n note.deed) more → CarrierDoes actor (trails_in all) more → AreTogether n k setup (all ++ happening actor more)
+  pub carrier_then : (actor : ℕ) (all : List Happened) (more : List Note) → IsCarrier n setup.clients actor → AreTogether n k setup all → AreHistories (all ++ happening actor more) → All (GoesToOneOf n) (map (λ (note : Note). note.deed) more) → CarrierDoes actor (trails_in all) more → AreTogether n k setup (all ++ happening actor more)
   carrier_then actor all more carrier t histories reach does = record {
     histories = histories;
     each = carrier_each n setup actor carrier more all (trails_in all) (λ i. refl) reach does t.each;
