@@ -8,3 +8,4 @@ pub mod Orders
 pub mod Playing
 pub mod Reach
 pub mod Steps
+pub mod Sending

@@ -160,11 +160,3 @@ pub record IsBookOf (b : Book) (n k clients : ℕ) (all : List Happened) : Type 
   pub trails : (i : ℕ) → 1 ≤ i → i ≤ n → trail_of b i ≡ trail_in i all
   pub actors : (a : ℕ) → 1 ≤ a → a ≤ 1 + clients + 4 * n → (log_of b a).actor ≡ a
   pub notes : (a : ℕ) → 1 ≤ a → a ≤ 1 + clients + 4 * n → notes_of b a ≡ notes_by a all
-
--- two entries of a trail with their notes, of which one happened before the other
-pub record AreInOrder (all : List Happened) (first later : Happened) : Type 0 where
-  pub place : ℕ
-  pub later_place : ℕ
-  pub before : place < later_place
-  pub there : slice_get all place ≡ Some first
-  pub later_there : slice_get all later_place ≡ Some later

@@ -16,7 +16,7 @@ use Rattle.run_book.specs.declared.book.Book.{Book}
 use Rattle.run_book.specs.Setups.{Setup}
 use Rattle.run_book.specs.Parts.{trail_of, notes_of, exchanged, reached, entries_by}
 use Rattle.run_book.specs.Scripted.{NotedEntry}
-use Rattle.run_book.specs.Happenings.{Happened, note_by, notes_by, all_notes, entry_in, trail_in, AreTogether, IsBookOf, AreInOrder}
+use Rattle.run_book.specs.Happenings.{Happened, note_by, notes_by, all_notes, entry_in, trail_in, AreTogether, IsBookOf}
 use Rattle.run_book.proofs.Pairing.{IsExchange, exchanges}
 use Rattle.run_book.proofs.Filtered.{to_place, filtered_few}
 use Rattle.run_book.proofs.Happenings.Entries.{own_note, paired_in}
@@ -66,6 +66,14 @@ ascend_at first last (other ∷ all) zero (suc q) h later ascend lt there later_
 ascend_at first last (other ∷ all) (suc p) (suc q) h later ascend lt there later_there = ascend_at other.note.section last all p q h later ascend.2 (omega (arith, lt)) there later_there
 
 -- ---- the order
+
+-- two of what happened, of which one happened before the other
+pub record AreInOrder (all : List Happened) (first later : Happened) : Type 0 where
+  pub place : ℕ
+  pub later_place : ℕ
+  pub before : place < later_place
+  pub there : slice_get all place ≡ Some first
+  pub later_there : slice_get all later_place ≡ Some later
 
 -- what left an entry with its note
 abbrev pub source : (b : Book) (i : ℕ) → NotedEntry b i → Happened
