@@ -1,5 +1,5 @@
 -- What happens among several centres and their callers, as one list.
-use Rattle.std.specs.Prelude.{◌≡◌, ℕ, ◌+◌, ◌*◌, ◌≤◌, ◌<◌, ◌⊎◌, cond, ◌==◌, length, map, List, [], ◌∷◌, ◌++◌, Option, Some, None, slice_get}
+use Rattle.std.specs.Prelude.{◌≡◌, ℕ, ◌+◌, ◌*◌, ◌≤◌, ◌⊎◌, cond, ◌==◌, length, map, List, [], ◌∷◌, ◌++◌, Option, Some, None}
 use Rattle.std.specs.List.{filter_map}
 use Rattle.list_core.specs.Members.{In}
 use Rattle.list_core.specs.Moments.{Each}
@@ -135,10 +135,14 @@ pub record Happens (n : ℕ) (setup : Setup) (before : List Happened) (one : Hap
   pub reach : GoesToOneOf n one.note.deed
   pub by : ByClient n setup before one ⊎ ByCarrier n setup before one
 
+-- after what happened each trail is a history of its centre
+abbrev pub AreHistories : ℕ → ℕ → Setup → List Happened → Type 0
+AreHistories n k setup all = (i : ℕ) → 1 ≤ i → i ≤ n → History (settings_among n k setup i) (trail_in i all)
+
 -- this happened, in this order, among n centres, of which k have to know an update before it is stable: each trail is
 -- a history of its centre, and each actor did what it may
 pub record AreTogether (n k : ℕ) (setup : Setup) (all : List Happened) : Type 0 where
-  pub histories : (i : ℕ) → 1 ≤ i → i ≤ n → History (settings_among n k setup i) (trail_in i all)
+  pub histories : AreHistories n k setup all
   pub each : Each (Happens n setup) all
 
 -- ---- the book of it

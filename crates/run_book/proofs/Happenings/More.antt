@@ -16,11 +16,10 @@ use Rattle.dc_talk.specs.declared.log.Deed.{Deed}
 use Rattle.dc_talk.specs.declared.log.Deed.TheVariants.{Did, Asked, Told}
 use Rattle.dc_talk.specs.declared.log.Note.{Note}
 use Rattle.dc_talk.specs.Entries.{Entry}
-use Rattle.dc_talk.specs.Answers.{History}
 use Rattle.dc_talk.specs.Clients.{Client, new_client}
 use Rattle.dc_talk.specs.Rule.{Allows, after, client_after}
-use Rattle.run_book.specs.Setups.{Setup, settings_among}
-use Rattle.run_book.specs.Happenings.{Happened, notes_by, entry_in, trail_in, trails_in, happening, GoesToOneOf, HasAnswer, CarrierAsks, CarrierAllows, ClientDoes, trails_after, CarrierDoes, IsCarrier, Happens, AreTogether}
+use Rattle.run_book.specs.Setups.{Setup}
+use Rattle.run_book.specs.Happenings.{Happened, notes_by, entry_in, trail_in, trails_in, happening, GoesToOneOf, HasAnswer, CarrierAsks, CarrierAllows, ClientDoes, trails_after, CarrierDoes, IsCarrier, Happens, AreHistories, AreTogether}
 use Rattle.run_book.proofs.Happenings.Entries.{own_then, trail_more}
 
 -- ---- by equal trails
@@ -75,27 +74,23 @@ module _ (n : ℕ) (setup : Setup) where
 -- ---- what happened together
 
 module _ (n k : ℕ) (setup : Setup) where
-  -- the trails are histories after what happened
-  abbrev pub AreHistories : List Happened → Type 0
-  AreHistories all = (i : ℕ) → 1 ≤ i → i ≤ n → History (settings_among n k setup i) (trail_in i all)
-
   -- nothing happened yet
   pub together_none : AreTogether n k setup []
   together_none = record { histories = λ i low high. each_none _; each = each_none (Happens n setup) }
 
   -- one more
-  pub together_more : (all : List Happened) (one : Happened) → AreTogether n k setup all → AreHistories (all ++ one ∷ []) → Happens n setup all one → AreTogether n k setup (all ++ one ∷ [])
+  pub together_more : (all : List Happened) (one : Happened) → AreTogether n k setup all → AreHistories n k setup (all ++ one ∷ []) → Happens n setup all one → AreTogether n k setup (all ++ one ∷ [])
   together_more all one t histories here = record { histories = histories; each = each_more (Happens n setup) all one t.each here }
 
   -- more of a client
-  pub client_then : (client : ℕ) (all : List Happened) (more : List Note) → (1 ≤ client) × (client ≤ setup.clients) → AreTogether n k setup all → AreHistories (all ++ happening (client + 1) more) → All (GoesToOneOf n) (map (λ (note : Note). note.deed) more) → ClientDoes (client_after n client setup.capacity (notes_by (client + 1) all)) (notes_by (client + 1) all) more → AreTogether n k setup (all ++ happening (client + 1) more)
+  pub client_then : (client : ℕ) (all : List Happened) (more : List Note) → (1 ≤ client) × (client ≤ setup.clients) → AreTogether n k setup all → AreHistories n k setup (all ++ happening (client + 1) more) → All (GoesToOneOf n) (map (λ (note : Note). note.deed) more) → ClientDoes (client_after n client setup.capacity (notes_by (client + 1) all)) (notes_by (client + 1) all) more → AreTogether n k setup (all ++ happening (client + 1) more)
   client_then client all more range t histories reach does = record {
     histories = histories;
     each = client_each n setup client range more all (client_after n client setup.capacity (notes_by (client + 1) all)) (notes_by (client + 1) all) refl refl reach does t.each;
   }
 
   -- more of the operator or of a worker
-  pub carrier_then : (actor : ℕ) (all : List Happened) (more : List Note) → IsCarrier n setup.clients actor → AreTogether n k setup all → AreHistories (all ++ happening actor more) → All (GoesToOneOf n) (map (λ (note : Note). note.deed) more) → CarrierDoes actor (trails_in all) more → AreTogether n k setup (all ++ happening actor more)
+  pub carrier_then : (actor : ℕ) (all : List Happened) (more : List Note) → IsCarrier n setup.clients actor → AreTogether n k setup all → AreHistories n k setup (all ++ happening actor more) → All (GoesToOneOf n) (map (λ (note : Note). note.deed) more) → CarrierDoes actor (trails_in all) more → AreTogether n k setup (all ++ happening actor more)
   carrier_then actor all more carrier t histories reach does = record {
     histories = histories;
     each = carrier_each n setup actor carrier more all (trails_in all) (λ i. refl) reach does t.each;

@@ -1,6 +1,6 @@
 -- What was sent and what was answered stays so as the trails grow, and a record of an answer was sent by its origin.
-use Rattle.std.proofs.Common.{◌≡◌, ℕ, ◌+◌, List, [], ◌∷◌, ◌++◌, take, refl, sym, subst, append_assoc, ◌∙◌}
-use Rattle.std.specs.Prelude.{◌==◌, slice_get, fold}
+use Rattle.std.proofs.Common.{◌≡◌, ℕ, List, [], ◌∷◌, ◌++◌, take, sym, subst, append_assoc, ◌∙◌}
+use Rattle.std.specs.Prelude.{◌==◌, fold}
 use Rattle.std.proofs.lemmas.Bool.{eqb-true}
 use Rattle.std.proofs.lemmas.List.{append-nil}
 use Rattle.list_core.specs.Members.{In}
