@@ -52,7 +52,7 @@ exchanged_is i (Did call outcome) ask say gives = absurd (none-some (ask, say) g
 exchanged_is i (Told line) ask say gives = absurd (none-some (ask, say) gives)
 
 -- an ask that the centre answered is an exchange
-exchanges : (i : ℕ) (ask : Ask) (say : Say) (fate : Fate) → answered fate ≡ Some say → exchanged_in i (Asked i ask fate) ≡ Some (ask, say)
+pub exchanges : (i : ℕ) (ask : Ask) (say : Say) (fate : Fate) → answered fate ≡ Some say → exchanged_in i (Asked i ask fate) ≡ Some (ask, say)
 exchanges i ask say fate told = ap (λ t. cond t (option_map {U = Ask × Say} (λ say. (ask, say)) (answered fate)) None) (eq-eqb i i refl) ∙ ap (option_map {U = Ask × Say} (λ say. (ask, say))) told
 
 -- with one more note that exchanged something there is one more exchange

@@ -28,7 +28,7 @@ use Rattle.run_book.specs.Parts.{trail_of, notes_of, IsClient}
 use Rattle.run_book.specs.Fit.{FitsWith}
 use Rattle.run_book.specs.Graphs.{client_at}
 use Rattle.run_book.proofs.Sessions.{can_follow-true}
-use Rattle.run_book.proofs.Happened.{heard_gives}
+use Rattle.run_book.proofs.OwnAsks.{heard_gives}
 use Rattle.run_book.proofs.Pairing.{HasEntry, has_entry}
 
 -- ---- one deed

@@ -1,7 +1,7 @@
 -- When the trails and the logs of a book belong together.
 use Rattle.std.specs.Prelude.{◌≡◌, ℕ, ◌+◌, ◌-◌, ◌*◌, ◌≤◌, length, List, Some, slice_get}
 use Rattle.list_core.specs.Members.{In}
-use Rattle.ids_core.specs.declared.limits.TheConstants.{MOST_CLIENTS, MOST_RECORDS}
+use Rattle.ids_core.specs.declared.limits.TheConstants.{MOST_CENTRES, MOST_CLIENTS, MOST_RECORDS}
 use Rattle.tx_core.specs.declared.tx.Tx.{Tx}
 use Rattle.tx_core.specs.declared.tx.Record.{Record}
 use Rattle.dc_talk.specs.declared.ask.Ask.{Ask}
@@ -23,7 +23,7 @@ use Rattle.run_book.specs.Graphs.{commits_at}
 -- a book in form: its numbers are in range, there is a trail for each centre and a log for each
 -- actor, callers are actors, asks go to centres, and calls stand in clients' logs
 pub record InForm (b : Book) (setup : Setup) : Type 0 where
-  pub n : (1 ≤ b.n) × (b.n ≤ 8)
+  pub n : (1 ≤ b.n) × (b.n ≤ MOST_CENTRES)
   pub k : (1 ≤ b.k) × (b.k ≤ b.n)
   pub clients_range : (1 ≤ setup.clients) × (setup.clients ≤ MOST_CLIENTS)
   pub trails : length b.trails ≡ b.n

@@ -10,7 +10,8 @@ pub mod Causal
 pub mod Laws
 pub mod Numbers
 pub mod Refusals
-pub mod Together
+pub mod Happenings
+pub mod Played
 pub mod Edits
 pub mod Replay
 pub mod Basis

@@ -1,5 +1,5 @@
 -- The parts of a book, and how its logs and trails tell of one another.
-use Rattle.std.specs.Prelude.{ℕ, zero, suc, ◌+◌, ◌≤◌, cond, ◌==◌, take, filter, List, [], Option, Some, None, is_some, slice_index_or}
+use Rattle.std.specs.Prelude.{ℕ, zero, suc, ◌+◌, ◌≤◌, cond, ◌==◌, take, filter, List, [], Some, None, is_some, slice_index_or}
 use Rattle.std.specs.List.{filter_map}
 use Rattle.tx_core.specs.declared.tx.Record.{Record}
 use Rattle.dc_talk.specs.declared.ask.Ask.{Ask}

@@ -15,6 +15,10 @@ pub record Setup : Type 0 where
 abbrev pub setup_of : Script → Setup
 setup_of script = record { clients = script.clients; limit = script.limit; capacity = script.cache }
 
+-- the settings of centre i among n, of which k have to know an update before it is stable
+abbrev pub settings_among : ℕ → ℕ → Setup → ℕ → Settings
+settings_among n k setup i = record { me = i; n = n; k = k; limit = setup.limit }
+
 -- the settings of centre i of a book
 abbrev pub centre_settings : Book → Setup → ℕ → Settings
-centre_settings b setup i = record { me = i; n = b.n; k = b.k; limit = setup.limit }
+centre_settings b setup i = settings_among b.n b.k setup i

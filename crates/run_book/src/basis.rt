@@ -14,7 +14,7 @@ ghost use Rattle.run_book.specs.Basis.{dot_stamped, stamped_dots, stamped_cover,
 use crate::book::Book;
 use crate::replay::Replay;
 use dc_talk::{Ask, Entry, Log, Note, Say};
-use ids_core::{Dot, NoMemory};
+use ids_core::{Dot, MOST_CENTRES, NoMemory};
 use std::alloc::Global;
 use vv_core::Vector;
 
@@ -45,7 +45,7 @@ impl Book {
         ensures { (a : ℕ) (setup : Setup) → FitsWith self.now setup → IsClient setup a → log.now ≡ log_of self.now a → Shows result (client_at self.now setup a 0) }
     {
         // A vector has 1 to 8 entries, and a book that fits as many centres.
-        Replay::new(self.n.clamp(1, 8), log.actor().saturating_sub(1))
+        Replay::new(self.n.clamp(1, MOST_CENTRES), log.actor().saturating_sub(1))
     }
 
     /// The client of a log after its first notes, of all where there are fewer.

@@ -21,6 +21,14 @@ ghost use Rattle.run_book.specs.Causal.{IsCausal};
 ghost use Rattle.run_book.specs.Refusals.{IsEntry, Exchange, Makes, IsPushAnswer, IsNoRefusal, IsReached};
 ghost use Rattle.run_book.specs.Laws.{HasSoundVectors, HasOneList, HasClosedBases, KeepsSessions, HasKnownBases, HasValues, Agrees, TakesSnapshots};
 ghost use Rattle.run_book.specs.Numbers.{HasNumbers};
+ghost use Rattle.run_book.specs.declared.book.Book.{Book};
+ghost use Rattle.run_book.specs.Refusals.{IsTimely};
+ghost use Rattle.run_book.specs.Scripted.{HasSteps};
+ghost use Rattle.run_book.specs.Happenings.{Happened, AreTogether, InRange, IsBookOf};
+ghost use Rattle.run_book.specs.Played.{HavePlayed};
+ghost use Rattle.run_book.specs.Setups.{setup_of};
+ghost use Rattle.script_text.specs.declared.script.Script.{Script};
+ghost use Rattle.script_text.specs.Deeds.{Progress};
 
 use crate::book::Book;
 
@@ -99,4 +107,13 @@ pub fn law_refusals(book: &Book)
 /// copies of commits may come late.
 pub fn law_causal(book: &Book)
     ensures { (setup : Setup) → FitsWith book.now setup → IsCausal book.now setup }
+{}
+
+/// What happened among several centres, one thing after another, each by the session rule or by the
+/// operator or a worker, where each trail is a history: the book of it fits and is timely. Where clients
+/// and the operator took the steps of a script, each a section of its own, the book has the script's steps.
+pub fn law_together()
+    ensures fits { (b : Book) (n k : ℕ) (setup : Setup) (all : List Happened) → InRange n k setup → IsBookOf b n k setup.clients all → AreTogether n k setup all → FitsWith b setup }
+    ensures timely { (b : Book) (n k : ℕ) (setup : Setup) (all : List Happened) → IsBookOf b n k setup.clients all → AreTogether n k setup all → IsTimely b setup }
+    ensures steps { (script : Script) (b : Book) (n k : ℕ) (all : List Happened) (come : ℕ → Progress) → IsBookOf b n k script.clients all → AreTogether n k (setup_of script) all → HavePlayed n (setup_of script) script.sections all come → HasSteps script b }
 {}

@@ -1,5 +1,6 @@
 // The acts on an object in nodes.
 ghost use Rattle.std.specs.Prelude.{◌≡◌, ◌<◌, ◌≤◌, ◌++◌, ◌∷◌, [], List, All, cond, flat_map, length, map, OnOk, IfOk};
+ghost use Rattle.ids_core.specs.declared.limits.TheConstants.{MOST_UPDATES};
 ghost use Rattle.ids_core.specs.Ids.{same_object};
 ghost use Rattle.dc_talk.specs.Objects.{mark};
 ghost use Rattle.tx_graph.specs.Nodes.{Node};
@@ -20,7 +21,7 @@ pub fn acts_over(
     dots: &[Dot],
     object: &ObjectId,
 ) -> Result<Vec<BareAct>, NoMemory>
-    ensures { IfOk result (λ acts. (whole : List Node) → nodes.now ≡ map bare_node whole → All (λ t. length t.updates ≤ 256) whole →
+    ensures { IfOk result (λ acts. (whole : List Node) → nodes.now ≡ map bare_node whole → All (λ t. length t.updates ≤ MOST_UPDATES) whole →
         acts.items ≡ map bare_of (flat_map (acts_of object.now) (nodes_in whole dots.now))) }
 {
     let mut acts = Vec::new(alloc);
@@ -37,7 +38,7 @@ fn push_acts_in(
     object: &ObjectId,
     acts: &mut Vec<BareAct>,
 ) -> Result<(), NoMemory>
-    ensures { OnOk result ((t : Node) → node.now ≡ bare_node t → length t.updates ≤ 256 →
+    ensures { OnOk result ((t : Node) → node.now ≡ bare_node t → length t.updates ≤ MOST_UPDATES →
         acts.new.items ≡ acts.old.items ++ map bare_of (flat_map (acts_of object.now) (nodes_in (t ∷ []) dots.now))) }
 {
     if is_in(&node.dot, dots) {
@@ -53,7 +54,7 @@ pub fn push_acts(
     object: &ObjectId,
     acts: &mut Vec<BareAct>,
 ) -> Result<(), NoMemory>
-    ensures { OnOk result ((t : Node) → node.now ≡ bare_node t → length t.updates ≤ 256 →
+    ensures { OnOk result ((t : Node) → node.now ≡ bare_node t → length t.updates ≤ MOST_UPDATES →
         acts.new.items ≡ acts.old.items ++ map bare_of (acts_of object.now t)) }
 {
     let edits = node.edits.as_slice();
@@ -71,7 +72,7 @@ fn push_act(
     edit: &Edit,
     acts: &mut Vec<BareAct>,
 ) -> Result<(), NoMemory>
-    ensures { OnOk result (place < 256 →
+    ensures { OnOk result (place < MOST_UPDATES →
         acts.new.items ≡ acts.old.items ++ cond (same_object edit.now.object object.now) (record { mark = mark node.now.rank node.now.dot place; deps = node.now.deps; change = edit.now.change } ∷ []) []) }
 {
     if edit.object != *object {

@@ -1,4 +1,5 @@
 // A client, by its log alone.
+ghost use Rattle.ids_core.specs.declared.limits.TheConstants.{MOST_CENTRES};
 ghost use Rattle.std.specs.Prelude.{◌≡◌, ◌≤◌, ℕ, List, OnOk, OnErr, IfOk};
 ghost use Rattle.dc_talk.specs.Clients.{Client, new_client, draft_updates};
 ghost use Rattle.dc_talk.specs.Calls.{did};
@@ -34,7 +35,7 @@ pub struct Replay {
 impl Replay {
     /// A client among `n` centres, before its first note.
     pub fn new(n: u8, client: u32) -> Replay
-        requires { (1 ≤ n) × (n ≤ 8) }
+        requires { (1 ≤ n) × (n ≤ MOST_CENTRES) }
         ensures { (capacity : ℕ) → Shows result (new_client n client capacity) }
     {
         Replay {

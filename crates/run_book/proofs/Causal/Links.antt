@@ -40,7 +40,7 @@ use Rattle.run_book.specs.Fit.{FitsWith}
 use Rattle.run_book.specs.Graphs.{client_at}
 use Rattle.run_book.specs.Refusals.{IsReached}
 use Rattle.run_book.proofs.Held.{held_after}
-use Rattle.run_book.proofs.Happened.{heard_gives}
+use Rattle.run_book.proofs.OwnAsks.{heard_gives}
 use Rattle.run_book.proofs.Pairing.{entry_by, HasEntry, has_entry, one_exchange}
 use Rattle.run_book.proofs.Served.{snap_within}
 use Rattle.run_book.proofs.Snapshots.{did_keeps}

@@ -21,7 +21,7 @@ use Rattle.run_book.specs.Fit.{FitsWith}
 use Rattle.run_book.specs.Graphs.{client_at}
 use Rattle.run_book.specs.Sound.{IsSound}
 use Rattle.run_book.proofs.Sessions.{by_notes}
-use Rattle.run_book.proofs.Happened.{heard_gives}
+use Rattle.run_book.proofs.OwnAsks.{heard_gives}
 use Rattle.run_book.proofs.Pairing.{entry_noted}
 use Rattle.run_book.proofs.Snapshots.{TakesSnapshot, deed_vector, same_refresh, is_joined}
 use Rattle.run_book.proofs.Causal.CentreVectors.{zeros_are_sound, join_is_sound, stable_sound}

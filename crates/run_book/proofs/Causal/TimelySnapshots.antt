@@ -29,7 +29,7 @@ use Rattle.run_book.proofs.Sessions.{can_follow-true}
 use Rattle.run_book.proofs.Held.{dot_at, held_after}
 use Rattle.run_book.proofs.Dots.{in_mine}
 use Rattle.run_book.proofs.Growth.{wide_after}
-use Rattle.run_book.proofs.Happened.{heard_gives}
+use Rattle.run_book.proofs.OwnAsks.{heard_gives}
 use Rattle.run_book.proofs.Pairing.{HasEntry, has_entry}
 use Rattle.run_book.proofs.Snapshots.{same_refresh}
 use Rattle.run_book.proofs.Causal.Origins.{each_at}

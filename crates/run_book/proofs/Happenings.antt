@@ -1,0 +1,11 @@
+-- What happens among several centres, and the book of it.
+pub mod Entries
+pub mod Places
+pub mod Fits
+pub mod Timely
+pub mod More
+pub mod Orders
+pub mod Playing
+pub mod Reach
+pub mod Steps
+pub mod Sending

@@ -1,0 +1,61 @@
+-- What was sent and what was answered stays so as the trails grow, and a record of an answer was sent by its origin.
+use Rattle.std.proofs.Common.{◌≡◌, ℕ, List, [], ◌∷◌, ◌++◌, take, sym, subst, append_assoc, ◌∙◌}
+use Rattle.std.specs.Prelude.{◌==◌, fold}
+use Rattle.std.proofs.lemmas.Bool.{eqb-true}
+use Rattle.std.proofs.lemmas.List.{append-nil}
+use Rattle.list_core.specs.Members.{In}
+use Rattle.list_core.proofs.Members.{In_left, In_from_filter}
+use Rattle.tx_core.specs.declared.tx.Record.{Record}
+use Rattle.dc_talk.specs.declared.say.Say.{Say}
+use Rattle.dc_talk.specs.declared.say.Say.TheVariants.{Records}
+use Rattle.dc_talk.specs.declared.log.Deed.{Deed}
+use Rattle.dc_talk.specs.declared.log.Note.{Note}
+use Rattle.dc_talk.specs.Entries.{Entry}
+use Rattle.dc_talk.specs.Logs.{entries_made}
+use Rattle.dc_talk.specs.Trails.{applied}
+use Rattle.dc_talk.specs.Answers.{answer}
+use Rattle.dc_talk.specs.Clients.{Client}
+use Rattle.dc_talk.specs.Rule.{Allows, after}
+use Rattle.dc_talk.proofs.PeerAnswers.{sent_by}
+use Rattle.run_book.specs.Setups.{Setup, settings_among}
+use Rattle.run_book.specs.Happenings.{Happened, trail_in, trails_in, HasAnswer, WasSent, CarrierAllows, ClientDoes, trails_after, CarrierDoes, AreTogether}
+use Rattle.run_book.proofs.Happenings.Places.{answer_there}
+
+-- ---- trails that grow
+
+-- an answer of a trail stands in a longer one
+pub answer_still : (trail more : List Entry) (say : Say) → HasAnswer trail say → HasAnswer (trail ++ more) say
+answer_still trail more say has = record { entry = has.entry; there = In_left trail more has.entry has.there; says = has.says }
+
+-- what was sent was sent after one more deed
+pub sent_still : (actor : ℕ) (deed : Deed) (item : Record) (trails : ℕ → List Entry) → WasSent trails item → WasSent (trails_after actor deed trails) item
+sent_still actor deed item trails was = record { list = was.list; answer = answer_still (trails item.stamp.centre) (entries_made actor item.stamp.centre (deed ∷ [])) (Records was.list) was.answer; has = was.has }
+
+-- a record of an answer with records was sent by its origin, which is the centre that answered
+pub sent_before : (n k : ℕ) (setup : Setup) (all : List Happened) → AreTogether n k setup all → (from : ℕ) (list : List Record) (item : Record) → HasAnswer (trail_in from all) (Records list) → In item list → WasSent (trails_in all) item
+sent_before n k setup all t from list item has there =
+    let at = answer_there n k setup all t from (Records list) has in
+    let front : List Entry = take at.place (trail_in from all) in
+    let said : Records list ≡ answer (settings_among n k setup from) front at.entry.ask = sym at.says ∙ (t.histories from at.centre.0 at.centre.1).holds at.place at.entry at.there in
+    let own : item.stamp.centre ≡ from = eqb-true item.stamp.centre from (In_from_filter (λ (r : Record). r.stamp.centre == from) (applied n front) item (sent_by (settings_among n k setup from) front at.entry.ask list item said there)).1 in
+    record { list = list; answer = subst (λ i. HasAnswer (trail_in i all) (Records list)) (sym own) has; has = there }
+
+-- ---- one note more of an actor
+
+-- what a client may note grows by one note
+pub client_one_more : (s : Client) (before done : List Note) (note : Note) → ClientDoes s before done → Allows (fold (λ s (note : Note). after s note.deed) s done) (before ++ done) note.deed → ClientDoes s before (done ++ note ∷ [])
+client_one_more s before [] note does allowed = (subst (λ ns. Allows s ns note.deed) (append-nil before) allowed, tt)
+client_one_more s before (first ∷ done) note does allowed = (
+  does.0,
+  client_one_more (after s first.deed) (before ++ first ∷ []) done note does.1 (subst (λ ns. Allows (fold (λ s (note : Note). after s note.deed) (after s first.deed) done) ns note.deed) (sym (append_assoc before (first ∷ []) done)) allowed),
+)
+
+-- the trails after notes of an actor
+abbrev pub trails_on : ℕ → List Note → (ℕ → List Entry) → ℕ → List Entry
+trails_on actor [] trails i = trails i
+trails_on actor (note ∷ notes) trails i = trails_on actor notes (trails_after actor note.deed trails) i
+
+-- what the operator or a worker may note grows by one note
+pub carrier_one_more : (actor : ℕ) (trails : ℕ → List Entry) (done : List Note) (note : Note) → CarrierDoes actor trails done → CarrierAllows (trails_on actor done trails) note.deed → CarrierDoes actor trails (done ++ note ∷ [])
+carrier_one_more actor trails [] note does allowed = (allowed, tt)
+carrier_one_more actor trails (first ∷ done) note does allowed = (does.0, carrier_one_more actor (trails_after actor first.deed trails) done note does.1 allowed)
