@@ -30,21 +30,35 @@ fn order_at(sections: &[Section], place: usize) -> Option<OperatorStep> {
     }
 }
 
-// The change that client 1 makes in the section at a place, of the object of that name, if it is one.
-fn change_at(sections: &[Section], place: usize, name: &[u8]) -> Option<Change> {
-    match does_at(sections, place, 1) {
-        Some(ClientStep::Change { object, change }) if object.name.as_slice() == name => {
-            Some(change)
-        }
+// The change that a client makes of the object of that name, if it is one.
+fn change_of(step: &ClientStep, name: &[u8]) -> Option<Change> {
+    match *step {
+        ClientStep::Change { object, change } if object.name.as_slice() == name => Some(change),
         _ => None,
     }
 }
 
+// The change of that object that client 1 makes in the section at a place.
+fn change_at(sections: &[Section], place: usize, name: &[u8]) -> Option<Change> {
+    match does_at(sections, place, 1) {
+        Some(step) => change_of(&step, name),
+        None => None,
+    }
+}
+
 // Whether a change puts a word under a key.
-fn is_put(change: Option<Change>, key: &[u8], word: &[u8]) -> bool {
+fn is_put(change: &Change, key: &[u8], word: &[u8]) -> bool {
     match change {
-        Some(Change::Put { key: at, word: put }) => at.as_slice() == key && put.as_slice() == word,
+        Change::Put { key: at, word: put } => at.as_slice() == key && put.as_slice() == word,
         _ => false,
+    }
+}
+
+// Whether client 1 puts a word under a key of the map of that name, in the section at a place.
+fn puts_at(sections: &[Section], place: usize, name: &[u8], key: &[u8], word: &[u8]) -> bool {
+    match change_at(sections, place, name) {
+        Some(change) => is_put(&change, key, word),
+        None => false,
     }
 }
 
@@ -59,7 +73,7 @@ fn a_script_has_its_settings_and_steps(rt: HostRuntime) -> Result<(), Fail> {
     assert_eq!(rt; sections.len(), 3);
     let connect = does_at(sections, 0, 1_024);
     assert!(rt; matches!(connect, Some(ClientStep::Connect { centre: 1 })));
-    assert!(rt; is_put(change_at(sections, 1, b"m"), b"k", b"w_1"));
+    assert!(rt; puts_at(sections, 1, b"m", b"k", b"w_1"));
     let inc = change_at(sections, 2, b"a_9");
     assert!(rt; matches!(inc, Some(Change::Inc { delta: -5 })));
     Ok(())
@@ -98,7 +112,9 @@ fn a_script_of_two_centres_has_its_faults(rt: HostRuntime) -> Result<(), Fail> {
     let sections = script.sections.as_slice();
     assert_eq!(rt; sections.len(), 4);
     let again = does_at(sections, 0, 1);
-    assert!(rt; matches!(again, Some(ClientStep::Again { centre: 2, number: 4_611_686_018_427_387_904 })));
+    assert!(rt;
+        matches!(again, Some(ClientStep::Again { centre: 2, number }) if number == 1 << 62)
+    );
     assert!(rt; matches!(fault_at(sections, 1), Some(AskFault::LoseAsk)));
     assert!(rt; matches!(fault_at(sections, 2), Some(AskFault::LoseReply)));
     assert!(rt; matches!(fault_at(sections, 3), Some(AskFault::Twice)));
