@@ -1,12 +1,12 @@
 -- The rows that a text's lines spell, as they are read one by one.
-use Rattle.std.proofs.Common.{◌≡◌, ℕ, List, [], ◌∷◌, ◌++◌, Option, Some, None, drop, length, refl, ap, sym, ◌∙◌, subst, append_assoc}
-use Rattle.std.specs.Prelude.{All, map, IfNone, IfSome, codes, decimal}
+use Rattle.std.proofs.Common.{◌≡◌, ℕ, List, [], ◌∷◌, ◌++◌, Option, Some, None, length, refl, ap, sym, ◌∙◌, subst, append_assoc}
+use Rattle.std.specs.Prelude.{All, map}
 use Rattle.std.proofs.lemmas.List.{map_push, append-nil}
-use Rattle.std.proofs.lemmas.List.Elements.{All-push, All-head, All-tail, All-nil}
+use Rattle.std.proofs.lemmas.List.Elements.{All-push, All-head, All-tail}
 use Rattle.std.proofs.Math.Seq.{take-append_seam}
 use Rattle.list_core.specs.Moments.{Each}
 use Rattle.list_core.proofs.Gets.{get_seam}
-use Rattle.list_core.proofs.Moments.{each_none, each_more}
+use Rattle.list_core.proofs.Moments.{each_more}
 use Rattle.script_text.specs.Rows.{row_text, IsRow, MayFollow}
 use Rattle.script_text.specs.Readings.{HasRead}
 use Rattle.script_text.specs.Scripts.{AreRows}
@@ -37,17 +37,6 @@ pub record Reads (header : Header) (lines : List (List ℕ)) (reading : Reading)
 -- what holds of the element behind a front, after what stands before it
 each_at : {X : Type 0} (P : List X → X → Type 0) (xs : List X) (x : X) (ys : List X) → Each P (xs ++ x ∷ ys) → P xs x
 each_at P xs x ys each = subst (λ before. P before x) (take-append_seam xs (x ∷ ys)) (each.holds (length xs) x (get_seam xs x ys))
-
--- at first no line was read
-pub reads_none : (header : Header) (lines : List (List ℕ)) (reading : Reading) → HasRead [] reading → Reads header lines reading lines
-reads_none header lines reading none = record {
-  rows = [];
-  spelled = refl;
-  each = All-nil (IsRow header);
-  order = each_none MayFollow;
-  read = none;
-  only = λ all each e. record { more = all; parts = refl; each = each; spelled = e };
-}
 
 -- what goes on over a line goes on with the one row that it spells
 row_on : (header : Header) (rows : List Row) (line : List ℕ) (rest : List (List ℕ)) (found : Option Row) (all : List Row) → IsOnly header line found → GoesOn header rows (line ∷ rest) all → (row : Row) × (found ≡ Some row) × GoesOn header (rows ++ row ∷ []) rest all
@@ -107,7 +96,3 @@ read_only header lines reading left none h all are =
     no_more : (more : List Row) → map row_text more ≡ [] → more ≡ []
     no_more [] e = refl
     no_more (row ∷ more) e = absurd (cc)
-
--- all lines were read
-pub read_all : (header : Header) (lines : List (List ℕ)) (reading : Reading) (left : List (List ℕ)) → left ≡ [] → Reads header lines reading left → (rows : List Row) × HasRead rows reading × AreRows header lines rows
-read_all header lines reading left none h = (h.rows, h.read, record { spelled = h.spelled ∙ (ap (λ ls. map row_text h.rows ++ ls) none ∙ append-nil (map row_text h.rows)); each = h.each; order = h.order })

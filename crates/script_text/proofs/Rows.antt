@@ -1,5 +1,5 @@
 -- The lines that set the size of a cache, and what rows set.
-use Rattle.std.proofs.Common.{◌≡◌, ◌≤◌, ℕ, List, [], ◌∷◌, ◌++◌, Option, Some, None, drop, get_or, length, refl, ap, sym, ◌∙◌, subst, inr, arith}
+use Rattle.std.proofs.Common.{◌≡◌, ℕ, List, [], ◌∷◌, ◌++◌, Option, Some, None, drop, get_or, length, refl, ap, sym, ◌∙◌, subst, inr, arith}
 use Rattle.std.specs.Prelude.{codes, decimal, fold, map, All, IfSome}
 use Rattle.std.specs.Option.{option_or, unwrap_or}
 use Rattle.std.proofs.lemmas.List.Sums.{fold_push}

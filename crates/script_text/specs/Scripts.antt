@@ -2,10 +2,10 @@
 use Rattle.std.specs.Prelude.{◌≡◌, ℕ, List, [], ◌∷◌, ◌++◌, All, map, codes, decimal}
 use Rattle.std.specs.Option.{unwrap_or}
 use Rattle.list_core.specs.Moments.{Each}
-use Rattle.ids_core.specs.declared.limits.TheConstants.{MOST_CACHED, MOST_RECORDS}
+use Rattle.ids_core.specs.declared.limits.TheConstants.{MOST_RECORDS}
 use Rattle.script_text.specs.Limits.{PassesLimits}
 use Rattle.script_text.specs.Lines.{lines_of}
-use Rattle.script_text.specs.Steps.{IsCount, IsHeader, IsStepOf}
+use Rattle.script_text.specs.Steps.{IsHeader}
 use Rattle.script_text.specs.Rows.{row_text, IsRow, MayFollow, cache_set, limit_set, set_in, sections_in}
 use Rattle.script_text.specs.declared.plain.row.Row.{Row}
 use Rattle.script_text.specs.declared.script.TheConstants.{DEFAULT_CACHE}

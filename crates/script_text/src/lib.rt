@@ -13,5 +13,5 @@ pub use input::Input;
 pub use limits::{LineCount, MAX_LINE, MAX_LINES};
 pub use object_call::ObjectCall;
 pub use plain::parse;
-pub use script::{Header, Script, ScriptFault};
+pub use script::{DEFAULT_CACHE, Header, Script, ScriptFault};
 pub use steps::{AskFault, ClientStep, OperatorStep, Section, Sections, Step, Steps};

@@ -89,11 +89,19 @@ fn again_of(n: u8, text: &[u8]) -> Option<ClientStep>
     ensures exact { (centre number : ℕ) → IsStep n (Again centre number) → decimal centre ++ 32 ∷ decimal number ≡ text.now → result ≡ Some (Again centre number) }
 {
     match at_byte(text, b' ') {
-        Some((centre, number)) => match read_u8(centre, n) {
-            Some(centre) => match read_count(number, MOST_NUMBER) {
-                Some(number) => Some(ClientStep::Again { centre, number }),
-                None => None,
-            },
+        Some((centre, number)) => copy_of(n, centre, number),
+        None => None,
+    }
+}
+
+// The late copy to this centre, of this number.
+fn copy_of(n: u8, centre: &[u8], number: &[u8]) -> Option<ClientStep>
+    ensures taken { IfSome result (λ step. IsStep n step × (does_text step ≡ codes "again " ++ (centre.now ++ 32 ∷ number.now))) }
+    ensures exact { (i m : ℕ) → IsStep n (Again i m) → decimal i ≡ centre.now → decimal m ≡ number.now → result ≡ Some (Again i m) }
+{
+    match read_u8(centre, n) {
+        Some(centre) => match read_count(number, MOST_NUMBER) {
+            Some(number) => Some(ClientStep::Again { centre, number }),
             None => None,
         },
         None => None,

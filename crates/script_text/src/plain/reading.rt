@@ -6,7 +6,7 @@ ghost use Rattle.script_text.specs.Readings.{HasRead};
 
 use crate::plain::row::Row;
 use crate::script::ScriptFault;
-use crate::steps::{ClientStep, Section, Sections, Step, Steps};
+use crate::steps::{Section, Sections, Step, Steps};
 use std::alloc::{AllocError, Global};
 
 /// The settings that lines set, and their sections.
@@ -50,19 +50,7 @@ impl Reading {
 fn section(alloc: Global, step: Step) -> Result<Section, AllocError>
     ensures { IfOk result (λ section. section ≡ section_of step) }
 {
-    // A change is taken apart, since the proof of the push has to name its type.
-    let step = match step {
-        Step::Client {
-            client,
-            step: ClientStep::Change { object, change },
-        } => Step::Client {
-            client,
-            step: ClientStep::Change { object, change },
-        },
-        other => other,
-    };
-    let mut steps = Steps::new(alloc);
-    steps.push(step)?;
+    let steps = Steps::from_vec(vec![in alloc; step]?);
     Ok(Section { steps })
 }
 

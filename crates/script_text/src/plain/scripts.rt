@@ -20,7 +20,8 @@ use crate::script::{DEFAULT_CACHE, Header, Script, ScriptFault};
 use ids_core::{MOST_CACHED, MOST_RECORDS};
 use std::alloc::Global;
 
-/// The one script that an input is, if it is one. An input that is none is refused.
+/// The one script that an input is. It is `Refused` where it is none, and `NoMemory` where there is no memory for
+/// its steps.
 pub fn parse(alloc: Global, input: &Input) -> Result<Script, ScriptFault>
     requires { IsTrue input.now.past_limits ↔ PassesLimits input.now.bytes.items }
     ensures taken { IfOk result (λ script. IsScript input.now.bytes.items script) }
