@@ -78,7 +78,7 @@ Delivers to (item ∷ items) last (deed ∷ deeds) end = (say : Say) × (deed �
 -- what follows the origin's answer to a send: deliveries of its records, or nothing
 abbrev pub AfterSend : Route → Option ShipEnd → Say → List Deed → Option ShipEnd → Type 0
 AfterSend r none (Records list) deeds end = Delivers r.to list none deeds end
-AfterSend r none say deeds end = (deeds ≡ []) × (end ≡ send_end r.from say)
+AfterSend r last say deeds end = (deeds ≡ []) × (end ≡ send_end r.from say)
 
 -- a send to the origin, and what follows it; the end is the one that is given where there are no records
 pub record Sends (r : Route) (none : Option ShipEnd) (ask : Ask) (deeds : List Deed) (end : Option ShipEnd) : Type 0 where
