@@ -9,3 +9,4 @@ pub mod Applied
 pub mod Places
 pub mod Growth
 pub mod Doors
+pub mod Acting

@@ -5,6 +5,7 @@ pub mod Trails
 pub mod Answers
 pub mod Logs
 pub mod Doors
+pub mod Acting
 pub mod ListDoors
 pub mod Clients
 pub mod Calls

@@ -77,15 +77,15 @@ Delivers to (item ∷ items) last (deed ∷ deeds) end = (say : Say) × (deed �
 
 -- what follows the origin's answer to a send: deliveries of its records, or nothing
 abbrev pub AfterSend : Route → Option ShipEnd → Say → List Deed → Option ShipEnd → Type 0
-AfterSend r none (Records list) deeds end = Delivers r.to list none deeds end
-AfterSend r none say deeds end = (deeds ≡ []) × (end ≡ send_end r.from say)
+AfterSend r last (Records list) deeds end = Delivers r.to list last deeds end
+AfterSend r last say deeds end = (deeds ≡ []) × (end ≡ send_end r.from say)
 
 -- a send to the origin, and what follows it; the end is the one that is given where there are no records
-pub record Sends (r : Route) (none : Option ShipEnd) (ask : Ask) (deeds : List Deed) (end : Option ShipEnd) : Type 0 where
+pub record Sends (r : Route) (last : Option ShipEnd) (ask : Ask) (deeds : List Deed) (end : Option ShipEnd) : Type 0 where
   pub say : Say
   pub later : List Deed
   pub whole : deeds ≡ Asked r.from ask (Unheard say) ∷ later
-  pub follows : AfterSend r none say later end
+  pub follows : AfterSend r last say later end
 
 -- what follows the report of the centre that is delivered to: a send for what it lacks of the origin's
 abbrev pub AfterReport : Route → Say → List Deed → Option ShipEnd → Type 0
