@@ -11,7 +11,8 @@ use Rattle.script_text.specs.declared.steps.OperatorStep.{OperatorStep}
 use Rattle.script_text.specs.declared.steps.Step.{Step}
 use Rattle.script_text.specs.declared.steps.Step.TheVariants.{Client, Operator}
 use Rattle.script_text.specs.declared.steps.Section.{Section}
-use Rattle.script_text.specs.Deeds.{Progress, StepDeeds, OperatorDeeds, stepped}
+use Rattle.script_text.specs.Deeds.{Progress, StepDeeds, stepped}
+use Rattle.script_text.specs.Orders.{OperatorDeeds}
 use Rattle.run_book.specs.declared.book.Book.{Book}
 use Rattle.run_book.specs.Parts.{trail_of, notes_of, reached, entries_by}
 
@@ -71,10 +72,10 @@ pub data Plays : Progress → List (Placed ClientStep) → List Note → Type 0 
   no_steps : {p : Progress} → Plays p [] []
   first_step : {p : Progress} {line : Placed ClientStep} {lines : List (Placed ClientStep)} {notes : List Note} (mine later : List Note) → notes ≡ mine ++ later → All (IsAt line.section line.step) mine → StepDeeds p line.does (map (λ note. note.deed) mine) → Plays (stepped p line.does mine) lines later → Plays p (line ∷ lines) notes
 
--- the notes are those of the operator's steps, one step's after another's
-pub data Operates : List (Placed OperatorStep) → List Note → Type 0 where
-  no_orders : Operates [] []
-  first_order : {line : Placed OperatorStep} {lines : List (Placed OperatorStep)} {notes : List Note} (mine later : List Note) → notes ≡ mine ++ later → All (IsAt line.section line.step) mine → OperatorDeeds line.does (map (λ note. note.deed) mine) → Operates lines later → Operates (line ∷ lines) notes
+-- the notes are those of the operator's steps among n centres, one step's after another's
+pub data Operates (n : ℕ) : List (Placed OperatorStep) → List Note → Type 0 where
+  no_orders : Operates n [] []
+  first_order : {line : Placed OperatorStep} {lines : List (Placed OperatorStep)} {notes : List Note} (mine later : List Note) → notes ≡ mine ++ later → All (IsAt line.section line.step) mine → OperatorDeeds n line.does (map (λ note. note.deed) mine) → Operates n lines later → Operates n (line ∷ lines) notes
 
 -- where a caller's turn stands in a step: the clients in ascending order, then the operator, then the
 -- workers by number
@@ -95,7 +96,7 @@ pub record NotedEntry (b : Book) (i : ℕ) : Type 0 where
 -- entries stand by section, and in a section by step, and in a step by turn
 pub record HasSteps (script : Script) (b : Book) : Type 0 where
   pub clients : (client : ℕ) → 1 ≤ client → client ≤ script.clients → Plays (new_progress b.n client script.cache) (steps_of client script) (notes_of b (client + 1))
-  pub operator : Operates (orders_of script) (notes_of b 1)
+  pub operator : Operates b.n (orders_of script) (notes_of b 1)
   pub workers : (a : ℕ) → script.clients + 1 < a → notes_of b a ≡ []
   pub by_section : (i : ℕ) (first later : NotedEntry b i) → first.place < later.place → first.note.section ≤ later.note.section
   pub by_turn : (i : ℕ) (first later : NotedEntry b i) → first.place < later.place → first.note.section ≡ later.note.section → (first.note.step < later.note.step) ⊎ ((first.note.step ≡ later.note.step) × (turn script.clients first.entry.caller ≤ turn script.clients later.entry.caller))

@@ -7,3 +7,4 @@ pub mod Rows
 pub mod Readings
 pub mod FewLines
 pub mod Scripts
+pub mod Provenance

@@ -8,3 +8,4 @@ pub mod Scripts
 pub mod Deeds
 pub mod Carrying
 pub mod Orders
+pub mod Provenance
