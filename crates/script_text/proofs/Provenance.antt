@@ -86,12 +86,12 @@ delivers_carry before to [] last deeds end sent is = subst (CarriesAll before) (
 delivers_carry before to (item ∷ items) last [] end sent is = tt
 delivers_carry before to (item ∷ items) last (deed ∷ deeds) end sent (say, asks, rest) = (
   subst (Carries before) (sym asks) (sent item (inl refl)),
-  go (is_there say) rest,
+  go (is_there say) rest (λ more. delivers_carry (before ++ deed ∷ []) to items (delivery_end to item say) deeds end (λ other among. sent_before before (deed ∷ []) other (sent other (inr among))) more),
 )
   where
-    go : (test : Bool) → MatchBool test (Delivers to items (delivery_end to item say) deeds end) ((deeds ≡ []) × (end ≡ delivery_end to item say)) → CarriesAll (before ++ deed ∷ []) deeds
-    go true more = delivers_carry (before ++ deed ∷ []) to items (delivery_end to item say) deeds end (λ other among. sent_before before (deed ∷ []) other (sent other (inr among))) more
-    go false none = subst (CarriesAll (before ++ deed ∷ [])) (sym none.0) tt
+    go : (test : Bool) → MatchBool test (Delivers to items (delivery_end to item say) deeds end) ((deeds ≡ []) × (end ≡ delivery_end to item say)) → (Delivers to items (delivery_end to item say) deeds end → CarriesAll (before ++ deed ∷ []) deeds) → CarriesAll (before ++ deed ∷ []) deeds
+    go true more carry = carry more
+    go false none carry = subst (CarriesAll (before ++ deed ∷ [])) (sym none.0) tt
 
 -- what follows a send
 after_send_carries : (before : List Deed) (r : Route) (last : Option ShipEnd) (after most : ℕ) (say : Say) (deeds : List Deed) (end : Option ShipEnd) → AfterSend r last say deeds end → CarriesAll (before ++ Asked r.from (Send after most) (Unheard say) ∷ []) deeds
