@@ -9,3 +9,6 @@ pub mod Playing
 pub mod Reach
 pub mod Steps
 pub mod Sending
+pub mod Carrying
+pub mod OperatorSteps
+pub mod Again

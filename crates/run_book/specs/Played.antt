@@ -38,7 +38,7 @@ pub record IsOfStep (sections : List Section) (h : Happened) : Type 0 where
 -- client has come so far
 pub record HavePlayed (n : ℕ) (setup : Setup) (sections : List Section) (all : List Happened) (come : ℕ → Progress) : Type 0 where
   pub clients : (client : ℕ) → 1 ≤ client → client ≤ setup.clients → ComesTo (new_progress n client setup.capacity) (placed_from (client_steps client) 1 sections) (notes_by (client + 1) all) (come client)
-  pub operator : Operates (placed_from operator_steps 1 sections) (notes_by 1 all)
+  pub operator : Operates n (placed_from operator_steps 1 sections) (notes_by 1 all)
   pub workers : (a : ℕ) → setup.clients + 1 < a → notes_by a all ≡ []
   pub of_steps : All (IsOfStep sections) all
   pub ascend : Ascend 1 (length sections) (all_notes all)

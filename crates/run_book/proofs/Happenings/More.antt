@@ -42,7 +42,7 @@ asks_as trails others same (ask.Fetch o here) h = absurd h
 asks_as trails others same (ask.Commit tx) h = absurd h
 
 -- and so with what it may do
-allows_as : (trails others : ℕ → List Entry) → ((i : ℕ) → trails i ≡ others i) → (deed : Deed) → CarrierAllows trails deed → CarrierAllows others deed
+pub allows_as : (trails others : ℕ → List Entry) → ((i : ℕ) → trails i ≡ others i) → (deed : Deed) → CarrierAllows trails deed → CarrierAllows others deed
 allows_as trails others same (Asked i a fate) h = asks_as trails others same a h
 allows_as trails others same (Did call outcome) h = absurd h
 allows_as trails others same (Told line) h = tt

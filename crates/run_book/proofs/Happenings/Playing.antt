@@ -21,7 +21,8 @@ use Rattle.script_text.specs.declared.steps.Step.{Step}
 use Rattle.script_text.specs.declared.steps.Step.TheVariants.{Client, Operator}
 use Rattle.script_text.specs.declared.steps.Section.{Section}
 use Rattle.script_text.specs.Rows.{section_of}
-use Rattle.script_text.specs.Deeds.{Progress, StepDeeds, OperatorDeeds, stepped}
+use Rattle.script_text.specs.Deeds.{Progress, StepDeeds, stepped}
+use Rattle.script_text.specs.Orders.{OperatorDeeds}
 use Rattle.run_book.specs.declared.book.Book.{Book}
 use Rattle.run_book.specs.Setups.{Setup, setup_of}
 use Rattle.run_book.specs.Parts.{notes_of}
@@ -56,10 +57,10 @@ comes_played old new lines notes come =
     (subst (Plays old (lines ++ [])) (append-nil notes) (come.goes_on [] [] no_steps))
 
 -- the operator's notes, with one step more
-operates_more : (lines : List (Placed OperatorStep)) (line : Placed OperatorStep) (notes mine : List Note) → Operates lines notes → All (IsAt line.section line.step) mine → OperatorDeeds line.does (map (λ (note : Note). note.deed) mine) → Operates (lines ++ line ∷ []) (notes ++ mine)
-operates_more _ line _ mine no_orders here deeds = first_order mine [] (sym (append-nil mine)) here deeds no_orders
-operates_more (first ∷ lines) line notes mine (first_order now later parts there first_deeds rest) here deeds =
-    first_order now (later ++ mine) (ap (λ (ns : List Note). ns ++ mine) parts ∙ append_assoc now later mine) there first_deeds (operates_more lines line later mine rest here deeds)
+operates_more : (n : ℕ) (lines : List (Placed OperatorStep)) (line : Placed OperatorStep) (notes mine : List Note) → Operates n lines notes → All (IsAt line.section line.step) mine → OperatorDeeds n line.does (map (λ (note : Note). note.deed) mine) → Operates n (lines ++ line ∷ []) (notes ++ mine)
+operates_more n _ line _ mine no_orders here deeds = first_order mine [] (sym (append-nil mine)) here deeds no_orders
+operates_more n (first ∷ lines) line notes mine (first_order now later parts there first_deeds rest) here deeds =
+    first_order now (later ++ mine) (ap (λ (ns : List Note). ns ++ mine) parts ∙ append_assoc now later mine) there first_deeds (operates_more n lines line later mine rest here deeds)
 
 -- ---- sections of one step
 
@@ -135,8 +136,8 @@ module _ (n : ℕ) (setup : Setup) (sections : List Section) (all : List Happene
             (λ (same : client ≡ other). subst (λ c. ComesTo (new_progress n c setup.capacity) (placed_from (client_steps c) 1 (sections ++ section_of (Client client does) ∷ [])) (notes_by (c + 1) (all ++ happening (client + 1) mine)) (later c)) same here)
             (λ (differs : client ≢ other). away other low high differs)
             (same_or client other);
-        operator = subst (λ ls. Operates ls (notes_by 1 (all ++ happening (client + 1) mine))) (sym (kept_placed operator_steps sections (section_of (Client client does)) refl))
-            (subst (Operates (placed_from operator_steps 1 sections)) (sym (other_then (client + 1) 1 all mine (λ e. omega (arith, e, range.0)))) h.operator);
+        operator = subst (λ ls. Operates n ls (notes_by 1 (all ++ happening (client + 1) mine))) (sym (kept_placed operator_steps sections (section_of (Client client does)) refl))
+            (subst (Operates n (placed_from operator_steps 1 sections)) (sym (other_then (client + 1) 1 all mine (λ e. omega (arith, e, range.0)))) h.operator);
         workers = λ a past. other_then (client + 1) a all mine (λ e. omega (arith, e, past, range.1)) ∙ h.workers a past;
         of_steps = list.0;
         ascend = list.1;
@@ -160,7 +161,7 @@ module _ (n : ℕ) (setup : Setup) (sections : List Section) (all : List Happene
           (h.clients other low high)))
 
   -- the operator took one step more
-  pub operator_played : (does : OperatorStep) (mine : List Note) (come : ℕ → Progress) → HavePlayed n setup sections all come → All (IsAt (length sections + 1) 1) mine → OperatorDeeds does (map (λ (note : Note). note.deed) mine) → HavePlayed n setup (sections ++ section_of (Operator does) ∷ []) (all ++ happening 1 mine) come
+  pub operator_played : (does : OperatorStep) (mine : List Note) (come : ℕ → Progress) → HavePlayed n setup sections all come → All (IsAt (length sections + 1) 1) mine → OperatorDeeds n does (map (λ (note : Note). note.deed) mine) → HavePlayed n setup (sections ++ section_of (Operator does) ∷ []) (all ++ happening 1 mine) come
   operator_played does mine come h at deeds =
       let list = longer (Operator does) mine h.of_steps h.ascend at in
       record {
@@ -168,9 +169,9 @@ module _ (n : ℕ) (setup : Setup) (sections : List Section) (all : List Happene
             subst (λ ns. ComesTo (new_progress n client setup.capacity) (placed_from (client_steps client) 1 (sections ++ section_of (Operator does) ∷ [])) ns (come client)) (sym (other_then 1 (client + 1) all mine (λ e. omega (arith, e, low))))
             (subst (λ ls. ComesTo (new_progress n client setup.capacity) ls (notes_by (client + 1) all) (come client)) (sym (kept_placed (client_steps client) sections (section_of (Operator does)) refl)) (h.clients client low high));
         operator =
-            subst (λ ls. Operates ls (notes_by 1 (all ++ happening 1 mine))) (sym (more_placed operator_steps sections (section_of (Operator does)) does refl))
-            (subst (Operates (placed_from operator_steps 1 sections ++ line_of (length sections + 1) does ∷ [])) (sym (own_then 1 all mine))
-            (operates_more (placed_from operator_steps 1 sections) (line_of (length sections + 1) does) (notes_by 1 all) mine h.operator at deeds));
+            subst (λ ls. Operates n ls (notes_by 1 (all ++ happening 1 mine))) (sym (more_placed operator_steps sections (section_of (Operator does)) does refl))
+            (subst (Operates n (placed_from operator_steps 1 sections ++ line_of (length sections + 1) does ∷ [])) (sym (own_then 1 all mine))
+            (operates_more n (placed_from operator_steps 1 sections) (line_of (length sections + 1) does) (notes_by 1 all) mine h.operator at deeds));
         workers = λ a past. other_then 1 a all mine (λ e. omega (arith, e, past)) ∙ h.workers a past;
         of_steps = list.0;
         ascend = list.1;
@@ -235,7 +236,9 @@ module _ (script : Script) (b : Book) (n k : ℕ) (all : List Happened) (come : 
         subst (λ ns. Plays (new_progress b.n client script.cache) (steps_of client script) ns) (sym (is.notes (client + 1) (omega arith) (omega (arith, high))))
         (subst (λ n. Plays (new_progress n client script.cache) (steps_of client script) (notes_by (client + 1) all)) (sym is.n_is)
         (comes_played (new_progress n client script.cache) (come client) (steps_of client script) (notes_by (client + 1) all) (h.clients client low high)));
-    operator = subst (Operates (orders_of script)) (sym (is.notes 1 (omega arith) (omega arith))) h.operator;
+    operator =
+        subst (Operates b.n (orders_of script)) (sym (is.notes 1 (omega arith) (omega arith)))
+        (subst (λ n. Operates n (orders_of script) (notes_by 1 all)) (sym is.n_is) h.operator);
     workers = idle;
     by_section = sections_rise;
     by_turn = λ i first later lt same. inr (one_turn i first later lt same);

@@ -1,5 +1,5 @@
--- The asks of a step go to centres that there are, and so does the link of each client.
-use Rattle.std.proofs.Common.{◌≡◌, ℕ, ◌≤◌, Bool, true, false, cond, List, [], ◌∷◌, ◌++◌, map, take, Option, Some, None, refl, sym, subst}
+-- The asks of a client's step go to centres that there are, and so does the link of each client.
+use Rattle.std.proofs.Common.{◌≡◌, ℕ, ◌≤◌, Bool, true, false, cond, List, [], ◌∷◌, ◌++◌, take, Option, Some, None, refl, sym, subst}
 use Rattle.std.specs.Prelude.{All}
 use Rattle.std.proofs.lemmas.List.Sums.{fold_push}
 use Rattle.std.proofs.lemmas.List.Elements.{All-nil, All-cons, All-append, All-head, All-tail}
@@ -7,7 +7,7 @@ use Rattle.list_core.proofs.Moments.{by_steps}
 use Rattle.tx_core.specs.declared.tx.Tx.{Tx}
 use Rattle.tx_core.specs.declared.tx.Update.{Update}
 use Rattle.dc_talk.specs.declared.ask.Ask.{Ask}
-use Rattle.dc_talk.specs.declared.ask.Ask.TheVariants.{Hello, Refresh as RefreshAsk, Fetch, Commit as CommitAsk, Stop, Start}
+use Rattle.dc_talk.specs.declared.ask.Ask.TheVariants.{Hello, Refresh as RefreshAsk, Fetch, Commit as CommitAsk}
 use Rattle.dc_talk.specs.declared.say.Say.{Say}
 use Rattle.dc_talk.specs.declared.say.Say.TheVariants.{Welcome, Snap, Object, Known, Stamped}
 use Rattle.dc_talk.specs.declared.calls.Connection.{Connection}
@@ -23,8 +23,6 @@ use Rattle.dc_talk.specs.declared.log.Fate.TheVariants.{Heard, Unheard}
 use Rattle.dc_talk.specs.declared.log.Note.{Note}
 use Rattle.dc_talk.specs.declared.line.Line.{Line}
 use Rattle.dc_talk.specs.declared.line.Line.TheVariants as line
-use Rattle.dc_talk.specs.Entries.{Entry}
-use Rattle.dc_talk.specs.Logs.{marked}
 use Rattle.dc_talk.specs.Clients.{Client, new_client}
 use Rattle.dc_talk.specs.Calls.{outcome_of, did}
 use Rattle.dc_talk.specs.Rule.{after, heard, takes, taken, sent_through, next_commit, hello_of, refresh_of, fetch_of, client_after}
@@ -33,12 +31,10 @@ use Rattle.script_text.specs.declared.steps.AskFault.{AskFault}
 use Rattle.script_text.specs.declared.steps.AskFault.TheVariants.{LoseAsk, LoseReply, Twice}
 use Rattle.script_text.specs.declared.steps.ClientStep.{ClientStep}
 use Rattle.script_text.specs.declared.steps.ClientStep.TheVariants.{Connect, Begin, Change, Read, Commit, Abort, Push, Flush, Refresh, Again, Arm}
-use Rattle.script_text.specs.declared.steps.OperatorStep.{OperatorStep}
-use Rattle.script_text.specs.declared.steps.OperatorStep.TheVariants.{Down, Up}
-use Rattle.script_text.specs.Steps.{IsStep, IsOperatorStep}
-use Rattle.script_text.specs.Deeds.{Progress, StepDeeds, OperatorDeeds, Asks, OrTells, OverNext, Pushes, PushesOn, FetchDeeds, CallDeeds, FlushDeeds, flush_ends, flush_goes, RefreshDeeds, AgainDeeds, after_all, after_fetch, calls, call_line, change_call, read_call, commit_sent, copies, fate_of, fetch_line, goes_on, hello_line, push_line, pushed, refresh_line, again_line, told, took}
+use Rattle.script_text.specs.Steps.{IsStep}
+use Rattle.script_text.specs.Deeds.{Progress, StepDeeds, Asks, OrTells, OverNext, Pushes, PushesOn, FetchDeeds, CallDeeds, FlushDeeds, flush_ends, flush_goes, RefreshDeeds, AgainDeeds, after_all, after_fetch, calls, call_line, change_call, read_call, commit_sent, copies, fate_of, fetch_line, goes_on, hello_line, push_line, pushed, refresh_line, again_line, told, took}
 use Rattle.run_book.specs.Setups.{Setup}
-use Rattle.run_book.specs.Happenings.{Happened, notes_by, GoesToOneOf, IsLinkWithin, CarrierDoes, AreTogether}
+use Rattle.run_book.specs.Happenings.{Happened, notes_by, GoesToOneOf, IsLinkWithin, AreTogether}
 use Rattle.run_book.proofs.Happenings.Places.{noted}
 
 -- ---- the link
@@ -89,11 +85,12 @@ module _ (n : ℕ) where
 
   -- ---- the deeds of a step
 
-  one_go : (deed : Deed) (deeds : List Deed) → GoesToOneOf n deed → AllGo deeds → AllGo (deed ∷ deeds)
+  -- one deed more in front
+  pub one_go : (deed : Deed) (deeds : List Deed) → GoesToOneOf n deed → AllGo deeds → AllGo (deed ∷ deeds)
   one_go deed deeds here rest = All-cons (GoesToOneOf n) deed deeds here rest
 
   -- a line that is told
-  told_go : (l : Option Line) → AllGo (told l)
+  pub told_go : (l : Option Line) → AllGo (told l)
   told_go None = All-nil (GoesToOneOf n)
   told_go (Some line) = one_go _ [] tt (All-nil (GoesToOneOf n))
 
@@ -186,15 +183,6 @@ module _ (n : ℕ) where
   step_go p Refresh deeds is within refresh = link_go p.client (line.RefreshUnconnected p.client.client) (RefreshDeeds p p.client.draft) deeds within (λ link range refresh. refresh_go p p.client.draft deeds link range refresh) refresh
   step_go p (Again centre number) deeds is within again = over_go (commit_sent number p.notes) (line.AgainNone p.client.client centre number) (AgainDeeds p.client.client centre number) deeds (λ tx there again. again_go p.client.client centre number tx deeds is.0 again) again
   step_go p (Arm fault) deeds is within are = subst AllGo (sym are) (All-nil (GoesToOneOf n))
-
-  -- the operator's step asks what a carrier may, of a centre that there is
-  pub order_go : (step : OperatorStep) (deeds : List Deed) → IsOperatorStep n step → OperatorDeeds step deeds → AllGo deeds
-  order_go (Down centre) deeds is are = subst AllGo (sym are.1) (one_go (Asked centre Stop (Unheard are.0)) [] is (All-nil (GoesToOneOf n)))
-  order_go (Up centre) deeds is are = subst AllGo (sym are.1) (one_go (Asked centre Start (Unheard are.0)) [] is (All-nil (GoesToOneOf n)))
-
-pub order_does : (step : OperatorStep) (actor section place : ℕ) (deeds : List Deed) (trails : ℕ → List Entry) → OperatorDeeds step deeds → CarrierDoes actor trails (map (marked section place) deeds)
-order_does (Down centre) actor section place deeds trails are = subst (λ deeds. CarrierDoes actor trails (map (marked section place) deeds)) (sym are.1) (tt, tt)
-order_does (Up centre) actor section place deeds trails are = subst (λ deeds. CarrierDoes actor trails (map (marked section place) deeds)) (sym are.1) (tt, tt)
 
 -- ---- what happened
 

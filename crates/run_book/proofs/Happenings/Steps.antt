@@ -12,13 +12,15 @@ use Rattle.script_text.specs.declared.steps.Section.{Section}
 use Rattle.script_text.specs.declared.steps.Step.TheVariants.{Client as ClientTakes, Operator as OperatorTakes}
 use Rattle.script_text.specs.Steps.{IsStep, IsOperatorStep}
 use Rattle.script_text.specs.Rows.{section_of}
-use Rattle.script_text.specs.Deeds.{Progress, StepDeeds, OperatorDeeds, stepped}
+use Rattle.script_text.specs.Deeds.{Progress, StepDeeds, stepped}
+use Rattle.script_text.specs.Orders.{OperatorDeeds}
 use Rattle.run_book.specs.Setups.{Setup}
-use Rattle.run_book.specs.Happenings.{Happened, notes_by, trail_in, trails_in, happening, GoesToOneOf, IsLinkWithin, ClientDoes, AreHistories, AreTogether}
+use Rattle.run_book.specs.Happenings.{Happened, notes_by, trail_in, happening, GoesToOneOf, IsLinkWithin, ClientDoes, AreHistories, AreTogether}
 use Rattle.run_book.specs.Played.{HavePlayed}
 use Rattle.run_book.proofs.Happenings.Entries.{trail_then, deeds_marked}
 use Rattle.run_book.proofs.Happenings.More.{client_then, carrier_then, operator_carries}
-use Rattle.run_book.proofs.Happenings.Reach.{step_go, order_go, order_does, link_within}
+use Rattle.run_book.proofs.Happenings.Reach.{step_go, link_within}
+use Rattle.run_book.proofs.Happenings.OperatorSteps.{order_go, order_does}
 use Rattle.run_book.proofs.Happenings.Playing.{all_at, client_played, operator_played}
 
 -- the trail of a centre after deeds of an actor that it noted at a section and step
@@ -55,10 +57,10 @@ module _ (n k : ℕ) (setup : Setup) (sections : List Section) (all : List Happe
       )
 
   -- the operator took its step
-  pub operator_takes : (does : OperatorStep) (deeds : List Deed) → IsOperatorStep n does → OperatorDeeds does deeds → AreHistories n k setup (all ++ happening 1 (next_notes sections deeds)) → AreTogether n k setup (all ++ happening 1 (next_notes sections deeds)) × HavePlayed n setup (sections ++ section_of (OperatorTakes does) ∷ []) (all ++ happening 1 (next_notes sections deeds)) come
+  pub operator_takes : (does : OperatorStep) (deeds : List Deed) → IsOperatorStep n does → OperatorDeeds n does deeds → AreHistories n k setup (all ++ happening 1 (next_notes sections deeds)) → AreTogether n k setup (all ++ happening 1 (next_notes sections deeds)) × HavePlayed n setup (sections ++ section_of (OperatorTakes does) ∷ []) (all ++ happening 1 (next_notes sections deeds)) come
   operator_takes does deeds is are histories =
       let back : map (λ (note : Note). note.deed) (next_notes sections deeds) ≡ deeds = deeds_marked (length sections + 1) 1 deeds in
       let go : All (GoesToOneOf n) (map (λ (note : Note). note.deed) (next_notes sections deeds)) = subst (All (GoesToOneOf n)) (sym back) (order_go n does deeds is are) in (
-        carrier_then n k setup 1 all (next_notes sections deeds) (operator_carries n setup.clients) t histories go (order_does does 1 (length sections + 1) 1 deeds (trails_in all) are),
-        operator_played n setup sections all does (next_notes sections deeds) come h (all_at (length sections + 1) 1 deeds) (subst (OperatorDeeds does) (sym back) are),
+        carrier_then n k setup 1 all (next_notes sections deeds) (operator_carries n setup.clients) t histories go (order_does n k setup all does (length sections + 1) 1 deeds t histories is are),
+        operator_played n setup sections all does (next_notes sections deeds) come h (all_at (length sections + 1) 1 deeds) (subst (OperatorDeeds n does) (sym back) are),
       )

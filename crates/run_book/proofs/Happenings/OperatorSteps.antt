@@ -1,0 +1,144 @@
+-- The asks of the operator's steps go to centres that there are, and a carrier may ask them.
+use Rattle.std.proofs.Common.{◌≡◌, ℕ, inl, inr, Bool, true, false, ◌==◌, List, [], ◌∷◌, ◌++◌, map, Option, None, Some, refl, sym, subst, arith}
+use Rattle.std.specs.Prelude.{All, MatchBool, filter, not}
+use Rattle.std.proofs.lemmas.List.Elements.{All-nil, All-append}
+use Rattle.list_core.specs.Members.{In}
+use Rattle.list_core.proofs.Members.{In_from_map, In_from_flat_map, In_from_filter}
+use Rattle.list_core.proofs.Ranges.{In_from_range}
+use Rattle.vv_core.specs.Vectors.{centres}
+use Rattle.tx_core.specs.declared.tx.Record.{Record}
+use Rattle.dc_talk.specs.declared.ask.Ask.{Ask}
+use Rattle.dc_talk.specs.declared.ask.Ask.TheVariants.{Stop, Start, Report, Learn}
+use Rattle.dc_talk.specs.declared.say.Say.{Say}
+use Rattle.dc_talk.specs.declared.say.Say.TheVariants.{Records, Vector}
+use Rattle.dc_talk.specs.declared.log.Fate.TheVariants.{Unheard}
+use Rattle.dc_talk.specs.declared.log.Deed.{Deed}
+use Rattle.dc_talk.specs.declared.log.Deed.TheVariants.{Asked}
+use Rattle.dc_talk.specs.declared.line.ShipEnd.{ShipEnd}
+use Rattle.dc_talk.specs.declared.line.Line.{Line}
+use Rattle.dc_talk.specs.Logs.{marked}
+use Rattle.script_text.specs.declared.steps.OperatorStep.{OperatorStep}
+use Rattle.script_text.specs.declared.steps.OperatorStep.TheVariants.{Down, Up, ShipOne, Ship, Tell, Settle}
+use Rattle.script_text.specs.Steps.{IsCount, IsOperatorStep}
+use Rattle.script_text.specs.Deeds.{told}
+use Rattle.script_text.specs.Carrying.{Route, route, routes, ship_line, is_there, delivery_end, Delivers, AfterSend, Sends, AfterReport, Ships, AfterTold, Tells, InTurn, no_turn, next_turn, Passes, Settles, last_pass, one_pass}
+use Rattle.script_text.specs.Orders.{OperatorDeeds}
+use Rattle.script_text.specs.Provenance.{CarriesAll}
+use Rattle.script_text.proofs.Provenance.{carries_both, sends_carry, ships_carry, tells_carry, settles_carry}
+use Rattle.run_book.specs.Setups.{Setup}
+use Rattle.run_book.specs.Happenings.{Happened, trails_in, happening, GoesToOneOf, CarrierDoes, AreHistories, AreTogether}
+use Rattle.run_book.proofs.Happenings.Entries.{deeds_marked}
+use Rattle.run_book.proofs.Happenings.More.{operator_carries}
+use Rattle.run_book.proofs.Happenings.Reach.{AllGo, one_go, told_go}
+use Rattle.run_book.proofs.Happenings.Carrying.{carries_does}
+
+-- ---- which centres are asked
+
+module _ (n : ℕ) where
+  -- the route is between centres that there are
+  abbrev pub IsWithin : Route → Type 0
+  IsWithin r = IsCount n r.from × IsCount n r.to
+
+  -- no deeds
+  none_go : (deeds : List Deed) → deeds ≡ [] → AllGo n deeds
+  none_go deeds none = subst (AllGo n) (sym none) (All-nil (GoesToOneOf n))
+
+  -- an ask, and what follows it
+  ask_go : (i : ℕ) (ask : Ask) (say : Say) (later deeds : List Deed) → IsCount n i → deeds ≡ Asked i ask (Unheard say) ∷ later → AllGo n later → AllGo n deeds
+  ask_go i ask say later deeds range whole rest = subst (AllGo n) (sym whole) (one_go n (Asked i ask (Unheard say)) later range rest)
+
+  -- asks, and a line
+  line_go : (asks : List Deed) (line : Option Line) (deeds : List Deed) → deeds ≡ asks ++ told line → AllGo n asks → AllGo n deeds
+  line_go asks line deeds whole go = subst (AllGo n) (sym whole) (All-append (GoesToOneOf n) asks (told line) go (told_go n line))
+
+  -- deliveries, and what leads to them
+  delivers_go : (to : ℕ) (items : List Record) (last : Option ShipEnd) (deeds : List Deed) (end : Option ShipEnd) → IsCount n to → Delivers to items last deeds end → AllGo n deeds
+  delivers_go to [] last deeds end range is = none_go deeds is.0
+  delivers_go to (item ∷ items) last [] end range is = absurd is
+  delivers_go to (item ∷ items) last (deed ∷ deeds) end range (say, asks, rest) =
+      one_go n deed deeds (subst (GoesToOneOf n) (sym asks) range) (go (is_there say) rest (delivers_go to items (delivery_end to item say) deeds end range))
+    where
+      go : (test : Bool) → MatchBool test (Delivers to items (delivery_end to item say) deeds end) ((deeds ≡ []) × (end ≡ delivery_end to item say)) → (Delivers to items (delivery_end to item say) deeds end → AllGo n deeds) → AllGo n deeds
+      go true more each = each more
+      go false none each = none_go deeds none.0
+
+  after_send_go : (r : Route) (last : Option ShipEnd) (say : Say) (deeds : List Deed) (end : Option ShipEnd) → IsWithin r → AfterSend r last say deeds end → AllGo n deeds
+  after_send_go r last (Records list) deeds end within is = delivers_go r.to list last deeds end within.1 is
+  after_send_go r last say deeds end within is = none_go deeds is.0
+
+  sends_go : (r : Route) (last : Option ShipEnd) (ask : Ask) (deeds : List Deed) (end : Option ShipEnd) → IsWithin r → Sends r last ask deeds end → AllGo n deeds
+  sends_go r last ask deeds end within is = ask_go r.from ask is.say is.later deeds within.0 is.whole (after_send_go r last is.say is.later end within is.follows)
+
+  after_report_go : (r : Route) (say : Say) (deeds : List Deed) (end : Option ShipEnd) → IsWithin r → AfterReport r say deeds end → AllGo n deeds
+  after_report_go r (Vector vector) deeds end within is = sends_go r None _ deeds end within is
+  after_report_go r say deeds end within is = none_go deeds is.0
+
+  ships_go : (r : Route) (deeds : List Deed) (end : Option ShipEnd) → IsWithin r → Ships r deeds end → AllGo n deeds
+  ships_go r deeds end within is = ask_go r.to Report is.say is.later deeds within.1 is.whole (after_report_go r is.say is.later end within is.follows)
+
+  -- what is told
+  after_told_go : (r : Route) (say : Say) (deeds : List Deed) (line : Option Line) → IsWithin r → AfterTold r say deeds line → AllGo n deeds
+  after_told_go r (Vector vector) deeds line within is = ask_go r.to (Learn r.from vector) is.0 [] deeds within.1 is.1 (All-nil (GoesToOneOf n))
+  after_told_go r say deeds line within is = none_go deeds is.0
+
+  tells_go : (r : Route) (deeds : List Deed) (line : Option Line) → IsWithin r → Tells r deeds line → AllGo n deeds
+  tells_go r deeds line within is = ask_go r.from Report is.say is.later deeds within.0 is.whole (after_told_go r is.say is.later line within is.follows)
+
+  -- the deeds of each in turn
+  turns_go : {X : Type 0} (Does : X → List Deed → Type 0) (xs : List X) (deeds : List Deed) → ((x : X) (deeds : List Deed) → In x xs → Does x deeds → AllGo n deeds) → InTurn Does xs deeds → AllGo n deeds
+  turns_go Does [] deeds each no_turn = All-nil (GoesToOneOf n)
+  turns_go Does (x ∷ xs) deeds each (next_turn first later whole does rest) = subst (AllGo n) (sym whole) (All-append (GoesToOneOf n) first later (each x first (inl refl) does) (turns_go Does xs later (λ y ds there. each y ds (inr there)) rest))
+
+  -- each route of a settling is within
+  routes_within : (r : Route) → In r (routes n) → IsWithin r
+  routes_within r there =
+      let from = In_from_flat_map (λ i. map (route i) (filter (λ j. not (i == j)) (centres n))) (centres n) r there in
+      let to = In_from_map (route from.0) (filter (λ j. not (from.0 == j)) (centres n)) r from.2 in
+      let low = In_from_range 1 n from.0 from.1 in
+      let high = In_from_range 1 n to.0 (In_from_filter (λ j. not (from.0 == j)) (centres n) to.0 to.1).0 in
+      subst IsWithin (sym to.2) ((low.0, omega (arith, low.1)), (high.0, omega (arith, high.1)))
+
+  passes_go : (deeds : List Deed) → Passes n deeds → AllGo n deeds
+  passes_go deeds is = subst (AllGo n) (sym is.whole) (All-append (GoesToOneOf n) is.ships is.tells
+      (turns_go (λ r deeds. (end : Option ShipEnd) × Ships r deeds end) (routes n) is.ships (λ r deeds there does. ships_go r deeds does.0 (routes_within r there) does.1) is.shipped)
+      (turns_go (λ r deeds. (line : Option Line) × Tells r deeds line) (routes n) is.tells (λ r deeds there does. tells_go r deeds does.0 (routes_within r there) does.1) is.told_all))
+
+  settles_go : (deeds : List Deed) → Settles n deeds → AllGo n deeds
+  settles_go deeds (last_pass passed none) = passes_go deeds passed
+  settles_go deeds (one_pass first later whole passed some rest) = subst (AllGo n) (sym whole) (All-append (GoesToOneOf n) first later (passes_go first passed) (settles_go later rest))
+
+  -- the asks of the operator's step go to centres that there are
+  pub order_go : (step : OperatorStep) (deeds : List Deed) → IsOperatorStep n step → OperatorDeeds n step deeds → AllGo n deeds
+  order_go (Down centre) deeds is are = ask_go centre Stop are.0 [] deeds is are.1 (All-nil (GoesToOneOf n))
+  order_go (Up centre) deeds is are = ask_go centre Start are.0 [] deeds is are.1 (All-nil (GoesToOneOf n))
+  order_go (ShipOne from to seq) deeds is are = line_go are.asks (ship_line (route from to) are.end) deeds are.whole (sends_go (route from to) _ _ are.asks are.end (is.0.from_there, is.0.to_there) are.sends)
+  order_go (Ship from to) deeds is are = line_go are.asks (ship_line (route from to) are.end) deeds are.whole (ships_go (route from to) are.asks are.end (is.from_there, is.to_there) are.ships)
+  order_go (Tell from to) deeds is are = line_go are.asks are.line deeds are.whole (tells_go (route from to) are.asks are.line (is.from_there, is.to_there) are.tells)
+  order_go Settle deeds is are = settles_go deeds are
+
+-- ---- what is carried
+
+-- a line carries nothing
+line_carries : (asks : List Deed) (line : Option Line) (deeds : List Deed) → deeds ≡ asks ++ told line → CarriesAll [] asks → CarriesAll [] deeds
+line_carries asks line deeds whole carries = subst (CarriesAll []) (sym whole) (carries_both asks (told line) carries (nothing line))
+  where
+    nothing : (line : Option Line) → CarriesAll [] (told line)
+    nothing None = tt
+    nothing (Some line) = (tt, tt)
+
+-- the operator's step carries what its own asks brought
+pub order_carries : (n : ℕ) (step : OperatorStep) (deeds : List Deed) → OperatorDeeds n step deeds → CarriesAll [] deeds
+order_carries n (Down centre) deeds are = subst (CarriesAll []) (sym are.1) (tt, tt)
+order_carries n (Up centre) deeds are = subst (CarriesAll []) (sym are.1) (tt, tt)
+order_carries n (ShipOne from to seq) deeds are = line_carries are.asks (ship_line (route from to) are.end) deeds are.whole (sends_carry [] (route from to) _ _ _ are.asks are.end are.sends)
+order_carries n (Ship from to) deeds are = line_carries are.asks (ship_line (route from to) are.end) deeds are.whole (ships_carry (route from to) are.asks are.end are.ships)
+order_carries n (Tell from to) deeds are = line_carries are.asks are.line deeds are.whole (tells_carry (route from to) are.asks are.line are.tells)
+order_carries n Settle deeds are = settles_carry n deeds are
+
+-- so the operator does it as a carrier, where the trails with it are histories
+pub order_does : (n k : ℕ) (setup : Setup) (all : List Happened) (step : OperatorStep) (section place : ℕ) (deeds : List Deed) → AreTogether n k setup all → AreHistories n k setup (all ++ happening 1 (map (marked section place) deeds)) → IsOperatorStep n step → OperatorDeeds n step deeds → CarrierDoes 1 (trails_in all) (map (marked section place) deeds)
+order_does n k setup all step section place deeds t histories is are =
+    let back = sym (deeds_marked section place deeds) in
+    carries_does n k setup 1 (operator_carries n setup.clients) all [] (map (marked section place) deeds) t (λ deed there. absurd there) histories
+    (subst (All (GoesToOneOf n)) back (order_go n step deeds is are))
+    (subst (CarriesAll []) back (order_carries n step deeds are))
