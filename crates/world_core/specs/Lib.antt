@@ -1,2 +1,3 @@
-pub mod Seating
-pub mod Shared
+pub mod Worlds
+pub mod Events
+pub mod Runs

@@ -1,8 +1,13 @@
-//! The system on one thread: clients that take the steps of a script beside a centre, the text that
-//! they are told, and the book of the run.
+//! The system on one thread: centres that a door owns, clients, and an operator. A world plays events in any order,
+//! and a script step by step; the book of what happened fits in either case.
 #![tactic(auto)]
 
-mod table;
+mod event;
+mod finding;
+mod playing;
+mod serial;
 mod world;
 
-pub use world::{Run, play_steps};
+pub use event::{Event, Played};
+pub use serial::serial;
+pub use world::World;
