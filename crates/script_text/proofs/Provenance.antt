@@ -86,18 +86,18 @@ delivers_carry before to [] last deeds end sent is = subst (CarriesAll before) (
 delivers_carry before to (item ∷ items) last [] end sent is = tt
 delivers_carry before to (item ∷ items) last (deed ∷ deeds) end sent (say, asks, rest) = (
   subst (Carries before) (sym asks) (sent item (inl refl)),
-  go (is_there say) rest,
+  go (is_there say) rest (λ more. delivers_carry (before ++ deed ∷ []) to items (delivery_end to item say) deeds end (λ other among. sent_before before (deed ∷ []) other (sent other (inr among))) more),
 )
   where
-    go : (test : Bool) → MatchBool test (Delivers to items (delivery_end to item say) deeds end) ((deeds ≡ []) × (end ≡ delivery_end to item say)) → CarriesAll (before ++ deed ∷ []) deeds
-    go true more = delivers_carry (before ++ deed ∷ []) to items (delivery_end to item say) deeds end (λ other among. sent_before before (deed ∷ []) other (sent other (inr among))) more
-    go false none = subst (CarriesAll (before ++ deed ∷ [])) (sym none.0) tt
+    go : (test : Bool) → MatchBool test (Delivers to items (delivery_end to item say) deeds end) ((deeds ≡ []) × (end ≡ delivery_end to item say)) → (Delivers to items (delivery_end to item say) deeds end → CarriesAll (before ++ deed ∷ []) deeds) → CarriesAll (before ++ deed ∷ []) deeds
+    go true more carry = carry more
+    go false none carry = subst (CarriesAll (before ++ deed ∷ [])) (sym none.0) tt
 
 -- what follows a send
 after_send_carries : (before : List Deed) (r : Route) (last : Option ShipEnd) (after most : ℕ) (say : Say) (deeds : List Deed) (end : Option ShipEnd) → AfterSend r last say deeds end → CarriesAll (before ++ Asked r.from (Send after most) (Unheard say) ∷ []) deeds
 after_send_carries before r last after most (Records list) deeds end is =
     delivers_carry (before ++ Asked r.from (Send after most) (Unheard (Records list)) ∷ []) r.to list last deeds end
-        (λ item among. record { centre = r.from; after = after; most = most; list = list; answer = brought before r.from (Send after most) (Records list); among = among }) is
+    (λ item among. record { centre = r.from; after = after; most = most; list = list; answer = brought before r.from (Send after most) (Records list); among = among }) is
 after_send_carries before r last after most say deeds end is = subst (CarriesAll (before ++ Asked r.from (Send after most) (Unheard say) ∷ [])) (sym is.0) tt
 
 pub sends_carry : (before : List Deed) (r : Route) (last : Option ShipEnd) (after most : ℕ) (deeds : List Deed) (end : Option ShipEnd) → Sends r last (Send after most) deeds end → CarriesAll before deeds
