@@ -11,7 +11,6 @@ use Rattle.script_text.specs.Rows.{row_text, IsRow, IsLine, MayFollow, cache_set
 use Rattle.script_text.specs.Readings.{HasRead}
 use Rattle.script_text.specs.declared.script.Header.{Header}
 use Rattle.script_text.specs.declared.script.TheConstants.{DEFAULT_CACHE}
-use Rattle.script_text.specs.declared.steps.OperatorStep.TheVariants.{Down, Up}
 use Rattle.script_text.specs.declared.steps.Section.{Section}
 use Rattle.script_text.specs.declared.steps.Step.{Step}
 use Rattle.script_text.specs.declared.steps.Step.TheVariants.{Client, Operator}
@@ -19,6 +18,7 @@ use Rattle.script_text.specs.declared.plain.row.Row.{Row}
 use Rattle.script_text.specs.declared.plain.row.Row.TheVariants.{Cache, Limit, Does}
 use Rattle.script_text.specs.declared.plain.reading.Reading.{Reading}
 use Rattle.script_text.proofs.Numbers.{count_front}
+use Rattle.script_text.proofs.Spellings.{order_front}
 
 -- ---- which row a line spells
 
@@ -27,8 +27,7 @@ pub row_cache : (header : Header) (row : Row) (text rest : List ℕ) (found : Op
 row_cache header (Cache n) text rest found head is e cut exact = exact n is (ap (drop 6) (e ∙ cut))
 row_cache header (Limit n) text rest found head is e cut exact = absurd (let first : 108 ≡ 99 = ap (λ bytes. get_or bytes 0 0) (e ∙ cut) in omega arith)
 row_cache header (Does (Client client does)) text rest found head is e cut exact = absurd (count_front client 97 (32 ∷ does_text does) (codes "che " ++ rest) (omega (arith, head.clients.1, is.0.1)) (inr (omega arith)) (ap (drop 1) (e ∙ cut)))
-row_cache header (Does (Operator (Down centre))) text rest found head is e cut exact = absurd (let first : 100 ≡ 99 = ap (λ bytes. get_or bytes 0 0) (e ∙ cut) in omega arith)
-row_cache header (Does (Operator (Up centre))) text rest found head is e cut exact = absurd (let first : 117 ≡ 99 = ap (λ bytes. get_or bytes 0 0) (e ∙ cut) in omega arith)
+row_cache header (Does (Operator step)) text rest found head is e cut exact = absurd (order_front step (codes "ache " ++ rest) (e ∙ cut))
 
 -- ---- what rows set
 

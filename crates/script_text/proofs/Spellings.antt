@@ -13,7 +13,9 @@ use Rattle.dc_talk.specs.declared.calls.Change.TheVariants.{Inc, Write, Add, Rem
 use Rattle.script_text.specs.declared.steps.AskFault.{AskFault}
 use Rattle.script_text.specs.declared.steps.ClientStep.{ClientStep}
 use Rattle.script_text.specs.declared.steps.ClientStep.TheVariants.{Connect, Begin, Change, Read, Commit, Abort, Push, Flush, Refresh, Again, Arm}
-use Rattle.script_text.specs.Steps.{mark_of, object_text, change_word, change_text, change_line, does_text, fault_text, IsSound, IsStep}
+use Rattle.script_text.specs.declared.steps.OperatorStep.{OperatorStep}
+use Rattle.script_text.specs.declared.steps.OperatorStep.TheVariants.{Down, Up, ShipOne, Ship, Tell, Settle}
+use Rattle.script_text.specs.Steps.{mark_of, object_text, change_word, change_text, change_line, does_text, operator_text, fault_text, IsSound, IsStep}
 use Rattle.script_text.proofs.Cuts.{one_split, no_split}
 use Rattle.script_text.proofs.Numbers.{count_plain}
 
@@ -104,6 +106,10 @@ put_cut change said key word cut whole is put e =
 pub count_cut : (n : ℕ) (more text word rest : List ℕ) → n ≤ MOST_NUMBER → text ≡ word ++ 32 ∷ rest → IsPlain word → decimal n ++ 32 ∷ more ≡ text → (decimal n ≡ word) × (more ≡ rest)
 count_cut n more text word rest few cut whole e = one_split 32 (decimal n) word more rest (count_plain n few) whole (e ∙ cut)
 
+-- no number is a text in two parts round a space
+pub no_count : (n : ℕ) (word rest : List ℕ) → n ≤ MOST_NUMBER → decimal n ≢ word ++ 32 ∷ rest
+no_count n word rest few e = no_split 32 (decimal n) word rest (count_plain n few) (sym e)
+
 -- ---- steps
 
 -- what is none of the others is a change, which is found
@@ -119,3 +125,12 @@ change_left n Flush text found is e begin commit abort flush push refresh arm co
 change_left n Refresh text found is e begin commit abort flush push refresh arm connect again read change = absurd (refresh (sym e))
 change_left n (Again centre number) text found is e begin commit abort flush push refresh arm connect again read change = absurd (again (decimal centre ++ 32 ∷ decimal number) e)
 change_left n (Arm fault) text found is e begin commit abort flush push refresh arm connect again read change = absurd (arm fault e)
+
+-- no step of the operator begins as those of the clients do
+pub order_front : (step : OperatorStep) (rest : List ℕ) → operator_text step ≢ codes "c" ++ rest
+order_front (Down centre) rest e = absurd (let d : 100 ≡ 99 = ap first e in omega arith)
+order_front (Up centre) rest e = absurd (let u : 117 ≡ 99 = ap first e in omega arith)
+order_front (ShipOne from to seq) rest e = absurd (let s : 115 ≡ 99 = ap first e in omega arith)
+order_front (Ship from to) rest e = absurd (let s : 115 ≡ 99 = ap first e in omega arith)
+order_front (Tell from to) rest e = absurd (let t : 116 ≡ 99 = ap first e in omega arith)
+order_front Settle rest e = absurd (let s : 115 ≡ 99 = ap first e in omega arith)

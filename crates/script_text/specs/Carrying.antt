@@ -165,4 +165,3 @@ is_news _ = false
 pub data Settles (n : ℕ) : List Deed → Type 0 where
   last_pass : {deeds : List Deed} → Passes n deeds → list_any is_news deeds ≡ false → Settles n deeds
   one_pass : {deeds : List Deed} (first later : List Deed) → deeds ≡ first ++ later → Passes n first → list_any is_news first ≡ true → Settles n later → Settles n deeds
-

@@ -5,6 +5,7 @@ mod does;
 mod header;
 mod number;
 mod object;
+mod order;
 mod reading;
 mod row;
 mod scripts;

@@ -1,16 +1,16 @@
 // Reads a step of a script.
 ghost use Rattle.std.specs.Prelude.{◌≡◌, ◌∷◌, ◌++◌, ℕ, Some, IfSome, codes, decimal};
 ghost use Rattle.script_text.specs.declared.steps.ClientStep.{ClientStep as DoesTold};
-ghost use Rattle.script_text.specs.declared.steps.OperatorStep.TheVariants.{Down, Up};
 ghost use Rattle.script_text.specs.declared.steps.Step.{Step as StepTold};
-ghost use Rattle.script_text.specs.declared.steps.Step.TheVariants.{Client, Operator};
-ghost use Rattle.script_text.specs.Steps.{IsCount, IsHeader, IsStepOf, does_text, spelling};
+ghost use Rattle.script_text.specs.declared.steps.Step.TheVariants.{Client};
+ghost use Rattle.script_text.specs.Steps.{IsHeader, IsStepOf, does_text, spelling};
 
 use crate::plain::cut::{at_byte, behind};
 use crate::plain::does::read_does;
-use crate::plain::number::{read_u8, read_u32};
+use crate::plain::number::read_u32;
+use crate::plain::order::read_order;
 use crate::script::Header;
-use crate::steps::{OperatorStep, Step};
+use crate::steps::Step;
 
 /// The one step of a script with this header that a line spells, if it spells one.
 pub fn read_step(header: Header, text: &[u8]) -> Option<Step>
@@ -18,40 +18,11 @@ pub fn read_step(header: Header, text: &[u8]) -> Option<Step>
     ensures taken { IfSome result (λ step. IsStepOf header step × (spelling step ≡ text.now)) }
     ensures exact { (step : StepTold) → IsStepOf header step → spelling step ≡ text.now → result ≡ Some step }
 {
-    if let Some(centre) = behind(text, b"down ") {
-        return down_of(header.n, centre);
+    if let Some(rest) = behind(text, b"c") {
+        return client_step(header, rest);
     }
-    if let Some(centre) = behind(text, b"up ") {
-        return up_of(header.n, centre);
-    }
-    match behind(text, b"c") {
-        Some(rest) => client_step(header, rest),
-        None => None,
-    }
-}
-
-// The stop of the centre that a text names.
-fn down_of(n: u8, text: &[u8]) -> Option<Step>
-    ensures taken { IfSome result (λ step. (centre : ℕ) × (step ≡ Operator (Down centre)) × IsCount n centre × (decimal centre ≡ text.now)) }
-    ensures exact { (centre : ℕ) → IsCount n centre → decimal centre ≡ text.now → result ≡ Some (Operator (Down centre)) }
-{
-    match read_u8(text, n) {
-        Some(centre) => Some(Step::Operator {
-            step: OperatorStep::Down { centre },
-        }),
-        None => None,
-    }
-}
-
-// The start of the centre that a text names.
-fn up_of(n: u8, text: &[u8]) -> Option<Step>
-    ensures taken { IfSome result (λ step. (centre : ℕ) × (step ≡ Operator (Up centre)) × IsCount n centre × (decimal centre ≡ text.now)) }
-    ensures exact { (centre : ℕ) → IsCount n centre → decimal centre ≡ text.now → result ≡ Some (Operator (Up centre)) }
-{
-    match read_u8(text, n) {
-        Some(centre) => Some(Step::Operator {
-            step: OperatorStep::Up { centre },
-        }),
+    match read_order(header.n, text) {
+        Some(step) => Some(Step::Operator { step }),
         None => None,
     }
 }
