@@ -1,0 +1,7 @@
+use Rattle.std.proofs.Common.{◌≡◌, length, take}
+use Rattle.dc_host.specs.Centres.{all_seen}
+use Rattle.dc_host.specs.KeptDoors.{lengths_of}
+use Rattle.dc_host.proofs.kept_door.lengths.Given as goal
+
+abbrev pub invariant-kept : goal.invariant-kept
+invariant-kept l = (length l.lengths ≡ 8) × (take l.place l.lengths ≡ lengths_of (all_seen (take l.place l.kept)))
