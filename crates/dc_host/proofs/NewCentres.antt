@@ -1,9 +1,8 @@
 -- New centres, one after the other.
-use Rattle.std.proofs.Common.{◌≡◌, ◌≤◌, ℕ, ◌+◌, ◌-◌, List, [], ◌∷◌, ◌++◌, map, refl, sym, ap, ◌∙◌, subst, arith}
-use Rattle.std.specs.Prelude.{All}
+use Rattle.std.proofs.Common.{◌≡◌, ◌≤◌, ℕ, ◌+◌, ◌-◌, List, [], ◌∷◌, ◌++◌, map, length, sym, ap, ◌∙◌, arith}
 use Rattle.std.specs.List.{range_with_len}
-use Rattle.std.proofs.lemmas.List.{map-append}
-use Rattle.std.proofs.lemmas.List.FromFn.{map-range_with_len_more}
+use Rattle.std.proofs.lemmas.List.{map-append, length-map}
+use Rattle.std.proofs.lemmas.List.FromFn.{map-range_with_len_more, length-map-range_with_len}
 use Rattle.dc_talk.specs.declared.settings.Settings.{Settings}
 use Rattle.dc_talk.specs.Entries.{Entry}
 use Rattle.dc_host.specs.Centres.{CentreTrail, KeptCentre, seen_of, all_seen, new_centre}
@@ -28,3 +27,9 @@ pub is_new : (n k limit me : ℕ) (one : KeptCentre) → one.machine.settings �
 is_new n k limit me one settings entries =
     let with : Settings → List Entry → CentreTrail = λ settings entries. record { settings = settings; entries = entries } in
     ap (λ settings. with settings one.trail.entries) settings ∙ ap (with (record { me = me; n = n; k = k; limit = limit })) entries
+
+-- behind the last number all are there
+pub number_of_all : (n k limit next : ℕ) (kept : List KeptCentre) → next ≡ n + 1 → all_seen kept ≡ centres_below n k limit next → length kept ≡ n
+number_of_all n k limit next kept is all =
+    let count : next - 1 ≡ n = omega arith in
+    sym (length-map kept seen_of) ∙ (ap length all ∙ (length-map-range_with_len (new_centre n k limit) 1 (next - 1) ∙ count))

@@ -1,23 +1,22 @@
 -- The trails of the centres, where one of them answers.
-use Rattle.std.proofs.Common.{◌≡◌, ◌≢◌, ◌≤◌, ◌<◌, ℕ, zero, suc, ◌+◌, ◌-◌, ◌^◌, true, ◌⊎◌, inl, inr, ⊎_elim, List, [], ◌∷◌, ◌++◌, map, length, get_or, set, take, drop, Option, Some, None, Result, Ok, Err, refl, sym, ap, ◌∙◌, subst, arith, add-one}
-use Rattle.std.specs.Prelude.{IfOk, IfSome, OnOk, OnErr, slice_get, All}
+use Rattle.std.proofs.Common.{◌≡◌, ◌≢◌, ◌≤◌, ◌<◌, ℕ, zero, suc, ◌+◌, ◌^◌, true, ⊎_elim, List, [], ◌∷◌, ◌++◌, map, length, get_or, set, drop, Option, Some, Result, Ok, Err, refl, sym, ap, ◌∙◌, subst, arith}
+use Rattle.std.specs.Prelude.{IfOk, OnOk, OnErr, slice_get, All}
 use Rattle.std.specs.Option.{option_map, unwrap_or}
 use Rattle.std.proofs.Math.Seq.{drop-length, map-set_same}
 use Rattle.std.proofs.lemmas.Bool.{cases_eq}
-use Rattle.std.proofs.lemmas.List.{map-append, map-set, length-map, length-set, length-append, length-drop, drop-append-le}
-use Rattle.std.proofs.lemmas.Option.{none-some, slice_get-map, slice_get_within, slice_get-get_or, get_or_from_slice_get}
+use Rattle.std.proofs.lemmas.List.{map-set, length-set, length-append, length-drop, drop-append-le}
+use Rattle.std.proofs.lemmas.Option.{slice_get-map, slice_get_within, slice_get-get_or, get_or_from_slice_get}
 use Rattle.ids_core.specs.declared.limits.TheConstants.{MOST_CENTRES}
 use Rattle.vv_core.specs.Vectors.{at}
 use Rattle.hist_lock.specs.History.{entry}
 use Rattle.dc_talk.specs.declared.ask.Ask.{Ask}
 use Rattle.dc_talk.specs.declared.say.Say.{Say}
-use Rattle.dc_talk.specs.declared.settings.Settings.{Settings}
 use Rattle.dc_talk.specs.Entries.{Entry}
 use Rattle.dc_talk.specs.Answers.{answer}
-use Rattle.dc_talk.specs.Doors.{belongs, HasAsked, HasNotAsked}
+use Rattle.dc_talk.specs.Doors.{belongs, HasAsked}
 use Rattle.dc_talk.proofs.Belonging.{answer_belongs}
 use Rattle.dc_host.specs.Centres.{CentreTrail, KeptCentre, seen_of, all_seen, IsKeptCentre}
-use Rattle.dc_host.specs.KeptDoors.{KeptView, centre_at, trail_at, shown_of, place_of, lengths_of, begun, IsKeptDoor, HasAnswered}
+use Rattle.dc_host.specs.KeptDoors.{KeptView, trail_at, shown_of, lengths_of, IsKeptDoor, HasAnswered}
 
 -- ---- how many entries there are
 

@@ -1,5 +1,5 @@
 // The centres of a system, at first.
-ghost use Rattle.std.specs.Prelude.{◌≡◌, ◌≤◌, IfOk, All};
+ghost use Rattle.std.specs.Prelude.{◌≡◌, ◌≤◌, IfOk, All, length};
 ghost use Rattle.ids_core.specs.declared.limits.TheConstants.{MOST_CENTRES, MOST_RECORDS};
 ghost use Rattle.dc_host.specs.Centres.{all_seen, IsKeptCentre, new_centres};
 
@@ -15,6 +15,7 @@ pub fn centres_of(alloc: Global, n: u8, k: u8, limit: u64) -> Result<Vec<Kept<Ce
     requires known { (1 ≤ k) × (k ≤ n) }
     requires most { (1 ≤ limit) × (limit ≤ MOST_RECORDS) }
     ensures centres { IfOk result (λ kept. all_seen kept.items ≡ new_centres n k limit) }
+    ensures number { IfOk result (λ kept. length kept.items ≡ n) }
     ensures kept { IfOk result (λ kept. All IsKeptCentre kept.items) }
 {
     let mut kept = Vec::new(alloc);

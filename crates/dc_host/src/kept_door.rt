@@ -17,7 +17,6 @@ use std::marker::Model;
 const MOST: usize = MOST_CENTRES as usize;
 
 /// What no ask through a `KeptDoor` changes: the actor, and the settings of the centres in order.
-#[derive(Drop)]
 pub struct KeptPlace {
     pub actor: u32,
     pub settings: List<Settings>,
