@@ -1,9 +1,8 @@
 -- The trails of the centres, where one of them answers.
-use Rattle.std.proofs.Common.{◌≡◌, ◌≢◌, ◌≤◌, ◌<◌, ℕ, zero, suc, ◌+◌, ◌^◌, true, ⊎_elim, List, [], ◌∷◌, ◌++◌, map, length, get_or, set, drop, Option, Some, Result, Ok, Err, refl, sym, ap, ◌∙◌, subst, arith}
+use Rattle.std.proofs.Common.{◌≡◌, ◌≢◌, ◌≤◌, ◌<◌, ℕ, zero, suc, ◌+◌, ◌^◌, true, List, [], ◌∷◌, ◌++◌, length, get_or, set, drop, Some, Result, Ok, Err, refl, sym, ap, ◌∙◌, subst, arith}
 use Rattle.std.specs.Prelude.{IfOk, OnOk, OnErr, slice_get, All}
-use Rattle.std.specs.Option.{option_map, unwrap_or}
+use Rattle.std.specs.Option.{option_map}
 use Rattle.std.proofs.Math.Seq.{drop-length, map-set_same}
-use Rattle.std.proofs.lemmas.Bool.{cases_eq}
 use Rattle.std.proofs.lemmas.List.{map-set, length-set, length-append, length-drop, drop-append-le}
 use Rattle.std.proofs.lemmas.Option.{slice_get-map, slice_get_within, slice_get-get_or, get_or_from_slice_get}
 use Rattle.ids_core.specs.declared.limits.TheConstants.{MOST_CENTRES}
@@ -16,7 +15,7 @@ use Rattle.dc_talk.specs.Answers.{answer}
 use Rattle.dc_talk.specs.Doors.{belongs, HasAsked}
 use Rattle.dc_talk.proofs.Belonging.{answer_belongs}
 use Rattle.dc_host.specs.Centres.{CentreTrail, KeptCentre, seen_of, all_seen, IsKeptCentre}
-use Rattle.dc_host.specs.KeptDoors.{KeptView, trail_at, shown_of, lengths_of, IsKeptDoor, HasAnswered}
+use Rattle.dc_host.specs.KeptDoors.{KeptView, entries_of, trail_at, settings_of, shown_of, lengths_of, IsKeptDoor, HasAnswered}
 
 -- ---- how many entries there are
 
@@ -78,42 +77,32 @@ has_not_answered kept place one new (Err e) is same = map-set_same seen_of kept 
 -- ---- a door after an ask
 
 module _ (old new : List CentreTrail) (place : ℕ) (entry : Entry) (has : HasAnswered old new place entry) where
-  -- the trail of the centre that answered ends with the entry
+  -- the trail of the centre that answered was that of the entry's answer
+  trail_was : trail_at old (suc place) ≡ has.centre.entries
+  trail_was = ap entries_of has.there
+
+  -- it ends with the entry now
   trail_here : trail_at new (suc place) ≡ trail_at old (suc place) ++ entry ∷ []
   trail_here =
       let more : CentreTrail = record has.centre { entries = has.centre.entries ++ entry ∷ [] } in
-      let of : Option CentreTrail → List Entry = λ centre. unwrap_or (option_map (λ (centre : CentreTrail). centre.entries) centre) [] in
-      ap of (ap (λ centres. slice_get centres place) has.after ∙ set_here old place more (slice_get_within old place has.centre has.there))
-      ∙ ap (λ entries. entries ++ entry ∷ []) (sym (ap of has.there))
-
-  -- it is that of the centre
-  trail_was : trail_at old (suc place) ≡ has.centre.entries
-  trail_was = ap (λ (centre : Option CentreTrail). unwrap_or (option_map (λ (centre : CentreTrail). centre.entries) centre) []) has.there
+      ap entries_of (ap (λ centres. slice_get centres place) has.after ∙ set_here old place more (slice_get_within old place has.centre has.there))
+      ∙ ap (λ entries. entries ++ entry ∷ []) (sym trail_was)
 
   -- the other trails stay
   trail_else : (j : ℕ) → j ≢ suc place → trail_at new j ≡ trail_at old j
   trail_else zero differs = refl
   trail_else (suc other) differs =
       let more : CentreTrail = record has.centre { entries = has.centre.entries ++ entry ∷ [] } in
-      ap (λ (centre : Option CentreTrail). unwrap_or (option_map (λ (centre : CentreTrail). centre.entries) centre) [])
-      (ap (λ centres. slice_get centres other) has.after ∙ set_else old place other more (λ same. differs (ap suc same)))
+      ap entries_of (ap (λ centres. slice_get centres other) has.after ∙ set_else old place other more (λ same. differs (ap suc same)))
 
-  -- no trail gets shorter
-  trails_grow : (j : ℕ) → length (trail_at old j) ≤ length (trail_at new j)
-  trails_grow j = ⊎_elim here (λ differs. subst (λ (entries : List Entry). length (trail_at old j) ≤ length entries) (sym (trail_else j differs)) (omega arith)) (cases_eq j (suc place))
-    where
-      here : j ≡ suc place → length (trail_at old j) ≤ length (trail_at new j)
-      here is =
-          let long : length (trail_at new (suc place)) ≡ length (trail_at old (suc place)) + 1 = ap length trail_here ∙ length-append (trail_at old (suc place)) (entry ∷ []) in
-          subst (λ (k : ℕ). length (trail_at old k) ≤ length (trail_at new k)) (sym is) (omega arith)
-
-  -- there are as many centres, with the same settings
-  settings_stay : map (λ (centre : CentreTrail). centre.settings) new ≡ map (λ (centre : CentreTrail). centre.settings) old
+  -- so do the settings
+  settings_stay : settings_of new ≡ settings_of old
   settings_stay =
       let more : CentreTrail = record has.centre { entries = has.centre.entries ++ entry ∷ [] } in
-      ap (map (λ (centre : CentreTrail). centre.settings)) has.after
+      ap settings_of has.after
       ∙ map-set_same (λ (centre : CentreTrail). centre.settings) old place more has.centre (ap (λ (centre : CentreTrail). centre.settings) (sym (get_or_from_slice_get old place has.centre has.centre has.there)))
 
+  -- and the number of centres
   number_stays : length new ≡ length old
   number_stays = ap length has.after ∙ length-set old place (record has.centre { entries = has.centre.entries ++ entry ∷ [] })
 
@@ -143,9 +132,9 @@ door_asked old new place i e is actor since before has = subst (λ (k : ℕ). at
 
 module _ {E : Type 0} where
   -- the settings stay, also where no centre answered
-  pub place_stays : (old new : List CentreTrail) (place caller : ℕ) (ask : Ask) (r : Result Say E) → IfOk r (λ say. HasAnswered old new place (entry caller ask say)) → OnErr r (new ≡ old) → map (λ (centre : CentreTrail). centre.settings) new ≡ map (λ (centre : CentreTrail). centre.settings) old
+  pub place_stays : (old new : List CentreTrail) (place caller : ℕ) (ask : Ask) (r : Result Say E) → IfOk r (λ say. HasAnswered old new place (entry caller ask say)) → OnErr r (new ≡ old) → settings_of new ≡ settings_of old
   place_stays old new place caller ask (Ok say) has same = settings_stay old new place (entry caller ask say) has
-  place_stays old new place caller ask (Err e) has same = ap (map (λ (centre : CentreTrail). centre.settings)) same
+  place_stays old new place caller ask (Err e) has same = ap settings_of same
 
   -- the answer belongs to the ask
   pub says_its_row : (old new : List CentreTrail) (place caller : ℕ) (ask : Ask) (r : Result Say E) → IfOk r (λ say. HasAnswered old new place (entry caller ask say)) → IfOk r (λ say. belongs ask say ≡ true)

@@ -1,8 +1,8 @@
 -- A door that owns the centres, on one thread.
 use Rattle.std.specs.Prelude.{◌≡◌, ◌≤◌, ◌<◌, ◌^◌, ℕ, zero, suc, ◌+◌, true, length, drop, List, [], ◌∷◌, ◌++◌, map, Option, Some, None, slice_get, slice_set, All}
-use Rattle.std.specs.Option.{option_map, unwrap_or}
 use Rattle.ids_core.specs.declared.limits.TheConstants.{MOST_CENTRES}
 use Rattle.vv_core.specs.Vectors.{at}
+use Rattle.dc_talk.specs.declared.settings.Settings.{Settings}
 use Rattle.dc_talk.specs.Entries.{Entry}
 use Rattle.dc_talk.specs.Answers.{answer}
 use Rattle.dc_talk.specs.Doors.{DoorView}
@@ -21,9 +21,18 @@ abbrev pub centre_at : List CentreTrail → ℕ → Option CentreTrail
 centre_at centres zero = None
 centre_at centres (suc i) = slice_get centres i
 
+-- the entries of a centre's trail, and none where there is no centre
+abbrev pub entries_of : Option CentreTrail → List Entry
+entries_of None = []
+entries_of (Some centre) = centre.entries
+
 -- the trail of centre i, and no entries where there is no such centre
 abbrev pub trail_at : List CentreTrail → ℕ → List Entry
-trail_at centres i = unwrap_or (option_map (λ centre. centre.entries) (centre_at centres i)) []
+trail_at centres i = entries_of (centre_at centres i)
+
+-- the settings of the centres in order
+abbrev pub settings_of : List CentreTrail → List Settings
+settings_of centres = map (λ centre. centre.settings) centres
 
 -- what is seen of it as a door: it is alone, knows the trails, and made what is behind the entries that were there
 -- before
@@ -38,7 +47,7 @@ shown_of door = record {
 
 -- what no ask changes
 abbrev pub place_of : KeptView → KeptPlace
-place_of door = record { actor = door.actor; settings = map (λ centre. centre.settings) door.centres }
+place_of door = record { actor = door.actor; settings = settings_of door.centres }
 
 -- how many entries each trail has
 abbrev pub lengths_of : List CentreTrail → List ℕ
