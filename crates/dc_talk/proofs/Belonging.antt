@@ -1,7 +1,6 @@
 -- Each answer of a centre belongs to its ask.
 use Rattle.std.proofs.Common.{◌≡◌, Bool, true, false, ◌&&◌, not, cond, List, refl}
 use Rattle.list_core.proofs.Choices.{when_holds}
-use Rattle.tx_core.specs.declared.tx.Record.{Record}
 use Rattle.dc_talk.specs.declared.ask.Ask.{Ask}
 use Rattle.dc_talk.specs.declared.ask.Ask.TheVariants.{Hello, Refresh, Fetch, Commit, Send, Deliver, Report, Learn, Stop, Start}
 use Rattle.dc_talk.specs.declared.say.Say.{Say}

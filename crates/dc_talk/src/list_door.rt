@@ -103,10 +103,12 @@ impl Door for ListDoor {
     /// list has ended or the next answer is one that a centre may not give to this ask. After an `Err` nothing was
     /// asked, and no answer is used up.
     fn ask(&mut self, centre: u8, ask: &Ask) -> Result<Say, NoMemory>
+        requires { IsBehind (shown_of self.old) centre }
         ensures row { IfOk result (λ say. belongs ask.now say ≡ true) }
         ensures asked { IfOk result (λ say. HasAsked (shown_of self.old) (shown_of self.new) centre (entry 1 ask.now say)) }
         ensures none { OnErr result (HasNotAsked (shown_of self.old) (shown_of self.new)) }
-        ensures exact { IfOk result (λ say. (say ≡ next_answer self.old.answers ask.now) × (self.new.answers ≡ drop 1 self.old.answers)) }
+        ensures exact { IfOk result (λ say. say ≡ next_answer self.old.answers ask.now) }
+        ensures after { IfOk result (λ say. self.new ≡ record { answers = drop 1 self.old.answers; entries = self.old.entries ++ (centre, entry 1 ask.now say) ∷ [] }) }
         ensures kept { OnErr result (self.new ≡ self.old) }
     {
         if self.entries.len() >= MOST {

@@ -1,7 +1,7 @@
-// A centre alone, and a centre beside its trail.
+// A centre alone, and a centre that is kept with its trail.
 use crate::told::{is_told, number_said};
-use dc_centre::{Centre, Desk};
-use dc_talk::{Ask, Entry, Say, Settings};
+use dc_centre::Centre;
+use dc_talk::{Ask, Entry, Say};
 use hist_lock::Kept;
 use ids_core::{Dot, NoMemory, ObjectId};
 use samples::{counter, inc_tx, pair, single};
@@ -94,15 +94,6 @@ fn a_snapshot_shows_what_is_in_it(rt: HostRuntime) -> Result<(), Fail> {
     stamp_and_ask(&rt, rt.alloc(), &mut centre)
 }
 
-// Has callers 2 and 5 ask for a newer snapshot, the latter of one that does not fit.
-fn refresh(desk: &mut Desk) -> Result<(), NoMemory> {
-    let client = 1;
-    for (caller, at) in [(2, single(0)), (5, pair(0, 0))] {
-        desk.ask(caller, &Ask::Refresh { client, at })?;
-    }
-    Ok(())
-}
-
 // Whether the entries are those two.
 fn are_two(entries: &[Entry]) -> bool {
     match entries {
@@ -116,22 +107,14 @@ fn are_two(entries: &[Entry]) -> bool {
 
 #[test]
 fn the_trail_has_each_ask_with_its_answer(rt: HostRuntime) -> Result<(), Fail> {
-    let settings = Settings {
-        me: 1,
-        n: 1,
-        k: 1,
-        limit: 1,
-    };
-    let mut desk = Desk::new(rt.alloc(), settings)?;
-    refresh(&mut desk)?;
-    assert!(rt; are_two(desk.into_trail().as_slice()));
-    Ok(())
-}
-
-#[test]
-fn a_centre_is_a_machine(rt: HostRuntime) -> Result<(), Fail> {
+    let client = 1;
     let mut kept = Kept::new(rt.alloc(), Centre::new(rt.alloc(), 1, 1, 1, 1)?);
-    let say = kept.answer(2, &Ask::Report)?;
-    assert!(rt; matches!(&say, Say::Vector { vector } if *vector == single(0)));
+    let at = single(0);
+    let say = kept.answer(2, &Ask::Refresh { client, at })?;
+    assert!(rt; matches!(&say, Say::Snap { .. }));
+    let at = pair(0, 0);
+    let say = kept.answer(5, &Ask::Refresh { client, at })?;
+    assert!(rt; matches!(&say, Say::Misfit));
+    assert!(rt; are_two(kept.trail.as_slice()));
     Ok(())
 }

@@ -1,6 +1,9 @@
-// Asks and trails.
+// Asks, trails and the door for tests.
+ghost use Rattle.std.specs.Prelude.{◌≤◌};
+ghost use Rattle.ids_core.specs.declared.limits.TheConstants.{MOST_CENTRES};
+
 use dc_centre::Centre;
-use dc_talk::{Ask, Say, law_history};
+use dc_talk::{Ask, Door, ListDoor, Say, belongs, law_history};
 use hist_lock::Trail;
 use ids_core::NoMemory;
 use samples::{pair, single};
@@ -42,4 +45,46 @@ fn entries_stand_in_order(rt: HostRuntime) -> Result<(), Fail> {
     note(&mut trail, 2, 1)?;
     assert!(rt; trail.len() == 2 && is_by(&trail, 0, 4) && is_by(&trail, 1, 2));
     Ok(())
+}
+
+// Whether the door answers an ask of a centre with `Down`.
+fn is_down(door: &mut ListDoor, centre: u8, ask: &Ask) -> Result<bool, NoMemory>
+    requires { (1 ≤ centre) × (centre ≤ MOST_CENTRES) }
+{
+    let say = door.ask(centre, ask)?;
+    Ok(matches!(&say, Say::Down))
+}
+
+// Whether the entry at a place was made at that centre, and is a welcome up to that number.
+fn is_welcome(door: &ListDoor, place: usize, at: u8, up_to: u64) -> bool {
+    match door.entries().get(place) {
+        Some((centre, entry)) => {
+            let up = matches!(&entry.say, Say::Welcome { through } if *through == up_to);
+            up && *centre == at
+        }
+        None => false,
+    }
+}
+
+#[test]
+fn a_list_door_answers_from_its_list(rt: HostRuntime) -> Result<(), Fail> {
+    let hello = Ask::Hello {
+        client: 1,
+        need: single(0),
+    };
+    let mut answers = Vec::new(rt.alloc());
+    answers.push(Say::Stopped)?;
+    answers.push(Say::Welcome { through: 3 })?;
+    let mut door = ListDoor::new(rt.alloc(), answers);
+    assert!(rt; is_down(&mut door, 1, &hello)?);
+    assert!(rt; !is_down(&mut door, 8, &hello)?);
+    assert!(rt; is_down(&mut door, 8, &hello)?);
+    assert!(rt; is_welcome(&door, 1, 8, 3) && door.entries().len() == 3);
+    Ok(())
+}
+
+#[test]
+fn answers_belong_or_do_not(rt: HostRuntime) {
+    assert!(rt; belongs(&Ask::Stop, &Say::Stopped) && belongs(&Ask::Stop, &Say::Down));
+    assert!(rt; !belongs(&Ask::Start, &Say::Stopped));
 }

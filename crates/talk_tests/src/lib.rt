@@ -13,6 +13,8 @@ mod dc_centre_peers;
 #[cfg(test)]
 mod dc_centre_tests;
 #[cfg(test)]
+mod dc_host_tests;
+#[cfg(test)]
 mod dc_talk_tests;
 #[cfg(test)]
 mod hist_lock_tests;

@@ -1,0 +1,10 @@
+use Rattle.dc_host.proofs.Trails.{has_answered, has_not_answered}
+use Rattle.dc_host.proofs.kept_door.answer_at.Goals as goal
+
+pub returns-clause-answered : goal.returns-clause-answered
+returns-clause-answered c =
+    has_answered c.args.kept.now.items c.args.place c.args.caller c.args.ask.now c.index_mut.result.now c.answer_one.new.kept c.answer_one.result c.requires.place c.index_mut.ensures.value
+    c.answer_one.ensures.say c.answer_one.ensures.entry c.answer_one.ensures.short
+
+pub returns-clause-none : goal.returns-clause-none
+returns-clause-none c = has_not_answered c.args.kept.now.items c.args.place c.index_mut.result.now c.answer_one.new.kept c.answer_one.result c.index_mut.ensures.value c.answer_one.ensures.none
