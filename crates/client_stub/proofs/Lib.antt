@@ -1,4 +1,1 @@
-pub mod Growth
 pub mod SessionAsks
-pub mod Steps
-pub mod Flushes
