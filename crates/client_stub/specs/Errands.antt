@@ -77,11 +77,13 @@ goes_of s errand fate = goes_after errand.purpose (took s errand.centre errand.a
 -- an errand whose ask was noted, with the line that is to be told and whether the step goes on
 pub record HasAskedFor (errand : Errand) (old new : Playing) (it : Option Line × Bool) : Type 0 where
   pub say : Say
-  pub grows : Grows old new (Asked errand.centre errand.ask (fate_of old.armed say) ∷ [])
+  pub fate : Fate
+  pub became : fate ≡ fate_of old.armed say
+  pub grows : Grows old new (Asked errand.centre errand.ask fate ∷ [])
   pub armed : new.armed ≡ None
-  pub line : it.0 ≡ line_of old.client errand (fate_of old.armed say)
-  pub goes : it.1 ≡ goes_of old.client errand (fate_of old.armed say)
-  pub short : fate_of old.armed say ≢ AskLost → length (new.door.made errand.centre) < 2 ^ 62
+  pub line : it.0 ≡ line_of old.client errand fate
+  pub goes : it.1 ≡ goes_of old.client errand fate
+  pub short : fate ≢ AskLost → length (new.door.made errand.centre) < 2 ^ 62
 
 -- an ask of centre i that no session heard, with no line
 pub record AsksUnheard (i : ℕ) (ask : Ask) (old new : Acting) : Type 0 where

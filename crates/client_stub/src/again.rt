@@ -36,7 +36,8 @@ impl Stub {
                 let fate = Fate::Unheard(say);
                 let line = again_line(client, centre, number, &fate);
                 log.push(Deed::Asked { centre, ask, fate })?;
-                tell(log, line)
+                tell(log, line)?;
+                Ok(())
             }
             None => {
                 let line = Line::AgainNone {
@@ -44,7 +45,8 @@ impl Stub {
                     centre,
                     number,
                 };
-                tell(log, Some(line))
+                tell(log, Some(line))?;
+                Ok(())
             }
         }
     }

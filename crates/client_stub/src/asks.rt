@@ -73,7 +73,8 @@ impl Stub {
                     word,
                     object,
                 };
-                tell(log, Some(line))
+                tell(log, Some(line))?;
+                Ok(())
             }
         }
     }
@@ -100,8 +101,14 @@ impl Stub {
                 self.send(door, errand, log)?;
                 Ok(())
             }
-            Ok(None) => tell(log, Some(Line::PushNone { client })),
-            Err(Refusal::NotConnected) => tell(log, Some(Line::PushUnconnected { client })),
+            Ok(None) => {
+                tell(log, Some(Line::PushNone { client }))?;
+                Ok(())
+            }
+            Err(Refusal::NotConnected) => {
+                tell(log, Some(Line::PushUnconnected { client }))?;
+                Ok(())
+            }
             // It is refused for nothing else but want of memory.
             Err(_) => Err(NoMemory),
         }
@@ -129,10 +136,11 @@ impl Stub {
             }
             Err(refusal) => {
                 if is_not_connected(&refusal) {
-                    tell(log, Some(Line::RefreshUnconnected { client }))
-                } else {
-                    tell(log, Some(Line::RefreshOpen { client }))
+                    tell(log, Some(Line::RefreshUnconnected { client }))?;
+                    return Ok(());
                 }
+                tell(log, Some(Line::RefreshOpen { client }))?;
+                Ok(())
             }
         }
     }

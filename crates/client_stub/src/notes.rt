@@ -33,5 +33,6 @@ pub(crate) fn ask_unheard<D: Door>(
 {
     let say = door.ask(centre, &ask)?;
     let fate = Fate::Unheard(say);
-    log.push(Deed::Asked { centre, ask, fate })
+    log.push(Deed::Asked { centre, ask, fate })?;
+    Ok(())
 }
