@@ -135,6 +135,10 @@ short_same a log b later may same = record { notes = []; log = same ∙ sym (not
 pub short_none : (a : DoorView) (log later : Logged) → later ≡ log → IsCutShort (acting a log) (acting a later)
 short_none a log later same = short_same a log a later (may_none a) same
 
+-- one deed that exchanged nothing was noted
+pub short_noted : (a : DoorView) (log between later : Logged) (deed : Deed) → between ≡ noted log deed → later ≡ between → IsCutShort (acting a log) (acting a later)
+short_noted a log between later deed more same = record { notes = marked log.section log.step deed ∷ []; log = same ∙ more; door = may_none a }
+
 -- one ask was answered, and not noted
 pub short_asked : (a b : DoorView) (log later : Logged) (i : ℕ) (entry : Entry) → HasAsked a b i entry → later ≡ log → IsCutShort (acting a log) (acting b later)
 short_asked a b log later i entry asked same = short_same a log b later (may_asked a b i entry asked) same

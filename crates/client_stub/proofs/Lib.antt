@@ -1,3 +1,5 @@
 pub mod Growth
 pub mod Sending
+pub mod Calling
 pub mod SessionAsks
+pub mod Stepping

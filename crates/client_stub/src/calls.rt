@@ -25,7 +25,7 @@ impl Stub {
     ) -> Result<bool, NoMemory>
         ensures makes { IfOk result (λ needs. (door : DoorView) → MakesCall call.now (beside self.old door log.old) (beside self.new door log.new) needs) }
         ensures linked { self.new.client.link ≡ self.old.client.link }
-        ensures short { OnErr result ((door : DoorView) → IsCutShort (acting door log.old) (acting door log.new)) }
+        ensures short { (door : DoorView) → OnErr result (IsCutShort (acting door log.old) (acting door log.new)) }
     {
         let client = self.session.client();
         let outcome = self.session.call(alloc, call)?;
