@@ -22,7 +22,6 @@ use Rattle.dc_talk.specs.Doors.{DoorView, IsSameDoor, IsBehind, HasAsked, MayHav
 use Rattle.dc_talk.specs.Rule.{after}
 use Rattle.dc_talk.proofs.Doors.{done_none, done_quiet, done_ask, done_then, may_none, may_asked, may_done, may_then}
 use Rattle.script_text.specs.Deeds.{after_all, told}
-use Rattle.client_stub.specs.Errands.{AsksUnheard}
 use Rattle.client_stub.specs.Playing.{Acting, Playing, Grows, Leaves, AllowsAll, IsAskBehind, IsLinkBehind, IsCutShort, acting, noted_all}
 
 -- ---- logs
@@ -109,15 +108,11 @@ pub leaves_none : (a : Acting) → Leaves a a []
 leaves_none a = record { log = sym (noted_none a.log); door = done_none a.door; behind = All-nil (IsAskBehind a.door) }
 
 -- one ask that no session heard
-pub leaves_unheard : (a b : DoorView) (log later : Logged) (i : ℕ) (ask : Ask) (say : Say) → IsBehind a i → HasAsked a b i (entry_for a.actor (ask, say)) → later ≡ noted log (Asked i ask (Unheard say)) → AsksUnheard i ask (acting a log) (acting b later)
+pub leaves_unheard : (a b : DoorView) (log later : Logged) (i : ℕ) (ask : Ask) (say : Say) → IsBehind a i → HasAsked a b i (entry_for a.actor (ask, say)) → later ≡ noted log (Asked i ask (Unheard say)) → Leaves (acting a log) (acting b later) (Asked i ask (Unheard say) ∷ [])
 leaves_unheard a b log later i ask say behind asked same = record {
-  say = say;
-  leaves = record {
-    log = same;
-    door = done_ask a b i ask (Unheard say) say refl asked;
-    behind = All-cons (IsAskBehind a) (Asked i ask (Unheard say)) [] behind (All-nil (IsAskBehind a));
-  };
-  short = asked.short.0;
+  log = same;
+  door = done_ask a b i ask (Unheard say) say refl asked;
+  behind = All-cons (IsAskBehind a) (Asked i ask (Unheard say)) [] behind (All-nil (IsAskBehind a));
 }
 
 -- ---- steps that came to an early end

@@ -3,3 +3,4 @@ pub mod Sending
 pub mod Calling
 pub mod SessionAsks
 pub mod Stepping
+pub mod LateCopies

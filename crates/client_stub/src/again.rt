@@ -1,5 +1,5 @@
 // Late copies of commits.
-ghost use Rattle.std.specs.Prelude.{◌≡◌, IfOk, OnOk, OnErr};
+ghost use Rattle.std.specs.Prelude.{◌≡◌, Some, IfOk, OnOk, OnErr};
 ghost use Rattle.dc_talk.specs.Doors.{IsBehind};
 ghost use Rattle.script_text.specs.declared.steps.ClientStep.TheVariants.{Again};
 ghost use Rattle.script_text.specs.Deeds.{commit_asked, commit_sent};
@@ -28,18 +28,13 @@ impl Stub {
         ensures linked { IsLinkBehind (D.shown door.new) self.new.client }
         ensures short { OnErr result (IsCutShort (acting (D.shown door.old) log.old) (acting (D.shown door.new) log.new)) }
     {
-        let client = self.session.client();
         match commit_sent(log.as_slice(), number)? {
             Some(tx) => {
-                let ask = Ask::Commit { tx };
-                let say = door.ask(centre, &ask)?;
-                let fate = Fate::Unheard(say);
-                let line = again_line(client, centre, number, &fate);
-                log.push(Deed::Asked { centre, ask, fate })?;
-                tell(log, line)?;
+                self.copy_late(door, centre, number, tx, log)?;
                 Ok(())
             }
             None => {
+                let client = self.session.client();
                 let line = Line::AgainNone {
                     client,
                     centre,
@@ -49,6 +44,31 @@ impl Stub {
                 Ok(())
             }
         }
+    }
+
+    // Sends a commit of a number once more, to a centre, and tells how that ended.
+    fn copy_late<D: Door>(
+        &self,
+        door: &mut D,
+        centre: u8,
+        number: u64,
+        tx: Tx,
+        log: &mut Log,
+    ) -> Result<(), NoMemory>
+        requires centre { IsBehind (D.shown door.old) centre }
+        requires sent { commit_sent number log.old.notes ≡ Some tx }
+        ensures place { D.place door.new ≡ D.place door.old }
+        ensures takes { OnOk result (Takes (Again centre number) (beside self.now (D.shown door.old) log.old) (beside self.now (D.shown door.new) log.new)) }
+        ensures short { OnErr result (IsCutShort (acting (D.shown door.old) log.old) (acting (D.shown door.new) log.new)) }
+    {
+        let client = self.session.client();
+        let ask = Ask::Commit { tx };
+        let say = door.ask(centre, &ask)?;
+        let fate = Fate::Unheard(say);
+        let line = again_line(client, centre, number, &fate);
+        log.push(Deed::Asked { centre, ask, fate })?;
+        tell(log, line)?;
+        Ok(())
     }
 }
 

@@ -11,4 +11,8 @@ pub returns-in_err-push-clause-short : goal.returns-in_err-push-clause-short
 returns-in_err-push-clause-short g c = on_err _ (short_asked _ _ _ _ _ _ c.in_ok-say.ensures.asked c.in_err-push.ensures.err)
 
 pub returns-clause-asks : goal.returns-clause-asks
-returns-clause-asks g c = leaves_unheard _ _ _ _ c.args.centre c.args.ask c.in_ok-say.say c.requires c.in_ok-say.ensures.asked c.in_ok-push.ensures.ok
+returns-clause-asks g c = record {
+  say = c.in_ok-say.say;
+  leaves = leaves_unheard _ _ _ _ c.args.centre c.args.ask c.in_ok-say.say c.requires c.in_ok-say.ensures.asked c.in_ok-push.ensures.ok;
+  short = c.in_ok-say.ensures.asked.short.0;
+}
