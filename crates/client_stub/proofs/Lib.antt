@@ -4,3 +4,4 @@ pub mod Calling
 pub mod SessionAsks
 pub mod Stepping
 pub mod LateCopies
+pub mod Flushes

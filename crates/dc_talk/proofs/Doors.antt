@@ -1,5 +1,5 @@
 -- What deeds leave at a door, one after another.
-use Rattle.std.proofs.Common.{◌≡◌, ℕ, ◌+◌, inl, inr, ⊎_elim, Bool, true, false, cond, List, [], ◌∷◌, ◌++◌, Option, Some, None, refl, sym, ap, ◌∙◌, subst}
+use Rattle.std.proofs.Common.{◌≡◌, ◌<◌, ℕ, ◌+◌, length, length-append, arith, inl, inr, ⊎_elim, Bool, true, false, cond, List, [], ◌∷◌, ◌++◌, Option, Some, None, refl, sym, ap, ◌∙◌, subst}
 use Rattle.std.specs.Prelude.{◌==◌}
 use Rattle.std.specs.Option.{option_map}
 use Rattle.std.specs.List.{filter_map}
@@ -137,6 +137,13 @@ done_then a b c ds es first later = record {
   where
     joined : (i : ℕ) → entries_made a.actor i ds ++ entries_made b.actor i es ≡ entries_made a.actor i (ds ++ es)
     joined i = ap (λ actor. entries_made a.actor i ds ++ entries_made actor i es) first.same.actor ∙ sym (made_then a.actor i ds es)
+
+-- an ask that reached its centre made the list of it longer
+pub done_longer : (a b : DoorView) (i : ℕ) (ask : Ask) (fate : Fate) (say : Say) (ds : List Deed) → answered fate ≡ Some say → HasDone a b (Asked i ask fate ∷ ds) → length (a.made i) < length (b.made i)
+done_longer a b i ask fate say ds got done =
+    let one : entries_made a.actor i (Asked i ask fate ∷ []) ≡ entry_for a.actor (ask, say) ∷ [] = made_one a.actor i i ask fate say (eq-eqb i i refl) got in
+    let made : b.made i ≡ a.made i ++ entry_for a.actor (ask, say) ∷ entries_made a.actor i ds = done.made i ∙ ap (λ es. a.made i ++ es) (made_then a.actor i (Asked i ask fate ∷ []) ds ∙ ap (λ es. es ++ entries_made a.actor i ds) one) in
+    omega (arith, ap length made ∙ length-append (a.made i) (entry_for a.actor (ask, say) ∷ entries_made a.actor i ds))
 
 -- ---- doors that may have been asked
 
