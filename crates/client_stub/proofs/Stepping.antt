@@ -21,14 +21,14 @@ use Rattle.script_text.specs.declared.object_call.ObjectCall.{ObjectCall}
 use Rattle.script_text.specs.declared.steps.AskFault.{AskFault}
 use Rattle.script_text.specs.declared.steps.AskFault.TheVariants.{LoseAsk, LoseReply, Twice}
 use Rattle.script_text.specs.declared.steps.ClientStep.{ClientStep}
-use Rattle.script_text.specs.declared.steps.ClientStep.TheVariants.{Connect, Push, Refresh}
+use Rattle.script_text.specs.declared.steps.ClientStep.TheVariants.{Arm, Connect, Push, Refresh}
 use Rattle.script_text.specs.Deeds.{Asks, OrTells, OverNext, Pushes, FetchDeeds, RefreshDeeds, StepDeeds, after_all, after_fetch, armed_after, calls, copies, fate_of, fetch_line, told, took}
 use Rattle.client_stub.specs.declared.purpose.Purpose.{Purpose}
 use Rattle.client_stub.specs.declared.purpose.Purpose.TheVariants as purpose
 use Rattle.client_stub.specs.declared.purpose.Errand.{Errand}
 use Rattle.client_stub.specs.Playing.{Playing, Grows, Takes, noted_all, progress}
 use Rattle.client_stub.specs.Errands.{GrowsBy, MakesCall, Runs, line_of, number_in, used_by}
-use Rattle.client_stub.proofs.Growth.{grows_then, grows_told}
+use Rattle.client_stub.proofs.Growth.{grows_none, grows_then, grows_told}
 use Rattle.client_stub.proofs.SessionAsks.{PushAsks, PushIdle, push_asks, push_idle, FetchAsks, fetch_asks, fetch_refused, refresh_asks, refresh_shut}
 
 -- ---- lines alone
@@ -127,6 +127,19 @@ refresh_open p later client r other asked same is =
     let ds : List Deed = Told (line.RefreshOpen s.client) ∷ [] in
     takes_by Refresh p (record p { log = later }) (λ deeds. refl) (grows_line (StepDeeds (progress p) Refresh) p later (line.RefreshOpen client) (line.RefreshOpen s.client) is (ap line.RefreshOpen same)
     (over_some s.link a.link (line.RefreshUnconnected s.client) (RefreshDeeds (progress p) s.draft) ds a.linked (subst (λ d. RefreshDeeds (progress p) d a.link ds) (sym a.is_open) refl)))
+
+-- ---- faults
+
+-- a fault is armed, and nothing else is done
+pub arm_takes : (step : ClientStep) (p : Playing) (s : Client) (fault : AskFault) → step ≡ Arm fault → s ≡ p.client → Takes step p (record p { client = s; armed = Some fault })
+arm_takes step p s fault is same =
+    let grows : Grows p p [] = grows_none p in
+    subst (λ step. Takes step p (record p { client = s; armed = Some fault })) (sym is) (record {
+      deeds = [];
+      such = refl;
+      grows = record { log = grows.log; client = same; door = grows.door; allowed = grows.allowed; behind = grows.behind };
+      armed = refl;
+    })
 
 -- ---- fetches
 
