@@ -1,6 +1,5 @@
 -- A flush pushes while commits are left, and each push that it goes on after leaves less room at the door.
 use Rattle.std.proofs.Common.{◌≡◌, ◌≢◌, ◌<◌, ℕ, ◌-◌, ◌^◌, Bool, true, false, cond, List, [], ◌∷◌, ◌++◌, length, Option, Some, None, Ok, refl, sym, ap, ◌∙◌, subst, append_assoc, arith}
-use Rattle.std.specs.Prelude.{◌==◌, ◌&&◌}
 use Rattle.std.proofs.lemmas.List.{append-nil}
 use Rattle.tx_core.specs.declared.tx.Tx.{Tx}
 use Rattle.dc_talk.specs.declared.ask.Ask.{Ask}
@@ -15,8 +14,8 @@ use Rattle.dc_talk.specs.declared.log.Fate.TheVariants.{AskLost, ReplyLost, Hear
 use Rattle.dc_talk.specs.declared.line.Line.TheVariants as line
 use Rattle.dc_talk.specs.Logs.{Logged, answered}
 use Rattle.dc_talk.specs.Clients.{Client}
-use Rattle.dc_talk.specs.Doors.{DoorView, HasDone}
-use Rattle.dc_talk.specs.Rule.{after, heard, takes, taken, is_linked, next_commit}
+use Rattle.dc_talk.specs.Doors.{DoorView}
+use Rattle.dc_talk.specs.Rule.{after, heard, takes, taken}
 use Rattle.dc_talk.proofs.Doors.{done_longer}
 use Rattle.client_session.specs.SessionAnswers.{commit_ask}
 use Rattle.script_text.specs.declared.steps.AskFault.{AskFault}
@@ -29,7 +28,7 @@ use Rattle.client_stub.specs.Errands.{FlushesOn, GrowsBy, HasPushedOn, Runs, num
 use Rattle.client_stub.proofs.Growth.{grows_then, grows_none}
 use Rattle.client_stub.proofs.Calling.{used_then}
 use Rattle.client_stub.proofs.SessionAsks.{PushAsks, push_asks, push_idle}
-use Rattle.client_stub.proofs.Stepping.{errand, grows_line, next_errand, next_there, next_idle, next_unlinked, runs_by, takes_by}
+use Rattle.client_stub.proofs.Stepping.{errand, grows_line, next_errand, next_there, next_idle, next_unlinked, takes_by}
 
 -- ---- the room that a push leaves
 

@@ -1,5 +1,5 @@
 -- How a client, its log and what a door shows grow, deed by deed.
-use Rattle.std.proofs.Common.{◌≡◌, ◌≤◌, ℕ, Bool, List, [], ◌∷◌, ◌++◌, Option, Some, None, Result, Ok, Err, refl, sym, ap, ◌∙◌, subst, append_assoc, map}
+use Rattle.std.proofs.Common.{◌≡◌, ◌≤◌, ℕ, List, [], ◌∷◌, ◌++◌, Option, Some, None, Result, Ok, Err, refl, sym, ap, ◌∙◌, subst, append_assoc, map}
 use Rattle.std.specs.Prelude.{All, IfSome, OnErr}
 use Rattle.std.proofs.lemmas.List.{map-append, append-nil}
 use Rattle.std.proofs.lemmas.List.Elements.{All-nil, All-cons, All-append}
@@ -22,7 +22,7 @@ use Rattle.dc_talk.specs.Doors.{DoorView, IsSameDoor, IsBehind, HasAsked, MayHav
 use Rattle.dc_talk.specs.Rule.{after}
 use Rattle.dc_talk.proofs.Doors.{done_none, done_quiet, done_ask, done_then, may_none, may_asked, may_done, may_then}
 use Rattle.script_text.specs.Deeds.{after_all, told}
-use Rattle.client_stub.specs.Playing.{Acting, Playing, Grows, Leaves, AllowsAll, IsAskBehind, IsLinkBehind, IsCutShort, acting, noted_all}
+use Rattle.client_stub.specs.Playing.{Acting, Playing, Grows, Leaves, AllowsAll, IsAskBehind, IsCutShort, acting, noted_all}
 
 -- ---- logs
 
@@ -138,17 +138,14 @@ short_noted a log between later deed more same = record { notes = marked log.sec
 pub short_asked : (a b : DoorView) (log later : Logged) (i : ℕ) (entry : Entry) → HasAsked a b i entry → later ≡ log → IsCutShort (acting a log) (acting b later)
 short_asked a b log later i entry asked same = short_same a log b later (may_asked a b i entry asked) same
 
--- these deeds were done
-pub short_grows : (p q : Playing) (ds : List Deed) → Grows p q ds → IsCutShort (acting p.door p.log) (acting q.door q.log)
-short_grows p q ds grows = record { notes = map (marked p.log.section p.log.step) ds; log = grows.log; door = may_done p.door q.door ds grows.door }
+-- these deeds were done, and no more was noted
+pub short_leaves : (a b : Acting) (later : Logged) (ds : List Deed) → Leaves a b ds → later ≡ b.log → IsCutShort a (acting b.door later)
+short_leaves a b later ds leaves same = record { notes = map (marked a.log.section a.log.step) ds; log = same ∙ leaves.log; door = may_done a.door b.door ds leaves.door }
 
-pub short_leaves : (a b : Acting) (ds : List Deed) → Leaves a b ds → IsCutShort a b
-short_leaves a b ds leaves = record { notes = map (marked a.log.section a.log.step) ds; log = leaves.log; door = may_done a.door b.door ds leaves.door }
-
--- one after another
-pub short_then : (a b c : Acting) → IsCutShort a b → IsCutShort b c → IsCutShort a c
-short_then a b c first later = record {
-  notes = first.notes ++ later.notes;
-  log = later.log ∙ (ap (λ (log : Logged). record log { notes = log.notes ++ later.notes }) first.log ∙ ap (λ notes. record a.log { notes = notes }) (append_assoc a.log.notes first.notes later.notes));
-  door = may_then a.door b.door c.door first.door later.door;
+-- an early end behind deeds that were done
+pub short_then : (p q : Playing) (b : Acting) (ds : List Deed) → Grows p q ds → IsCutShort (acting q.door q.log) b → IsCutShort (acting p.door p.log) b
+short_then p q b ds grows later = record {
+  notes = map (marked p.log.section p.log.step) ds ++ later.notes;
+  log = later.log ∙ (ap (λ (log : Logged). record log { notes = log.notes ++ later.notes }) grows.log ∙ ap (λ notes. record p.log { notes = notes }) (append_assoc p.log.notes (map (marked p.log.section p.log.step) ds) later.notes));
+  door = may_then p.door q.door b.door (may_done p.door q.door ds grows.door) later.door;
 }

@@ -1,17 +1,16 @@
 -- Late copies: the first commit ask of a number among the notes, and what the step leaves.
-use Rattle.std.proofs.Common.{◌≡◌, ◌<◌, ℕ, zero, suc, ◌+◌, Bool, true, false, inl, inr, length, get_or, drop, List, [], ◌∷◌, ◌++◌, Option, Some, None, refl, sym, ap, ◌∙◌, subst}
+use Rattle.std.proofs.Common.{◌≡◌, ◌<◌, ℕ, zero, suc, ◌+◌, Bool, true, false, inl, inr, length, get_or, drop, List, [], ◌∷◌, Option, Some, None, refl, sym, ap, ◌∙◌, subst}
 use Rattle.std.specs.Prelude.{◌==◌, is_some, slice_get}
 use Rattle.std.specs.Option.{option_or}
 use Rattle.std.proofs.lemmas.List.{at_drop_more}
 use Rattle.list_core.specs.Choices.{when}
 use Rattle.tx_core.specs.declared.tx.Tx.{Tx}
-use Rattle.dc_talk.specs.declared.ask.Ask.{Ask}
 use Rattle.dc_talk.specs.declared.ask.Ask.TheVariants.{Commit as CommitAsk}
 use Rattle.dc_talk.specs.declared.say.Say.{Say}
 use Rattle.dc_talk.specs.declared.log.Fate.{Fate}
 use Rattle.dc_talk.specs.declared.log.Fate.TheVariants.{Unheard}
 use Rattle.dc_talk.specs.declared.log.Deed.{Deed}
-use Rattle.dc_talk.specs.declared.log.Deed.TheVariants.{Asked, Told}
+use Rattle.dc_talk.specs.declared.log.Deed.TheVariants.{Asked}
 use Rattle.dc_talk.specs.declared.log.Note.{Note}
 use Rattle.dc_talk.specs.declared.line.Line.{Line}
 use Rattle.dc_talk.specs.declared.line.Line.TheVariants as line
@@ -19,7 +18,7 @@ use Rattle.dc_talk.specs.Logs.{Logged, entry_for, noted}
 use Rattle.dc_talk.specs.Doors.{DoorView, IsBehind, HasAsked}
 use Rattle.dc_talk.specs.Rule.{IsLate}
 use Rattle.script_text.specs.declared.steps.ClientStep.TheVariants.{Again}
-use Rattle.script_text.specs.Deeds.{AgainDeeds, OrTells, StepDeeds, again_line, commit_asked, commit_sent, told}
+use Rattle.script_text.specs.Deeds.{AgainDeeds, StepDeeds, again_line, commit_asked, commit_sent, told}
 use Rattle.client_stub.specs.Playing.{Playing, Grows, Takes, acting, noted_all, progress}
 use Rattle.client_stub.proofs.Growth.{grows_leaves, grows_then, grows_told, leaves_unheard}
 use Rattle.client_stub.proofs.Stepping.{grows_line, over_some, over_none}
@@ -84,15 +83,15 @@ late number notes tx say is =
 -- ---- the step
 
 -- a late copy that was answered
-pub again_takes : (p : Playing) (door : DoorView) (i number : ℕ) (tx : Tx) (say : Say) (between later : Logged) (said : Option Line) → commit_sent number p.log.notes ≡ Some tx → IsBehind p.door i → HasAsked p.door door i (entry_for p.door.actor (CommitAsk tx, say)) → between ≡ noted p.log (Asked i (CommitAsk tx) (Unheard say)) → said ≡ again_line p.client.client i number (Unheard say) → later ≡ noted_all between (told said) → Takes (Again i number) p (record p { door = door; log = later })
-again_takes p door i number tx say between later said sent behind asked noting lined telling =
+pub again_takes : (p : Playing) (door : DoorView) (i number : ℕ) (tx : Tx) (say : Say) (between later : Logged) (client : ℕ) (said : Option Line) → commit_sent number p.log.notes ≡ Some tx → IsBehind p.door i → HasAsked p.door door i (entry_for p.door.actor (CommitAsk tx, say)) → between ≡ noted p.log (Asked i (CommitAsk tx) (Unheard say)) → client ≡ p.client.client → said ≡ again_line client i number (Unheard say) → later ≡ noted_all between (told said) → Takes (Again i number) p (record p { door = door; log = later })
+again_takes p door i number tx say between later client said sent behind asked noting who lined telling =
     let deed : Deed = Asked i (CommitAsk tx) (Unheard say) in
     let q : Playing = record p { door = door; log = between } in
     let first : Grows p q (deed ∷ []) = grows_leaves p (acting door between) (deed ∷ []) (leaves_unheard p.door door p.log between i (CommitAsk tx) say behind asked noting) refl (inr (inl (late number p.log.notes tx say sent)), tt) in
     let last : Grows q (record q { log = later }) (told said) = subst (λ (log : Logged). Grows q (record q { log = log }) (told said)) (sym telling) (grows_told q said) in
     record {
       deeds = deed ∷ told said;
-      such = over_some (commit_sent number p.log.notes) tx (line.AgainNone p.client.client i number) (AgainDeeds p.client.client i number) (deed ∷ told said) sent (say, ap (λ said. deed ∷ told said) lined);
+      such = over_some (commit_sent number p.log.notes) tx (line.AgainNone p.client.client i number) (AgainDeeds p.client.client i number) (deed ∷ told said) sent (say, ap (λ said. deed ∷ told said) (lined ∙ ap (λ n. again_line n i number (Unheard say)) who));
       grows = grows_then p q (record q { log = later }) (deed ∷ []) (told said) first last;
       armed = refl;
     }

@@ -1,5 +1,5 @@
 -- What each step leaves is what is defined for it.
-use Rattle.std.proofs.Common.{◌≡◌, ℕ, Bool, true, false, cond, List, [], ◌∷◌, ◌++◌, Option, Some, None, Ok, Err, refl, sym, ap, ◌∙◌, subst, append_assoc}
+use Rattle.std.proofs.Common.{◌≡◌, ℕ, Bool, true, false, List, [], ◌∷◌, ◌++◌, Option, Some, None, Ok, Err, refl, sym, ap, ◌∙◌, subst}
 use Rattle.std.proofs.lemmas.List.{append-nil}
 use Rattle.dc_talk.specs.declared.ask.Ask.{Ask}
 use Rattle.dc_talk.specs.declared.ask.Ask.TheVariants.{Commit as CommitAsk}
@@ -22,7 +22,7 @@ use Rattle.script_text.specs.declared.steps.AskFault.{AskFault}
 use Rattle.script_text.specs.declared.steps.AskFault.TheVariants.{LoseAsk, LoseReply, Twice}
 use Rattle.script_text.specs.declared.steps.ClientStep.{ClientStep}
 use Rattle.script_text.specs.declared.steps.ClientStep.TheVariants.{Arm, Connect, Push, Refresh}
-use Rattle.script_text.specs.Deeds.{Asks, OrTells, OverNext, Pushes, FetchDeeds, RefreshDeeds, StepDeeds, after_all, after_fetch, armed_after, calls, copies, fate_of, fetch_line, told, took}
+use Rattle.script_text.specs.Deeds.{Asks, OrTells, OverNext, Pushes, FetchDeeds, RefreshDeeds, StepDeeds, after_all, after_fetch, armed_after, calls, copies, fate_of, told, took}
 use Rattle.client_stub.specs.declared.purpose.Purpose.{Purpose}
 use Rattle.client_stub.specs.declared.purpose.Purpose.TheVariants as purpose
 use Rattle.client_stub.specs.declared.purpose.Errand.{Errand}

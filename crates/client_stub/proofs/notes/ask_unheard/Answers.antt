@@ -1,5 +1,4 @@
 use Rattle.std.proofs.Common.{refl}
-use Rattle.dc_talk.specs.declared.log.Fate.TheVariants.{Unheard}
 use Rattle.dc_talk.proofs.Doors.{may_not}
 use Rattle.client_stub.proofs.Growth.{leaves_unheard, on_err, short_same, short_asked}
 use Rattle.client_stub.proofs.notes.ask_unheard.Goals as goal

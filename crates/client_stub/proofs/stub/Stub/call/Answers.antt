@@ -1,6 +1,4 @@
 use Rattle.std.proofs.Common.{◌≡◌, refl, ap, ◌∙◌, subst}
-use Rattle.dc_talk.specs.declared.log.Deed.TheVariants.{Did}
-use Rattle.dc_talk.specs.Clients.{Client}
 use Rattle.dc_talk.specs.Calls.{Ends}
 use Rattle.script_text.specs.Deeds.{call_line}
 use Rattle.client_stub.specs.Playing.{StubView, beside}

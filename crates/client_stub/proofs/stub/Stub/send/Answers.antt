@@ -1,7 +1,7 @@
 use Rattle.std.proofs.Common.{◌≡◌, refl, ap, ◌∙◌}
-use Rattle.client_stub.specs.Playing.{StubView, IsCutShort, acting, beside}
+use Rattle.client_stub.specs.Playing.{StubView, acting, beside}
 use Rattle.client_stub.specs.Errands.{second_of}
-use Rattle.client_stub.proofs.Growth.{on_err, short_grows, short_leaves, short_none, short_then}
+use Rattle.client_stub.proofs.Growth.{on_err, short_leaves, short_none, short_then}
 use Rattle.client_stub.proofs.Sending.{runs}
 use Rattle.client_stub.proofs.stub.Stub.send.Goals as goal
 
@@ -12,16 +12,13 @@ pub returns-in_err-ask_again-clause-short : goal.returns-in_err-ask_again-clause
 returns-in_err-ask_again-clause-short g c =
     let p = beside c.args.self.now (g.D.Door.shown c.args.door.now) c.args.log.now in
     let q = beside c.ask.new.self (g.D.Door.shown c.ask.new.door) c.ask.new.log in
-    let last : IsCutShort (acting q.door q.log) (acting (g.D.Door.shown c.ask_again.new.door) c.ask_again.new.log) = c.in_err-ask_again.ensures.short in
-    on_err _ (short_then _ _ _ (short_grows p q _ c.in_ok-line.ensures.asked.grows) last)
+    on_err _ (short_then p q _ _ c.in_ok-line.ensures.asked.grows c.in_err-ask_again.ensures.short)
 
 pub returns-in_err-tell-clause-short : goal.returns-in_err-tell-clause-short
 returns-in_err-tell-clause-short g c =
     let p = beside c.args.self.now (g.D.Door.shown c.args.door.now) c.args.log.now in
     let q = beside c.ask.new.self (g.D.Door.shown c.ask.new.door) c.ask.new.log in
-    let first = short_grows p q _ c.in_ok-line.ensures.asked.grows in
-    let second = short_leaves _ _ _ c.in_ok-ask_again.ensures.asks.leaves in
-    on_err _ (short_then _ _ _ (short_then _ _ _ first second) (short_none _ _ _ c.in_err-tell.ensures.err))
+    on_err _ (short_then p q _ _ c.in_ok-line.ensures.asked.grows (short_leaves _ _ c.tell.new.log _ c.in_ok-ask_again.ensures.asks.leaves c.in_err-tell.ensures.err))
 
 pub returns-clause-runs : goal.returns-clause-runs
 returns-clause-runs g c =
