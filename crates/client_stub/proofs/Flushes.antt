@@ -1,8 +1,6 @@
--- A flush pushes while commits are left, and each push that it goes on after leaves fewer.
-use Rattle.std.proofs.Common.{◌≡◌, ◌<◌, ℕ, ◌-◌, max, min, Bool, true, false, cond, inl, inr, List, [], ◌∷◌, ◌++◌, Option, Some, None, Ok, refl, sym, ap, ◌∙◌, subst, arith}
-use Rattle.std.specs.Prelude.{◌==◌, ◌&&◌}
-use Rattle.std.proofs.lemmas.Bool.{false≢true}
-use Rattle.std.proofs.lemmas.Option.{slice_get_within}
+-- A flush pushes while commits are left, and each push that it goes on after leaves less room at the door.
+use Rattle.std.proofs.Common.{◌≡◌, ◌≢◌, ◌<◌, ℕ, ◌-◌, ◌^◌, Bool, true, false, cond, List, [], ◌∷◌, ◌++◌, length, Option, Some, None, Ok, refl, sym, ap, ◌∙◌, subst, append_assoc, arith}
+use Rattle.std.proofs.lemmas.List.{append-nil}
 use Rattle.tx_core.specs.declared.tx.Tx.{Tx}
 use Rattle.dc_talk.specs.declared.ask.Ask.{Ask}
 use Rattle.dc_talk.specs.declared.ask.Ask.TheVariants.{Commit as CommitAsk}
@@ -11,164 +9,164 @@ use Rattle.dc_talk.specs.declared.say.Say.TheVariants.{Known, Stamped}
 use Rattle.dc_talk.specs.declared.calls.Connection.{Connection}
 use Rattle.dc_talk.specs.declared.log.Deed.{Deed}
 use Rattle.dc_talk.specs.declared.log.Deed.TheVariants.{Asked}
-use Rattle.dc_talk.specs.declared.log.Fate.TheVariants.{Heard}
+use Rattle.dc_talk.specs.declared.log.Fate.{Fate}
+use Rattle.dc_talk.specs.declared.log.Fate.TheVariants.{AskLost, ReplyLost, Heard, Unheard}
 use Rattle.dc_talk.specs.declared.line.Line.TheVariants as line
-use Rattle.dc_talk.specs.declared.settings.Settings.{Settings}
-use Rattle.dc_talk.specs.Entries.{Entry}
-use Rattle.dc_talk.specs.Answers.{answer}
-use Rattle.dc_talk.specs.Clients.{Client, settled}
-use Rattle.dc_talk.specs.Rule.{after, takes, taken, heard, is_linked, sent_through, next_commit}
+use Rattle.dc_talk.specs.Logs.{Logged, answered}
+use Rattle.dc_talk.specs.Clients.{Client}
+use Rattle.dc_talk.specs.Doors.{DoorView}
+use Rattle.dc_talk.specs.Rule.{after, heard, takes, taken}
+use Rattle.dc_talk.proofs.Doors.{done_longer}
 use Rattle.client_session.specs.SessionAnswers.{commit_ask}
+use Rattle.script_text.specs.declared.steps.AskFault.{AskFault}
+use Rattle.script_text.specs.declared.steps.AskFault.TheVariants.{LoseAsk, LoseReply, Twice}
 use Rattle.script_text.specs.declared.steps.ClientStep.TheVariants.{Flush as FlushStep}
-use Rattle.script_text.specs.Deeds.{goes_on, push_line, told, OrTells, Pushes, PushesOn, FlushEnds, FlushDeeds}
-use Rattle.dc_talk.proofs.ClientAnswers.{known_by}
+use Rattle.script_text.specs.Deeds.{FlushDeeds, FlushEnds, Progress, Pushes, PushesOn, after_all, copies, fate_of, goes_on, push_line, told, flush_ends, flush_goes}
 use Rattle.client_stub.specs.declared.purpose.Purpose.TheVariants as purpose
-use Rattle.client_stub.specs.Playing.{Playing, Grows, Takes, Exchanges, noted_all, after_all, number_in}
-use Rattle.client_stub.specs.Flushing.{IsInTurn, unsent, unsent_over, PushedOn, FlushesOn}
+use Rattle.client_stub.specs.Playing.{Playing, Grows, Takes, noted_all, progress}
+use Rattle.client_stub.specs.Errands.{FlushesOn, GrowsBy, HasPushedOn, Runs, number_in, room, room_over, used_by}
 use Rattle.client_stub.proofs.Growth.{grows_then, grows_none}
+use Rattle.client_stub.proofs.Calling.{used_then}
 use Rattle.client_stub.proofs.SessionAsks.{PushAsks, push_asks, push_idle}
-use Rattle.client_stub.proofs.Steps.{errand, grows_line, next_errand, next_there, next_idle, next_unlinked}
+use Rattle.client_stub.proofs.Stepping.{errand, grows_line, next_errand, next_there, next_idle, next_unlinked, takes_by}
 
--- ---- what a push leaves
+-- ---- the room that a push leaves
 
--- an answer to a commit moves the link alone
-turn_taken : (s : Client) (i : ℕ) (tx : Tx) (say : Say) → IsInTurn s → IsInTurn (taken s i (CommitAsk tx) say)
-turn_taken s i tx (Stamped stamp) turn = record { count = turn.count; client = turn.client; number = turn.number }
-turn_taken s i tx (Known through) turn = record { count = turn.count; client = turn.client; number = turn.number }
-turn_taken s i tx _ turn = turn
+-- what became of a commit ask leaves the client at its centre
+room_taken : (door : DoorView) (s : Client) (link : Connection) (i : ℕ) (tx : Tx) (say : Say) → s.link ≡ Some link → room_over door (taken s i (CommitAsk tx) say).link ≡ room_over door (Some link)
+room_taken door s link i tx (Stamped stamp) linked = rw linked refl
+room_taken door s link i tx (Known through) linked = rw linked refl
+room_taken door s link i tx _ linked = ap (room_over door) linked
 
-turn_heard : (s : Client) (i : ℕ) (tx : Tx) (say : Say) → IsInTurn s → IsInTurn (heard s i (CommitAsk tx) say)
-turn_heard s i tx say turn = go (takes s i (CommitAsk tx) say)
+room_heard : (door : DoorView) (s : Client) (link : Connection) (i : ℕ) (tx : Tx) (say : Say) → s.link ≡ Some link → room_over door (heard s i (CommitAsk tx) say).link ≡ room_over door (Some link)
+room_heard door s link i tx say linked = by_test (takes s i (CommitAsk tx) say)
   where
-    go : (test : Bool) → IsInTurn (cond test (taken s i (CommitAsk tx) say) s)
-    go true = turn_taken s i tx say turn
-    go false = turn
+    by_test : (test : Bool) → room_over door (cond test (taken s i (CommitAsk tx) say) s).link ≡ room_over door (Some link)
+    by_test true = room_taken door s link i tx say linked
+    by_test false = ap (room_over door) linked
 
--- the session takes what a push of it over its link was answered
-taken_over : (s : Client) (link : Connection) (tx : Tx) → tx.dot.client ≡ s.client → s.link ≡ Some link → ((tx.dot.client == s.client) && is_linked link.centre s.link) ≡ true
-taken_over s link tx who linked =
-    let same : (tx.dot.client == s.client) ≡ true = grind arith in
-    let here : (link.centre == link.centre) ≡ true = grind arith in
-    ap (λ test. test && is_linked link.centre s.link) same ∙ (ap (is_linked link.centre) linked ∙ here)
+room_after : (door : DoorView) (s : Client) (link : Connection) (i : ℕ) (tx : Tx) (fate : Fate) → s.link ≡ Some link → room_over door (after s (Asked i (CommitAsk tx) fate)).link ≡ room_over door (Some link)
+room_after door s link i tx (Heard say) linked = room_heard door s link i tx say linked
+room_after door s link i tx _ linked = ap (room_over door) linked
 
--- once the centre is known to have the commits through a number past those that are settled, fewer are unsent
-sent_fewer : (s : Client) (link : Connection) (number : ℕ) → settled s link < number → settled s link < s.own → unsent (record s { link = Some (record link { sent = min (max link.sent number) s.own }) }) < s.own - settled s link
-sent_fewer s link number past room = omega (arith, past, room)
+-- nor does a second copy move it
+copies_still : (s : Client) (armed : Option AskFault) (i : ℕ) (ask : Ask) (say : Say) → after_all s (copies armed i ask say) ≡ s
+copies_still s (Some Twice) i ask say = refl
+copies_still s (Some LoseAsk) i ask say = refl
+copies_still s (Some LoseReply) i ask say = refl
+copies_still s None i ask say = refl
 
-heard_fewer : (s t : Client) (link : Connection) (number : ℕ) → s.link ≡ Some link → settled s link < number → settled s link < s.own → t ≡ record s { link = sent_through number s.own s.link } → unsent t < unsent s
-heard_fewer s t link number linked past room is =
-    let here : t ≡ record s { link = Some (record link { sent = min (max link.sent number) s.own }) } = is ∙ ap (λ l. record s { link = sent_through number s.own l }) linked in
-    subst (λ t. unsent t < unsent s) (sym here) (subst (λ l. unsent (record s { link = Some (record link { sent = min (max link.sent number) s.own }) }) < unsent_over s l) (sym linked) (sent_fewer s link number past room))
+-- a push after which a flush goes on reached its centre
+on_answered : (fate : Fate) → goes_on fate ≡ true → (say : Say) × (answered fate ≡ Some say)
+on_answered (Heard say) on = (say, refl)
+on_answered (ReplyLost say) on = cc
+on_answered (Unheard say) on = cc
+on_answered AskLost on = cc
 
-pushed_fewer : (settings : Settings) (trail : List Entry) (s : Client) (link : Connection) (tx : Tx) (say : Say) → IsInTurn s → s.link ≡ Some link → next_commit s link ≡ Some tx → goes_on say ≡ true → say ≡ answer settings trail (CommitAsk tx) → unsent (heard s link.centre (CommitAsk tx) say) < unsent s
-pushed_fewer settings trail s link tx (Stamped stamp) turn linked next on answered =
-    let number = turn.number (settled s link - s.mine) tx next in
-    let place = slice_get_within s.pending (settled s link - s.mine) tx next in
-    let test = taken_over s link tx (turn.client (settled s link - s.mine) tx next) linked in
-    heard_fewer s (heard s link.centre (CommitAsk tx) (Stamped stamp)) link tx.dot.number linked (omega (arith, number)) (omega (arith, place, turn.count))
-    (ap (λ test. cond test (record s { link = sent_through tx.dot.number s.own s.link }) s) test)
-pushed_fewer settings trail s link tx (Known through) turn linked next on answered =
-    let number = turn.number (settled s link - s.mine) tx next in
-    let place = slice_get_within s.pending (settled s link - s.mine) tx next in
-    let test = taken_over s link tx (turn.client (settled s link - s.mine) tx next) linked in
-    let known = known_by settings trail tx through answered in
-    heard_fewer s (heard s link.centre (CommitAsk tx) (Known through)) link through linked (omega (arith, number, known.low)) (omega (arith, place, turn.count))
-    (ap (λ test. cond test (record s { link = sent_through through s.own s.link }) s) test)
-pushed_fewer settings trail s link tx _ turn linked next on answered = absurd (false≢true on)
+on_reached : (fate : Fate) → goes_on fate ≡ true → fate ≢ AskLost
+on_reached fate on lost = let no : goes_on AskLost ≡ true = subst (λ fate. goes_on fate ≡ true) lost on in cc
+
+falls : (most a b : ℕ) → a < b → b < most → most - b < most - a
+falls most a b more short = omega arith
+
+-- so less room is left
+pushed_fewer : (p q : Playing) (link : Connection) (tx : Tx) (fate : Fate) (again : Say) → p.client.link ≡ Some link → goes_on fate ≡ true → Grows p q (Asked link.centre (CommitAsk tx) fate ∷ copies p.armed link.centre (CommitAsk tx) again) → length (q.door.made link.centre) < 2 ^ 62 → room q < room p
+pushed_fewer p q link tx fate again linked on grows short =
+    let s = p.client in
+    let i : ℕ = link.centre in
+    let ask : Ask = CommitAsk tx in
+    let got = on_answered fate on in
+    let longer : length (p.door.made i) < length (q.door.made i) = done_longer p.door q.door i ask fate got.0 (copies p.armed i ask again) got.1 grows.door in
+    let client : q.client ≡ after s (Asked i ask fate) = grows.client ∙ copies_still (after s (Asked i ask fate)) p.armed i ask again in
+    let before : room p ≡ room_over p.door (Some link) = ap (room_over p.door) linked in
+    let behind : room q ≡ room_over q.door (Some link) = ap (λ (s : Client). room_over q.door s.link) client ∙ room_after q.door s link i tx fate linked in
+    subst (λ n. n < room p) (sym behind) (subst (λ n. room_over q.door (Some link) < n) (sym before) (falls (2 ^ 62) (length (p.door.made i)) (length (q.door.made i)) longer short))
 
 -- ---- one push of a flush
 
 -- the end of a flush by a push
-abbrev EndsSo : Client → Connection → Tx → List Deed → Type 0
-EndsSo s link tx deeds = (push : Pushes s link tx deeds) × (goes_on push.say ≡ false)
+abbrev EndsSo : Progress → Connection → Tx → List Deed → Type 0
+EndsSo p link tx deeds = (push : Pushes p link tx deeds) × (goes_on (fate_of p.armed push.say) ≡ false)
 
--- a push of a commit
-pub flush_pushes : (p q : Playing) (i : ℕ) (ask : Ask) (number : ℕ) (more : Bool) → commit_ask p.client ≡ Ok (Some (i, ask)) → number ≡ number_in ask → Exchanges (errand (purpose.Flush number) i ask) p q more → FlushesOn p q more
-flush_pushes p q i ask number more asked is e =
-    let a = push_asks p.client i ask asked in
-    let ex = next_errand (λ n. purpose.Flush n) p q i ask number more a is e in
-    subst (FlushesOn p q) (sym ex.goes) (go p q i ask a ex.say ex.answered (goes_on ex.say) refl ex.grows)
-  where
-    go : (p q : Playing) (i : ℕ) (ask : Ask) (a : PushAsks p.client i ask) (say : Say) → say ≡ answer p.desk.settings p.desk.entries (CommitAsk a.tx) → (test : Bool) → goes_on say ≡ test → Grows p q (Asked a.link.centre (CommitAsk a.tx) (Heard say) ∷ told (cond test None (push_line p.client.client a.tx.dot.number say))) → FlushesOn p q test
-    go p q i ask a say answered true on grows = record {
-      deed = Asked a.link.centre (CommitAsk a.tx) (Heard say);
-      pushes = record { link = a.link; linked = a.linked; tx = a.tx; next = a.next; say = say; on = on; asked = refl };
+-- a push of a commit, by whether the flush goes on
+pushes_so : (p q : Playing) (i : ℕ) (ask : Ask) (a : PushAsks p.client i ask) (say again : Say) (ds : List Deed) (test : Bool) → goes_on (fate_of p.armed say) ≡ test → ds ≡ Asked a.link.centre (CommitAsk a.tx) (fate_of p.armed say) ∷ (copies p.armed a.link.centre (CommitAsk a.tx) again ++ told (cond test None (push_line p.client.client a.tx.dot.number (fate_of p.armed say)))) → Grows p q ds → q.armed ≡ None → (fate_of p.armed say ≢ AskLost → length (q.door.made a.link.centre) < 2 ^ 62) → FlushesOn p q test
+pushes_so p q i ask a say again ds true on whole grows armed short =
+    let fate : Fate = fate_of p.armed say in
+    let bare : ds ≡ Asked a.link.centre (CommitAsk a.tx) fate ∷ copies p.armed a.link.centre (CommitAsk a.tx) again = whole ∙ ap (λ ds. Asked a.link.centre (CommitAsk a.tx) fate ∷ ds) (append-nil (copies p.armed a.link.centre (CommitAsk a.tx) again)) in
+    record {
+      deeds = ds;
+      pushes = record { link = a.link; linked = a.linked; tx = a.tx; next = a.next; say = say; again = again; on = on; asked = bare };
       grows = grows;
-      turn = λ turn. subst IsInTurn (sym grows.client) (turn_heard p.client a.link.centre a.tx say turn);
-      fewer = λ turn. subst (λ t. unsent t < unsent p.client) (sym grows.client) (pushed_fewer p.desk.settings p.desk.entries p.client a.link a.tx say turn a.linked a.next on answered);
+      armed = armed;
+      fewer = pushed_fewer p q a.link a.tx fate again a.linked on (subst (λ ds. Grows p q ds) bare grows) (short (on_reached fate on));
     }
-    go p q i ask a say answered false stops grows =
-        let deeds : List Deed = Asked a.link.centre (CommitAsk a.tx) (Heard say) ∷ told (push_line p.client.client a.tx.dot.number say) in
-        record {
-          deeds = deeds;
-          such = next_there p.client (line.Flushed p.client.client p.client.own) (EndsSo p.client) i ask a deeds (record { say = say; whole = refl }, stops);
-          grows = grows;
-        }
+pushes_so p q i ask a say again ds false stops whole grows armed short = record {
+  deeds = ds;
+  such = next_there p.client (line.Flushed p.client.client p.client.own) (EndsSo (progress p)) i ask a ds (record { say = say; again = again; whole = whole }, stops);
+  grows = grows;
+  armed = armed ∙ sym (ap (used_by p.armed) whole);
+}
+
+pub flush_pushes : (p q : Playing) (i : ℕ) (ask : Ask) (number : ℕ) (more : Bool) → commit_ask p.client ≡ Ok (Some (i, ask)) → number ≡ number_in ask → Runs (errand (purpose.Flush number) i ask) p q more → FlushesOn p q more
+flush_pushes p q i ask number more asked is runs =
+    let a = push_asks p.client i ask asked in
+    let r = next_errand (λ n. purpose.Flush n) p q i ask number more a is runs in
+    subst (FlushesOn p q) (sym r.goes) (pushes_so p q i ask a r.asks.say r.asks.again r.deeds (goes_on (fate_of p.armed r.asks.say)) refl r.asks.whole r.grows r.armed r.short)
 
 -- no commit is left
-pub flush_done : (p q : Playing) (client own : ℕ) → commit_ask p.client ≡ Ok None → client ≡ p.client.client → own ≡ p.client.own → q ≡ record p { log = noted_all p.log (told (Some (line.Flushed client own))) } → FlushesOn p q false
-flush_done p q client own asked same all is =
-    let s : Client = p.client in
-    grows_line (FlushEnds s) p q (line.Flushed client own) (line.Flushed s.client s.own) is (ap (λ n. line.Flushed n own) same ∙ ap (line.Flushed s.client) all) (next_idle s (line.Flushed s.client s.own) (EndsSo s) (push_idle s asked))
+pub flush_done : (p : Playing) (later : Logged) (client own : ℕ) → commit_ask p.client ≡ Ok None → client ≡ p.client.client → own ≡ p.client.own → later ≡ noted_all p.log (told (Some (line.Flushed client own))) → FlushesOn p (record p { log = later }) false
+flush_done p later client own asked same all is =
+    let s = p.client in
+    grows_line (FlushEnds (progress p)) p later (line.Flushed client own) (line.Flushed s.client s.own) is (ap (λ n. line.Flushed n own) same ∙ ap (line.Flushed s.client) all) (next_idle s (line.Flushed s.client s.own) (EndsSo (progress p)) (push_idle s asked))
 
 -- no centre is connected
-pub flush_unlinked : (p q : Playing) (client : ℕ) → p.client.link ≡ None → client ≡ p.client.client → q ≡ record p { log = noted_all p.log (told (Some (line.PushUnconnected client))) } → FlushesOn p q false
-flush_unlinked p q client none same is =
-    let s : Client = p.client in
-    grows_line (FlushEnds s) p q (line.PushUnconnected client) (line.PushUnconnected s.client) is (ap line.PushUnconnected same) (next_unlinked s (line.Flushed s.client s.own) (EndsSo s) none)
+pub flush_unlinked : (p : Playing) (later : Logged) (client : ℕ) → p.client.link ≡ None → client ≡ p.client.client → later ≡ noted_all p.log (told (Some (line.PushUnconnected client))) → FlushesOn p (record p { log = later }) false
+flush_unlinked p later client none same is =
+    let s = p.client in
+    grows_line (FlushEnds (progress p)) p later (line.PushUnconnected client) (line.PushUnconnected s.client) is (ap line.PushUnconnected same) (next_unlinked s (line.Flushed s.client s.own) (EndsSo (progress p)) none)
 
 -- ---- a whole flush
 
--- pushes after each of which the flush goes on
-abbrev pub AllPushOn : Client → List Deed → Type 0
-AllPushOn s [] = Unit {0}
-AllPushOn s (deed ∷ deeds) = PushesOn s deed × AllPushOn (after s deed) deeds
+-- how far a flush is from where it began
+abbrev pub reached : Playing → Playing → Progress
+reached p q = record { client = q.client; armed = q.armed; notes = p.log.notes }
 
-all_more : (s : Client) (deeds : List Deed) (deed : Deed) → AllPushOn s deeds → PushesOn (after_all s deeds) deed → AllPushOn s (deeds ++ deed ∷ [])
-all_more s [] deed all on = (on, tt)
-all_more s (first ∷ deeds) deed all on = (all.0, all_more (after s first) deeds deed all.1 on)
-
--- a flush that has come so far
+-- a flush that has come so far: whatever ends it there ends it whole
 pub record HasFlushed (p q : Playing) : Type 0 where
   pub deeds : List Deed
-  pub each : AllPushOn p.client deeds
+  pub ends : (later : List Deed) → FlushDeeds (reached p q) later → FlushDeeds (progress p) (deeds ++ later)
   pub grows : Grows p q deeds
-  pub turn : IsInTurn q.client
+  pub armed : q.armed ≡ used_by p.armed deeds
 
-pub flush_begins : (p : Playing) → IsInTurn p.client → HasFlushed p p
-flush_begins p turn = record { deeds = []; each = tt; grows = grows_none p; turn = turn }
+pub flush_begins : (p : Playing) → HasFlushed p p
+flush_begins p = record { deeds = []; ends = λ later f. f; grows = grows_none p; armed = refl }
 
-pub flush_more : (p q r : Playing) → HasFlushed p q → PushedOn q r → HasFlushed p r
+-- the notes from which a push goes on tell nothing of it
+pushes_from : (p q : Playing) (ds : List Deed) → PushesOn (progress q) ds → PushesOn (reached p q) ds
+pushes_from p q ds on = record { link = on.link; linked = on.linked; tx = on.tx; next = on.next; say = on.say; again = on.again; on = on.on; asked = on.asked }
+
+flush_on : (p q r : Playing) (on : HasPushedOn q r) (later : List Deed) → FlushDeeds (reached p r) later → FlushDeeds (reached p q) (on.deeds ++ later)
+flush_on p q r on later f =
+    let from : FlushDeeds (record { client = after_all q.client on.deeds; armed = None; notes = p.log.notes }) later =
+    subst (λ (s : Client). FlushDeeds (record { client = s; armed = None; notes = p.log.notes }) later) on.grows.client
+    (subst (λ (armed : Option AskFault). FlushDeeds (record { client = r.client; armed = armed; notes = p.log.notes }) later) on.armed f) in
+    flush_goes on.deeds later refl (pushes_from p q on.deeds on.pushes) from
+
+pushed_uses : (armed : Option AskFault) (s : Progress) (ds : List Deed) → PushesOn s ds → used_by armed ds ≡ None
+pushed_uses armed s ds on = ap (used_by armed) on.asked
+
+pub flush_more : (p q r : Playing) → HasFlushed p q → HasPushedOn q r → HasFlushed p r
 flush_more p q r h on = record {
-  deeds = h.deeds ++ on.deed ∷ [];
-  each = all_more p.client h.deeds on.deed h.each (subst (λ s. PushesOn s on.deed) h.grows.client on.pushes);
-  grows = grows_then p q r h.deeds (on.deed ∷ []) h.grows on.grows;
-  turn = on.turn h.turn;
+  deeds = h.deeds ++ on.deeds;
+  ends = λ later f. subst (FlushDeeds (progress p)) (sym (append_assoc h.deeds on.deeds later)) (h.ends (on.deeds ++ later) (flush_on p q r on later f));
+  grows = grows_then p q r h.deeds on.deeds h.grows on.grows;
+  armed = on.armed ∙ (sym (pushed_uses q.armed (progress q) on.deeds on.pushes) ∙ used_then p.armed q.armed h.deeds on.deeds h.armed);
 }
 
--- the end of a flush has a deed
-ends_some : (s : Client) → FlushEnds s [] → ⊥
-ends_some s ends = at s.link ends
-  where
-    next : (link : Connection) (tx : Option Tx) → OrTells tx (line.Flushed s.client s.own) (EndsSo s link) [] → ⊥
-    next link None ends = cc
-    next link (Some tx) ends = let whole = ends.0.whole in cc
-
-    at : (link : Option Connection) → OrTells link (line.PushUnconnected s.client) (λ link. OrTells (next_commit s link) (line.Flushed s.client s.own) (EndsSo s link)) [] → ⊥
-    at None ends = cc
-    at (Some link) ends = next link (next_commit s link) ends
-
-flush_last : (s : Client) (deeds : List Deed) → FlushEnds s deeds → FlushDeeds s deeds
-flush_last s [] ends = absurd (ends_some s ends)
-flush_last s (deed ∷ deeds) ends = inl ends
-
-flush_all : (s : Client) (deeds last : List Deed) → AllPushOn s deeds → FlushDeeds (after_all s deeds) last → FlushDeeds s (deeds ++ last)
-flush_all s [] last all flush = flush
-flush_all s (deed ∷ deeds) last all flush = inr (all.0, flush_all (after s deed) deeds last all.1 flush)
-
-pub flush_ends : (p q r : Playing) → HasFlushed p q → FlushesOn q r false → Takes FlushStep p r
-flush_ends p q r h ends = record {
-  deeds = h.deeds ++ ends.deeds;
-  such = flush_all p.client h.deeds ends.deeds h.each (subst (λ s. FlushDeeds s ends.deeds) h.grows.client (flush_last q.client ends.deeds ends.such));
-  grows = grows_then p q r h.deeds ends.deeds h.grows ends.grows;
-}
+pub flush_last : (p q r : Playing) → HasFlushed p q → GrowsBy (FlushEnds (progress q)) q r → Takes FlushStep p r
+flush_last p q r h last = takes_by FlushStep p r (λ deeds. refl) (record {
+  deeds = h.deeds ++ last.deeds;
+  such = h.ends last.deeds (flush_ends last.such);
+  grows = grows_then p q r h.deeds last.deeds h.grows last.grows;
+  armed = last.armed ∙ used_then p.armed q.armed h.deeds last.deeds h.armed;
+})

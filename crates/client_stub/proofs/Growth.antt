@@ -1,26 +1,30 @@
--- How a client with its log and the centre's trail grows, deed by deed.
-use Rattle.std.proofs.Common.{◌≡◌, ℕ, Bool, List, [], ◌∷◌, ◌++◌, Option, Some, None, inl, refl, sym, ap, ◌∙◌, subst, append_assoc, map}
-use Rattle.std.specs.List.{filter_map}
+-- How a client, its log and what a door shows grow, deed by deed.
+use Rattle.std.proofs.Common.{◌≡◌, ◌≤◌, ℕ, List, [], ◌∷◌, ◌++◌, Option, Some, None, Result, Ok, Err, refl, sym, ap, ◌∙◌, subst, append_assoc, map}
+use Rattle.std.specs.Prelude.{All, IfSome, OnErr}
 use Rattle.std.proofs.lemmas.List.{map-append, append-nil}
-use Rattle.std.proofs.lemmas.List.Elements.{filter_map-append}
+use Rattle.std.proofs.lemmas.List.Elements.{All-nil, All-cons, All-append}
 use Rattle.std.proofs.lemmas.List.Sums.{fold-append}
+use Rattle.list_core.proofs.Members.{All-In, In-All}
+use Rattle.dc_talk.specs.declared.ask.Ask.{Ask}
 use Rattle.dc_talk.specs.declared.say.Say.{Say}
+use Rattle.dc_talk.specs.declared.calls.Connection.{Connection}
 use Rattle.dc_talk.specs.declared.calls.Call.{Call}
 use Rattle.dc_talk.specs.declared.calls.Outcome.{Outcome}
-use Rattle.dc_talk.specs.declared.log.Fate.TheVariants.{Heard}
+use Rattle.dc_talk.specs.declared.log.Fate.TheVariants.{Unheard}
 use Rattle.dc_talk.specs.declared.log.Deed.{Deed}
-use Rattle.dc_talk.specs.declared.log.Deed.TheVariants.{Did, Asked}
+use Rattle.dc_talk.specs.declared.log.Deed.TheVariants.{Did, Asked, Told}
 use Rattle.dc_talk.specs.declared.line.Line.{Line}
-use Rattle.dc_talk.specs.Logs.{Logged, entry_of, noted}
+use Rattle.dc_talk.specs.Entries.{Entry}
+use Rattle.dc_talk.specs.Logs.{Logged, entry_for, marked, noted}
 use Rattle.dc_talk.specs.Clients.{Client}
 use Rattle.dc_talk.specs.Calls.{Ends}
-use Rattle.dc_talk.specs.Rule.{after, heard, Gives}
-use Rattle.dc_talk.specs.Answers.{answer}
-use Rattle.dc_centre.specs.Desk.{DeskView}
-use Rattle.script_text.specs.Deeds.{calls, call_line, told}
-use Rattle.client_stub.specs.declared.purpose.Errand.{Errand}
-use Rattle.client_stub.specs.Purposes.{line_after, goes_after}
-use Rattle.client_stub.specs.Playing.{Playing, Grows, AllowsAll, MakesCall, Exchanges, marked, noted_all, after_all, needs_fetch, takes_of}
+use Rattle.dc_talk.specs.Doors.{DoorView, IsSameDoor, IsBehind, HasAsked, MayHaveAsked}
+use Rattle.dc_talk.specs.Rule.{after}
+use Rattle.dc_talk.proofs.Doors.{done_none, done_quiet, done_ask, done_then, may_none, may_asked, may_done, may_then}
+use Rattle.script_text.specs.Deeds.{after_all, told}
+use Rattle.client_stub.specs.Playing.{Acting, Playing, Grows, Leaves, AllowsAll, IsAskBehind, IsCutShort, acting, noted_all}
+
+-- ---- logs
 
 -- more deeds after deeds
 noted_then : (log : Logged) (ds es : List Deed) → noted_all (noted_all log ds) es ≡ noted_all log (ds ++ es)
@@ -35,91 +39,113 @@ allows_then : (s : Client) (log : Logged) (ds es : List Deed) → AllowsAll s lo
 allows_then s log [] es first more = subst (λ log. AllowsAll s log es) (noted_none log) more
 allows_then s log (d ∷ ds) es first more = (first.0, allows_then (after s d) (noted log d) ds es first.1 (subst (λ log. AllowsAll (after_all (after s d) ds) log es) (sym (noted_then log (d ∷ []) ds)) more))
 
--- more entries
-desk_then : (a : Playing) (desk later : DeskView) (actor : ℕ) (ds es : List Deed) → desk ≡ record a.desk { entries = a.desk.entries ++ filter_map (entry_of a.log.actor) ds } → actor ≡ a.log.actor → later ≡ record desk { entries = desk.entries ++ filter_map (entry_of actor) es } → later ≡ record a.desk { entries = a.desk.entries ++ filter_map (entry_of a.log.actor) (ds ++ es) }
-desk_then a desk later actor ds es first same more =
-    more
-    ∙ (ap (λ n. record desk { entries = desk.entries ++ filter_map (entry_of n) es }) same
-    ∙ (ap (λ (d : DeskView). record d { entries = d.entries ++ filter_map (entry_of a.log.actor) es }) first
-    ∙ ap (λ entries. record a.desk { entries = entries }) (append_assoc a.desk.entries (filter_map (entry_of a.log.actor) ds) (filter_map (entry_of a.log.actor) es) ∙ ap (λ more. a.desk.entries ++ more) (sym (filter_map-append (entry_of a.log.actor) ds es)))))
+-- ---- what is behind a door
+
+-- the same door has the same centres behind it
+pub behind_on : (a b : DoorView) (i : ℕ) → IsSameDoor a b → IsBehind a i → IsBehind b i
+behind_on a b i same is = (is.0, subst (λ n. i ≤ n) (sym same.centres) is.1)
+
+behind_back : (a b : DoorView) (i : ℕ) → IsSameDoor a b → IsBehind b i → IsBehind a i
+behind_back a b i same is = (is.0, subst (λ n. i ≤ n) same.centres is.1)
+
+asked_back : (a b : DoorView) (deed : Deed) → IsSameDoor a b → IsAskBehind b deed → IsAskBehind a deed
+asked_back a b (Did call outcome) same is = tt
+asked_back a b (Asked i ask fate) same is = behind_back a b i same is
+asked_back a b (Told line) same is = tt
+
+all_behind : (a b : DoorView) (ds es : List Deed) → IsSameDoor a b → All (IsAskBehind a) ds → All (IsAskBehind b) es → All (IsAskBehind a) (ds ++ es)
+all_behind a b ds es same first more = All-append (IsAskBehind a) ds es first (In-All (IsAskBehind a) es (λ deed is. asked_back a b deed same (All-In (IsAskBehind b) es deed more is)))
+
+-- so a client's link stays behind it
+pub link_on : (a b : DoorView) (l : Option Connection) → IsSameDoor a b → IfSome l (λ link. IsBehind a link.centre) → IfSome l (λ link. IsBehind b link.centre)
+link_on a b None same is = is
+link_on a b (Some link) same is = behind_on a b link.centre same is
+
+-- ---- growth
 
 -- one growth after another
 pub grows_then : (a b c : Playing) (ds es : List Deed) → Grows a b ds → Grows b c es → Grows a c (ds ++ es)
 grows_then a b c ds es first more = record {
   log = more.log ∙ (ap (λ log. noted_all log es) first.log ∙ noted_then a.log ds es);
   client = more.client ∙ (ap (λ s. after_all s es) first.client ∙ sym (fold-append after a.client ds es));
-  desk = desk_then a b.desk c.desk b.log.actor ds es first.desk (ap (λ log. log.actor) first.log) more.desk;
+  door = done_then a.door b.door c.door ds es first.door more.door;
   allowed = allows_then a.client a.log ds es first.allowed
       (subst (λ (s : Client). AllowsAll s (noted_all a.log ds) es) first.client
       (subst (λ (log : Logged). AllowsAll b.client log es) first.log more.allowed));
+  behind = all_behind a.door b.door ds es first.door.same first.behind more.behind;
 }
 
 -- no deeds
 pub grows_none : (p : Playing) → Grows p p []
-grows_none p = record {
-  log = sym (noted_none p.log);
-  client = refl;
-  desk = ap (λ entries. record p.desk { entries = entries }) (sym (append-nil p.desk.entries));
-  allowed = tt;
-}
+grows_none p = record { log = sym (noted_none p.log); client = refl; door = done_none p.door; allowed = tt; behind = All-nil (IsAskBehind p.door) }
 
 -- a call of the session with its note
-grows_call : (p : Playing) (s : Client) (call : Call) (outcome : Outcome) → Ends p.client s call outcome → Grows p (record p { client = s; log = noted_all p.log (Did call outcome ∷ []) }) (Did call outcome ∷ [])
+pub grows_call : (p : Playing) (s : Client) (call : Call) (outcome : Outcome) → Ends p.client s call outcome → Grows p (record p { client = s; log = noted p.log (Did call outcome) }) (Did call outcome ∷ [])
 grows_call p s call outcome ends = record {
   log = refl;
   client = ends.after;
-  desk = ap (λ entries. record p.desk { entries = entries }) (sym (append-nil p.desk.entries));
+  door = done_quiet p.door (Did call outcome) (λ i. refl);
   allowed = (ends.ends, tt);
+  behind = All-cons (IsAskBehind p.door) (Did call outcome) [] tt (All-nil (IsAskBehind p.door));
 }
 
 -- a line that is told
 pub grows_told : (p : Playing) (line : Option Line) → Grows p (record p { log = noted_all p.log (told line) }) (told line)
-grows_told p None = record { log = refl; client = refl; desk = ap (λ entries. record p.desk { entries = entries }) (sym (append-nil p.desk.entries)); allowed = tt }
-grows_told p (Some line) = record { log = refl; client = refl; desk = ap (λ entries. record p.desk { entries = entries }) (sym (append-nil p.desk.entries)); allowed = (tt, tt) }
-
--- ---- a call
-
--- a call, its note and its line
-pub call_grows : (p r q : Playing) (call : Call) (outcome : Outcome) (line : Option Line) (needs : Bool) → Ends p.client r.client call outcome → r ≡ record p { client = r.client; log = noted_all p.log (Did call outcome ∷ []) } → line ≡ call_line p.client.client call outcome → needs ≡ needs_fetch outcome → q ≡ record r { log = noted_all r.log (told line) } → MakesCall call p q needs
-call_grows p r q call outcome line needs ends made lined need is =
-    let noted : Playing = record p { client = r.client; log = noted_all p.log (Did call outcome ∷ []) } in
-    let whole : q ≡ record noted { log = noted_all noted.log (told line) } = is ∙ ap (λ (r : Playing). record r { log = noted_all r.log (told line) }) made in
-    let deeds : Did call outcome ∷ told line ≡ calls p.client call = ap (λ l. Did call outcome ∷ told l) lined ∙ ap (λ out. Did call out ∷ told (call_line p.client.client call out)) ends.ends in
-    let grown : Grows p q (Did call outcome ∷ told line) = subst (λ q. Grows p q (Did call outcome ∷ told line)) (sym whole) (grows_then p noted (record noted { log = noted_all noted.log (told line) }) (Did call outcome ∷ []) (told line) (grows_call p r.client call outcome ends) (grows_told noted line)) in
-    record {
-      grows = subst (λ ds. Grows p q ds) deeds grown;
-      needed = need ∙ ap needs_fetch ends.ends;
-    }
-
--- ---- an errand
-
--- the player once the ask of an errand was answered so and heard
-abbrev pub after_errand : Playing → Errand → Say → Playing
-after_errand p e say = record {
-  desk = record p.desk { entries = p.desk.entries ++ record { caller = p.log.actor; ask = e.ask; say = say } ∷ [] };
-  client = heard p.client e.centre e.ask say;
-  log = noted_all p.log (Asked e.centre e.ask (Heard say) ∷ []);
+grows_told p None = subst (λ (log : Logged). Grows p (record p { log = log }) []) (sym (noted_none p.log)) (grows_none p)
+grows_told p (Some line) = record {
+  log = refl;
+  client = refl;
+  door = done_quiet p.door (Told line) (λ i. refl);
+  allowed = (tt, tt);
+  behind = All-cons (IsAskBehind p.door) (Told line) [] tt (All-nil (IsAskBehind p.door));
 }
 
--- an ask that the rule gives, and its answer
-grows_errand : (p : Playing) (e : Errand) (say : Say) → Gives p.client e.centre e.ask → Grows p (after_errand p e say) (Asked e.centre e.ask (Heard say) ∷ [])
-grows_errand p e say gives = record { log = refl; client = refl; desk = refl; allowed = (inl gives, tt) }
+-- the deeds of a log beside a door, which no session hears
+pub grows_leaves : (p : Playing) (q : Acting) (ds : List Deed) → Leaves (acting p.door p.log) q ds → p.client ≡ after_all p.client ds → AllowsAll p.client p.log ds → Grows p (record p { door = q.door; log = q.log }) ds
+grows_leaves p q ds leaves still allowed = record { log = leaves.log; client = still; door = leaves.door; allowed = allowed; behind = leaves.behind }
 
--- an errand whose ask was answered so, with the line that comes of it
-pub record IsRun (errand : Errand) (old new : Playing) (more : Bool) : Type 0 where
-  pub say : Say
-  pub answered : say ≡ answer old.desk.settings old.desk.entries errand.ask
-  pub after : new ≡ record (after_errand old errand say) { log = noted_all (after_errand old errand say).log (told (line_after errand.purpose old.client.client (takes_of old.client errand say) say)) }
-  pub goes : more ≡ goes_after errand.purpose (takes_of old.client errand say) say
+pub leaves_none : (a : Acting) → Leaves a a []
+leaves_none a = record { log = sym (noted_none a.log); door = done_none a.door; behind = All-nil (IsAskBehind a.door) }
 
--- it is growth by the ask and the line
-pub errand_grows : (e : Errand) (p q : Playing) (more : Bool) → Gives p.client e.centre e.ask → IsRun e p q more → Exchanges e p q more
-errand_grows e p q more gives run =
-    let asked : Playing = after_errand p e run.say in
-    let line : Option Line = line_after e.purpose p.client.client (takes_of p.client e run.say) run.say in
-    record {
-      say = run.say;
-      answered = run.answered;
-      grows = subst (λ q. Grows p q (Asked e.centre e.ask (Heard run.say) ∷ told line)) (sym run.after) (grows_then p asked (record asked { log = noted_all asked.log (told line) }) (Asked e.centre e.ask (Heard run.say) ∷ []) (told line) (grows_errand p e run.say gives) (grows_told asked line));
-      goes = run.goes;
-    }
+-- one ask that no session heard
+pub leaves_unheard : (a b : DoorView) (log later : Logged) (i : ℕ) (ask : Ask) (say : Say) → IsBehind a i → HasAsked a b i (entry_for a.actor (ask, say)) → later ≡ noted log (Asked i ask (Unheard say)) → Leaves (acting a log) (acting b later) (Asked i ask (Unheard say) ∷ [])
+leaves_unheard a b log later i ask say behind asked same = record {
+  log = same;
+  door = done_ask a b i ask (Unheard say) say refl asked;
+  behind = All-cons (IsAskBehind a) (Asked i ask (Unheard say)) [] behind (All-nil (IsAskBehind a));
+}
+
+-- ---- steps that came to an early end
+
+-- what holds in any case holds after an error
+pub on_err : {T E P : Type 0} (r : Result T E) → P → OnErr r P
+on_err (Ok x) p = tt
+on_err (Err e) p = p
+
+-- nothing was noted
+pub short_same : (a : DoorView) (log : Logged) (b : DoorView) (later : Logged) → MayHaveAsked a b → later ≡ log → IsCutShort (acting a log) (acting b later)
+short_same a log b later may same = record { notes = []; log = same ∙ sym (noted_none log); door = may }
+
+-- nothing was done
+pub short_none : (a : DoorView) (log later : Logged) → later ≡ log → IsCutShort (acting a log) (acting a later)
+short_none a log later same = short_same a log a later (may_none a) same
+
+-- one deed that exchanged nothing was noted
+pub short_noted : (a : DoorView) (log between later : Logged) (deed : Deed) → between ≡ noted log deed → later ≡ between → IsCutShort (acting a log) (acting a later)
+short_noted a log between later deed more same = record { notes = marked log.section log.step deed ∷ []; log = same ∙ more; door = may_none a }
+
+-- one ask was answered, and not noted
+pub short_asked : (a b : DoorView) (log later : Logged) (i : ℕ) (entry : Entry) → HasAsked a b i entry → later ≡ log → IsCutShort (acting a log) (acting b later)
+short_asked a b log later i entry asked same = short_same a log b later (may_asked a b i entry asked) same
+
+-- these deeds were done, and no more was noted
+pub short_leaves : (a b : Acting) (later : Logged) (ds : List Deed) → Leaves a b ds → later ≡ b.log → IsCutShort a (acting b.door later)
+short_leaves a b later ds leaves same = record { notes = map (marked a.log.section a.log.step) ds; log = same ∙ leaves.log; door = may_done a.door b.door ds leaves.door }
+
+-- an early end behind deeds that were done
+pub short_then : (p q : Playing) (b : Acting) (ds : List Deed) → Grows p q ds → IsCutShort (acting q.door q.log) b → IsCutShort (acting p.door p.log) b
+short_then p q b ds grows later = record {
+  notes = map (marked p.log.section p.log.step) ds ++ later.notes;
+  log = later.log ∙ (ap (λ (log : Logged). record log { notes = log.notes ++ later.notes }) grows.log ∙ ap (λ notes. record p.log { notes = notes }) (append_assoc p.log.notes (map (marked p.log.section p.log.step) ds) later.notes));
+  door = may_then p.door q.door b.door (may_done p.door q.door ds grows.door) later.door;
+}

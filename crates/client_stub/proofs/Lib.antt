@@ -1,4 +1,7 @@
 pub mod Growth
+pub mod Sending
+pub mod Calling
 pub mod SessionAsks
-pub mod Steps
+pub mod Stepping
+pub mod LateCopies
 pub mod Flushes

@@ -1,3 +1,3 @@
 pub mod Purposes
 pub mod Playing
-pub mod Flushing
+pub mod Errands

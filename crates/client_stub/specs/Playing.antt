@@ -1,107 +1,93 @@
--- One client beside one centre, and how both grow by the client's deeds.
-use Rattle.std.specs.Prelude.{◌≡◌, ℕ, ◌+◌, Bool, true, false, fold, map, List, [], ◌∷◌, ◌++◌}
-use Rattle.std.specs.List.{filter_map}
-use Rattle.dc_talk.specs.declared.ask.Ask.{Ask}
-use Rattle.dc_talk.specs.declared.ask.Ask.TheVariants.{Commit}
-use Rattle.dc_talk.specs.declared.say.Say.{Say}
-use Rattle.dc_talk.specs.declared.calls.Call.{Call}
-use Rattle.dc_talk.specs.declared.calls.Refusal.TheVariants.{NeedsFetch}
-use Rattle.dc_talk.specs.declared.calls.Outcome.{Outcome}
-use Rattle.dc_talk.specs.declared.calls.Outcome.TheVariants.{Refused}
-use Rattle.dc_talk.specs.declared.log.Fate.TheVariants.{Heard}
+-- A client before a door to the centres, and how its log and what the door shows grow by its deeds.
+use Rattle.std.specs.Prelude.{◌≡◌, map, IfSome, List, [], ◌∷◌, ◌++◌, Option, All}
 use Rattle.dc_talk.specs.declared.log.Deed.{Deed}
 use Rattle.dc_talk.specs.declared.log.Deed.TheVariants.{Asked}
 use Rattle.dc_talk.specs.declared.log.Note.{Note}
-use Rattle.dc_talk.specs.Logs.{Logged, entry_of, noted}
-use Rattle.dc_talk.specs.Clients.{Client, new_client}
-use Rattle.dc_talk.specs.Calls.{outcome_of}
-use Rattle.dc_talk.specs.Rule.{after, takes, Allows}
-use Rattle.dc_talk.specs.Answers.{answer}
-use Rattle.dc_centre.specs.Desk.{DeskView}
+use Rattle.dc_talk.specs.Logs.{Logged, marked, noted}
+use Rattle.dc_talk.specs.Clients.{Client}
+use Rattle.dc_talk.specs.Doors.{DoorView, IsBehind, HasDone, MayHaveAsked}
+use Rattle.dc_talk.specs.Rule.{after, Allows}
+use Rattle.script_text.specs.declared.steps.AskFault.{AskFault}
 use Rattle.script_text.specs.declared.steps.ClientStep.{ClientStep}
-use Rattle.script_text.specs.Deeds.{StepDeeds, calls, told}
-use Rattle.client_stub.specs.declared.purpose.Errand.{Errand}
-use Rattle.client_stub.specs.Purposes.{line_after, goes_after}
+use Rattle.script_text.specs.declared.steps.OperatorStep.{OperatorStep}
+use Rattle.script_text.specs.Deeds.{Progress, StepDeeds, OperatorDeeds, after_all, armed_after}
 
--- a centre with its trail, a client, and the client's log
+-- a client, with the fault that is armed for its next ask
+pub record StubView : Type 0 where
+  pub client : Client
+  pub armed : Option AskFault
+
+-- a door to the centres, and the log of the actor that asks through it
+pub record Acting : Type 0 where
+  pub door : DoorView
+  pub log : Logged
+
+-- the same with a client
 pub record Playing : Type 0 where
-  pub desk : DeskView
+  pub door : DoorView
   pub client : Client
+  pub armed : Option AskFault
   pub log : Logged
 
--- a client and its log
-pub record Seated : Type 0 where
-  pub client : Client
-  pub log : Logged
+-- a log beside a door
+abbrev pub acting : DoorView → Logged → Acting
+acting door log = record { door = door; log = log }
 
--- the same beside a centre
-abbrev pub beside : Seated → DeskView → Playing
-beside seat desk = record { desk = desk; client = seat.client; log = seat.log }
+-- a client before a door, with its log
+abbrev pub beside : StubView → DoorView → Logged → Playing
+beside stub door log = record { door = door; client = stub.client; armed = stub.armed; log = log }
 
--- a client among n centres, at first
-abbrev pub new_seat : ℕ → ℕ → ℕ → Seated
-new_seat client n cache = record { client = new_client n client cache; log = record { actor = client + 1; section = 0; step = 0; notes = [] } }
+-- how far the client is
+abbrev pub progress : Playing → Progress
+progress p = record { client = p.client; armed = p.armed; notes = p.log.notes }
 
--- a deed as a note of a section and step
-abbrev pub marked : ℕ → ℕ → Deed → Note
-marked section step deed = record { section = section; step = step; deed = deed }
-
--- the log with more deeds
+-- the log with more deeds, at the section and step that it is at
 abbrev pub noted_all : Logged → List Deed → Logged
 noted_all log deeds = record log { notes = log.notes ++ map (marked log.section log.step) deeds }
-
--- the client after deeds
-abbrev pub after_all : Client → List Deed → Client
-after_all s deeds = fold after s deeds
 
 -- each deed is one that the session rule allows, in turn
 abbrev pub AllowsAll : Client → Logged → List Deed → Type 0
 AllowsAll s log [] = Unit {0}
 AllowsAll s log (deed ∷ deeds) = Allows s log.notes deed × AllowsAll (after s deed) (noted log deed) deeds
 
--- client, log and trail grow by these deeds
+-- the centre of an ask is behind the door
+abbrev pub IsAskBehind : DoorView → Deed → Type 0
+IsAskBehind door (Asked i ask fate) = IsBehind door i
+IsAskBehind door _ = Unit {0}
+
+-- the client is connected to no centre, or to one behind the door
+abbrev pub IsLinkBehind : DoorView → Client → Type 0
+IsLinkBehind door s = IfSome s.link (λ link. IsBehind door link.centre)
+
+-- the client, its log and what the door shows grow by these deeds
 pub record Grows (old new : Playing) (deeds : List Deed) : Type 0 where
   pub log : new.log ≡ noted_all old.log deeds
   pub client : new.client ≡ after_all old.client deeds
-  pub desk : new.desk ≡ record old.desk { entries = old.desk.entries ++ filter_map (entry_of old.log.actor) deeds }
+  pub door : HasDone old.door new.door deeds
   pub allowed : AllowsAll old.client old.log deeds
+  pub behind : All (IsAskBehind old.door) deeds
 
--- they grow by deeds that are so
-pub record GrowsBy (Are : List Deed → Type 0) (old new : Playing) : Type 0 where
+-- a step of the client: what it leaves is what is defined for the step
+pub record Takes (step : ClientStep) (old new : Playing) : Type 0 where
   pub deeds : List Deed
-  pub such : Are deeds
+  pub such : StepDeeds (progress old) step deeds
   pub grows : Grows old new deeds
+  pub armed : new.armed ≡ armed_after old.armed step deeds
 
--- a step of the client: what it leaves is as is defined for the step
-abbrev pub Takes : ClientStep → Playing → Playing → Type 0
-Takes step old new = GrowsBy (StepDeeds old.client step) old new
+-- a log and what the door shows grow by these deeds
+pub record Leaves (old new : Acting) (deeds : List Deed) : Type 0 where
+  pub log : new.log ≡ noted_all old.log deeds
+  pub door : HasDone old.door new.door deeds
+  pub behind : All (IsAskBehind old.door) deeds
 
--- whether a call has to have its object fetched
-abbrev pub needs_fetch : Outcome → Bool
-needs_fetch (Refused (NeedsFetch o)) = true
-needs_fetch _ = false
+-- a step of the operator: what it leaves is what is defined for the step
+pub record Operates (step : OperatorStep) (old new : Acting) : Type 0 where
+  pub deeds : List Deed
+  pub such : OperatorDeeds step deeds
+  pub leaves : Leaves old new deeds
 
--- a call with its line, and whether it has to have its object fetched
-pub record MakesCall (call : Call) (old new : Playing) (needs : Bool) : Type 0 where
-  pub grows : Grows old new (calls old.client call)
-  pub needed : needs ≡ needs_fetch (outcome_of old.client call)
-
--- whether the session takes an answer to an errand
-abbrev pub takes_of : Client → Errand → Say → Bool
-takes_of s errand say = takes s errand.centre errand.ask say
-
--- an errand that the session makes then: its ask was answered and heard, and its line told
-pub record Exchanges (errand : Errand) (old new : Playing) (more : Bool) : Type 0 where
-  pub say : Say
-  pub answered : say ≡ answer old.desk.settings old.desk.entries errand.ask
-  pub grows : Grows old new (Asked errand.centre errand.ask (Heard say) ∷ told (line_after errand.purpose old.client.client (takes_of old.client errand say) say))
-  pub goes : more ≡ goes_after errand.purpose (takes_of old.client errand say) say
-
--- the number of the transaction that an ask commits
-abbrev pub number_in : Ask → ℕ
-number_in (Commit tx) = tx.dot.number
-number_in _ = 0
-
--- the player with its log at a section, of which it takes the only step
-abbrev pub at_section : Playing → ℕ → Playing
-at_section p section = record p { log = record p.log { section = section; step = 1 } }
+-- a step that came to an early end: notes were put behind those of the log, and the door may have been asked
+pub record IsCutShort (old new : Acting) : Type 0 where
+  pub notes : List Note
+  pub log : new.log ≡ record old.log { notes = old.log.notes ++ notes }
+  pub door : MayHaveAsked old.door new.door

@@ -1,59 +1,77 @@
 // The calls that the steps of a client make at its session.
-ghost use Rattle.std.specs.Prelude.{◌≡◌, IfOk, OnOk};
+ghost use Rattle.std.specs.Prelude.{◌≡◌, IfOk, OnOk, OnErr};
 ghost use Rattle.dc_talk.specs.Calls.{outcome_of};
-ghost use Rattle.dc_centre.specs.Desk.{DeskView};
+ghost use Rattle.dc_talk.specs.Doors.{DoorView};
 ghost use Rattle.script_text.specs.Deeds.{CallDeeds, calls, change_call, read_call};
-ghost use Rattle.client_stub.specs.Playing.{GrowsBy, MakesCall, beside, needs_fetch};
+ghost use Rattle.client_stub.specs.Playing.{IsCutShort, IsLinkBehind, acting, beside, progress};
+ghost use Rattle.client_stub.specs.Errands.{GrowsBy, MakesCall, needs_fetch};
 
 use crate::lines::{call_line, word_of};
-use crate::seat::Seat;
-use dc_centre::Desk;
-use dc_talk::{Call, Change, Deed, Outcome, Refusal, StepWord};
+use crate::notes::tell;
+use crate::stub::Stub;
+use dc_talk::{Call, Change, Deed, Door, Log, Outcome, Refusal, StepWord};
 use ids_core::{NoMemory, ObjectId};
 use script_text::ObjectCall;
 use std::alloc::Global;
 
-impl Seat {
+impl Stub {
     // Makes a call of the session, notes how it ended, and tells its line. Answers whether it has to
     // have its object fetched.
-    pub(crate) fn call(&mut self, alloc: Global, call: &Call) -> Result<bool, NoMemory>
-        ensures { IfOk result (λ needs. (desk : DeskView) → MakesCall call.now (beside self.old desk) (beside self.new desk) needs) }
+    pub(crate) fn call(
+        &mut self,
+        alloc: Global,
+        call: &Call,
+        log: &mut Log,
+    ) -> Result<bool, NoMemory>
+        ensures makes { IfOk result (λ needs. (door : DoorView) → MakesCall call.now (beside self.old door log.old) (beside self.new door log.new) needs) }
+        ensures linked { self.new.client.link ≡ self.old.client.link }
+        ensures short { (door : DoorView) → OnErr result (IsCutShort (acting door log.old) (acting door log.new)) }
     {
         let client = self.session.client();
         let outcome = self.session.call(alloc, call)?;
         let needs = needs_fetch(&outcome);
         let line = call_line(client, call, &outcome)?;
         let call = *call;
-        self.log.push(Deed::Did { call, outcome })?;
-        self.tell(line)?;
+        log.push(Deed::Did { call, outcome })?;
+        tell(log, line)?;
         Ok(needs)
     }
 
     // A step that is a call on no object.
-    pub(crate) fn call_alone(
+    pub(crate) fn call_alone<D: Door>(
         &mut self,
         alloc: Global,
-        desk: &Desk,
+        door: &mut D,
         call: &Call,
+        log: &mut Log,
     ) -> Result<(), NoMemory>
-        ensures { OnOk result (GrowsBy (λ deeds. deeds ≡ calls self.old.client call.now) (beside self.old desk.now) (beside self.new desk.now)) }
+        requires { IsLinkBehind (D.shown door.old) self.old.client }
+        ensures place { D.place door.new ≡ D.place door.old }
+        ensures grows { OnOk result (GrowsBy (λ deeds. deeds ≡ calls self.old.client call.now) (beside self.old (D.shown door.old) log.old) (beside self.new (D.shown door.new) log.new)) }
+        ensures linked { IsLinkBehind (D.shown door.new) self.new.client }
+        ensures short { OnErr result (IsCutShort (acting (D.shown door.old) log.old) (acting (D.shown door.new) log.new)) }
     {
-        self.call(alloc, call)?;
+        self.call(alloc, call, log)?;
         Ok(())
     }
 
     // A step that is a call on an object: where the object is needed, it is fetched, and the call made
     // again.
-    pub(crate) fn call_on(
+    pub(crate) fn call_on<D: Door>(
         &mut self,
         alloc: Global,
-        desk: &mut Desk,
+        door: &mut D,
         on: &ObjectCall,
+        log: &mut Log,
     ) -> Result<(), NoMemory>
-        ensures { OnOk result (GrowsBy (CallDeeds self.old.client on.now (outcome_of self.old.client on.now.call)) (beside self.old desk.old) (beside self.new desk.new)) }
+        requires { IsLinkBehind (D.shown door.old) self.old.client }
+        ensures place { D.place door.new ≡ D.place door.old }
+        ensures grows { OnOk result (GrowsBy (CallDeeds (progress (beside self.old (D.shown door.old) log.old)) on.now (outcome_of self.old.client on.now.call)) (beside self.old (D.shown door.old) log.old) (beside self.new (D.shown door.new) log.new)) }
+        ensures linked { IsLinkBehind (D.shown door.new) self.new.client }
+        ensures short { OnErr result (IsCutShort (acting (D.shown door.old) log.old) (acting (D.shown door.new) log.new)) }
     {
-        if self.call(alloc, &on.call)? {
-            self.fetch(alloc, desk, on)?;
+        if self.call(alloc, &on.call, log)? {
+            self.fetch(alloc, door, on, log)?;
         }
         Ok(())
     }

@@ -1,11 +1,18 @@
-//! Plays the steps of a client: the calls of its session, what it asks a centre, and the lines that it
-//! is told (Zawirski and others, Middleware 2015, sections 3 and 4).
+//! Plays the steps of a client over any door to the centres: the calls of its session, what it asks under
+//! which fault, and the lines that it is told (Zawirski and others, Middleware 2015, sections 3 and 4); and
+//! the steps of the operator.
 #![tactic(auto)]
 
+mod again;
 mod asks;
 mod calls;
+mod flush;
 mod lines;
+mod notes;
+mod operator;
 mod purpose;
-mod seat;
+mod send;
+mod stub;
 
-pub use seat::Seat;
+pub use operator::operate;
+pub use stub::Stub;

@@ -1,10 +1,10 @@
-// The lines of steps, by how the session and the centre answered; an answer to an ask of another kind
-// has none.
+// The lines of steps, by how a call ended and by what became of an ask; an answer to an ask of another
+// kind has none.
 ghost use Rattle.std.specs.Prelude.{◌≡◌, IfOk};
 ghost use Rattle.dc_talk.specs.declared.calls.Call.TheVariants.{Begin as BeginCall, Change as ChangeCall, Read as ReadCall, Commit as CommitCall, Abort as AbortCall};
-ghost use Rattle.script_text.specs.Deeds.{lack, miss_of, hello_line, word_of, call_line, fetch_line, push_end, push_line, goes_on, refresh_line};
+ghost use Rattle.script_text.specs.Deeds.{lack, missed_by, miss_of, hello_line, word_of, call_line, fetch_line, answer_end, push_end, push_line, again_line, goes_on, refresh_line};
 
-use dc_talk::{Call, Change, Line, Miss, Outcome, PushEnd, Refusal, Say, StepWord};
+use dc_talk::{Call, Change, Fate, Line, Miss, Outcome, PushEnd, Refusal, Say, StepWord};
 use ids_core::{NoMemory, ObjectId};
 use script_text::ObjectCall;
 use vv_core::Lack;
@@ -17,8 +17,8 @@ fn lack(centre: u8, need: u64, have: u64) -> Lack
 }
 
 // Why an answer counts for nothing, where it does.
-fn miss_of(say: &Say) -> Option<Miss>
-    ensures { result ≡ miss_of say.now }
+fn missed_by(say: &Say) -> Option<Miss>
+    ensures { result ≡ missed_by say.now }
 {
     match say {
         Say::Down => Some(Miss::Unreachable),
@@ -27,17 +27,29 @@ fn miss_of(say: &Say) -> Option<Miss>
     }
 }
 
-/// The line of a connect that was answered so.
-pub fn hello_line(client: u32, centre: u8, say: &Say) -> Option<Line>
-    ensures { result ≡ hello_line client centre say.now }
+// Why an ask has no answer that counts, where it has none.
+fn miss_of(fate: &Fate) -> Option<Miss>
+    ensures { result ≡ miss_of fate.now }
 {
-    match say {
-        Say::Welcome { .. } => Some(Line::At { client, centre }),
-        Say::Lacks {
+    match fate {
+        Fate::AskLost => Some(Miss::Lost),
+        Fate::ReplyLost(_) => Some(Miss::Lost),
+        Fate::Heard(say) => missed_by(say),
+        Fate::Unheard(say) => missed_by(say),
+    }
+}
+
+/// The line of a connect whose ask came to this.
+pub fn hello_line(client: u32, centre: u8, fate: &Fate) -> Option<Line>
+    ensures { result ≡ hello_line client centre fate.now }
+{
+    match fate {
+        Fate::Heard(Say::Welcome { .. }) => Some(Line::At { client, centre }),
+        Fate::Heard(Say::Lacks {
             centre: of,
             need,
             have,
-        } => {
+        }) => {
             let lack = lack(*of, *need, *have);
             Some(Line::Refused {
                 client,
@@ -45,7 +57,7 @@ pub fn hello_line(client: u32, centre: u8, say: &Say) -> Option<Line>
                 lack,
             })
         }
-        _ => miss_of(say).map(|miss| Line::ConnectMissed {
+        _ => miss_of(fate).map(|miss| Line::ConnectMissed {
             client,
             centre,
             miss,
@@ -152,24 +164,32 @@ fn abort_line(client: u32, outcome: &Outcome) -> Option<Line>
     }
 }
 
-/// The line of a fetch for a call that gave no state.
-pub fn fetch_line(client: u32, on: &ObjectCall, say: &Say) -> Option<Line>
-    ensures { result ≡ fetch_line client on.now say.now }
+/// The line of a fetch for a call, where it gave no state.
+pub fn fetch_line(client: u32, on: &ObjectCall, fate: &Fate) -> Option<Line>
+    ensures { result ≡ fetch_line client on.now fate.now }
 {
     let (word, object) = (on.word, on.object);
-    match say {
-        Say::Lacks { centre, need, have } => Some(Line::FetchLacks {
+    match fate {
+        Fate::Heard(Say::Lacks { centre, need, have }) => Some(Line::FetchLacks {
             client,
             word,
             object,
             lack: lack(*centre, *need, *have),
         }),
-        Say::Object { .. } => Some(Line::FetchIgnored {
+        Fate::Heard(Say::Pruned { centre, base, at }) => Some(Line::FetchPruned {
+            client,
+            word,
+            object,
+            centre: *centre,
+            base: *base,
+            at: *at,
+        }),
+        Fate::Heard(Say::Object { .. }) => Some(Line::FetchIgnored {
             client,
             word,
             object,
         }),
-        _ => miss_of(say).map(|miss| Line::FetchMissed {
+        _ => miss_of(fate).map(|miss| Line::FetchMissed {
             client,
             word,
             object,
@@ -178,16 +198,19 @@ pub fn fetch_line(client: u32, on: &ObjectCall, say: &Say) -> Option<Line>
     }
 }
 
-/// Whether a flush goes on after a push that was answered so: the commit is at the centre.
-pub fn goes_on(say: &Say) -> bool
-    ensures { result ≡ goes_on say.now }
+/// Whether a flush goes on after a push whose ask came to this: the commit is at the centre.
+pub fn goes_on(fate: &Fate) -> bool
+    ensures { result ≡ goes_on fate.now }
 {
-    matches!(say, Say::Stamped { .. } | Say::Known { .. })
+    matches!(
+        fate,
+        Fate::Heard(Say::Stamped { .. }) | Fate::Heard(Say::Known { .. })
+    )
 }
 
 // How a push that was answered so ended.
-fn push_end(say: &Say) -> Option<PushEnd>
-    ensures { result ≡ push_end say.now }
+fn answer_end(say: &Say) -> Option<PushEnd>
+    ensures { result ≡ answer_end say.now }
 {
     match say {
         Say::Stamped { stamp } => Some(PushEnd::Stamped { stamp: *stamp }),
@@ -197,27 +220,50 @@ fn push_end(say: &Say) -> Option<PushEnd>
         Say::Lacks { centre, need, have } => Some(PushEnd::Lacks {
             lack: lack(*centre, *need, *have),
         }),
-        _ => miss_of(say).map(|miss| PushEnd::Missed { miss }),
+        _ => missed_by(say).map(|miss| PushEnd::Missed { miss }),
     }
 }
 
-/// The line of the push of a commit of this number.
-pub fn push_line(client: u32, number: u64, say: &Say) -> Option<Line>
-    ensures { result ≡ push_line client number say.now }
+// How a push ended, whether or not its answer was heard.
+fn push_end(fate: &Fate) -> Option<PushEnd>
+    ensures { result ≡ push_end fate.now }
 {
-    push_end(say).map(|end| Line::Push {
+    match fate {
+        Fate::Heard(say) => answer_end(say),
+        Fate::Unheard(say) => answer_end(say),
+        _ => Some(PushEnd::Missed { miss: Miss::Lost }),
+    }
+}
+
+/// The line of the push of the commit of this number whose ask came to this.
+pub fn push_line(client: u32, number: u64, fate: &Fate) -> Option<Line>
+    ensures { result ≡ push_line client number fate.now }
+{
+    push_end(fate).map(|end| Line::Push {
         client,
         number,
         end,
     })
 }
 
-/// The line of a refresh that was answered so, by whether the session took the answer.
-pub fn refresh_line(client: u32, took: bool, say: &Say) -> Option<Line>
-    ensures { result ≡ refresh_line client took say.now }
+/// The line of a late copy of the commit of this number whose ask came to this.
+pub fn again_line(client: u32, centre: u8, number: u64, fate: &Fate) -> Option<Line>
+    ensures { result ≡ again_line client centre number fate.now }
 {
-    match say {
-        Say::Snap { vector, mine, .. } => {
+    push_end(fate).map(|end| Line::Again {
+        client,
+        centre,
+        number,
+        end,
+    })
+}
+
+/// The line of a refresh whose ask came to this, by whether the session took the answer.
+pub fn refresh_line(client: u32, took: bool, fate: &Fate) -> Option<Line>
+    ensures { result ≡ refresh_line client took fate.now }
+{
+    match fate {
+        Fate::Heard(Say::Snap { vector, mine, .. }) => {
             if took {
                 Some(Line::Sees {
                     client,
@@ -228,10 +274,10 @@ pub fn refresh_line(client: u32, took: bool, say: &Say) -> Option<Line>
                 Some(Line::RefreshIgnored { client })
             }
         }
-        Say::Lacks { centre, need, have } => Some(Line::RefreshLacks {
+        Fate::Heard(Say::Lacks { centre, need, have }) => Some(Line::RefreshLacks {
             client,
             lack: lack(*centre, *need, *have),
         }),
-        _ => miss_of(say).map(|miss| Line::RefreshMissed { client, miss }),
+        _ => miss_of(fate).map(|miss| Line::RefreshMissed { client, miss }),
     }
 }

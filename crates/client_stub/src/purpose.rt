@@ -2,7 +2,7 @@
 ghost use Rattle.std.specs.Prelude.{◌≡◌};
 
 use crate::lines::{fetch_line, goes_on, hello_line, push_line, refresh_line};
-use dc_talk::{Ask, Line, Say};
+use dc_talk::{Ask, Fate, Line};
 use script_text::ObjectCall;
 
 /// Why a client asks a centre.
@@ -31,39 +31,39 @@ pub struct Errand {
 impl Purpose {
     ghost use Rattle.client_stub.specs.Purposes.{goes_after, line_after};
 
-    /// The line that comes of the answer, by whether the session took it; none where a state was
-    /// fetched, since the call is made again then, and where a flush goes on.
-    pub fn line_after(&self, client: u32, took: bool, say: &Say) -> Option<Line>
-        ensures { result ≡ line_after self.now client took say.now }
+    /// The line that comes of what became of the ask, by whether the session took that; none where a
+    /// state was fetched, since the call is made again then, and where a flush goes on.
+    pub fn line_after(&self, client: u32, took: bool, fate: &Fate) -> Option<Line>
+        ensures { result ≡ line_after self.now client took fate.now }
     {
         match self {
-            Purpose::Connect { centre } => hello_line(client, *centre, say),
+            Purpose::Connect { centre } => hello_line(client, *centre, fate),
             Purpose::Fetch(on) => {
                 if took {
                     None
                 } else {
-                    fetch_line(client, on, say)
+                    fetch_line(client, on, fate)
                 }
             }
-            Purpose::Push { number } => push_line(client, *number, say),
+            Purpose::Push { number } => push_line(client, *number, fate),
             Purpose::Flush { number } => {
-                if goes_on(say) {
+                if goes_on(fate) {
                     None
                 } else {
-                    push_line(client, *number, say)
+                    push_line(client, *number, fate)
                 }
             }
-            Purpose::Refresh => refresh_line(client, took, say),
+            Purpose::Refresh => refresh_line(client, took, fate),
         }
     }
 
-    /// Whether the step goes on after the answer: with the call where a state was fetched, with more
-    /// pushes in a flush.
-    pub fn goes_after(&self, took: bool, say: &Say) -> bool
-        ensures { result ≡ goes_after self.now took say.now }
+    /// Whether the step goes on after the ask: with the call where a state was fetched, with more pushes
+    /// in a flush.
+    pub fn goes_after(&self, took: bool, fate: &Fate) -> bool
+        ensures { result ≡ goes_after self.now took fate.now }
     {
         match self {
-            Purpose::Flush { .. } => goes_on(say),
+            Purpose::Flush { .. } => goes_on(fate),
             _ => took,
         }
     }

@@ -1,5 +1,5 @@
 -- What deeds leave at a door, one after another.
-use Rattle.std.proofs.Common.{◌≡◌, ℕ, ◌+◌, inl, inr, ⊎_elim, Bool, true, false, cond, List, [], ◌∷◌, ◌++◌, Option, Some, None, refl, sym, ap, ◌∙◌, subst}
+use Rattle.std.proofs.Common.{◌≡◌, ◌<◌, ℕ, ◌+◌, length, length-append, arith, inl, inr, ⊎_elim, Bool, true, false, cond, List, [], ◌∷◌, ◌++◌, Option, Some, None, refl, sym, ap, ◌∙◌, subst}
 use Rattle.std.specs.Prelude.{◌==◌}
 use Rattle.std.specs.Option.{option_map}
 use Rattle.std.specs.List.{filter_map}
@@ -78,9 +78,16 @@ done_lost a i ask = done_quiet a (Asked i ask AskLost) (λ j. either (i == j))
     either true = refl
     either false = refl
 
--- what a door knows of a centre behind what it knew, once it asked centre i
+-- what a door knows of each centre behind what it knew, once it asked centre i
 abbrev known_more : ℕ → List Entry → ℕ → List Entry
 known_more i entries j = cond (i == j) entries []
+
+seen_more : (a b : DoorView) (i : ℕ) (entry : Entry) (asked : HasAsked a b i entry) (j : ℕ) → b.seen j ≡ a.seen j ++ known_more i (asked.between ++ entry ∷ []) j
+seen_more a b i entry asked j = by_test (i == j) refl
+  where
+    by_test : (test : Bool) → (i == j) ≡ test → b.seen j ≡ a.seen j ++ cond test (asked.between ++ entry ∷ []) []
+    by_test true here = subst (λ k. b.seen k ≡ a.seen k ++ (asked.between ++ entry ∷ [])) (eqb-true i j here) asked.seen
+    by_test false other = asked.other_seen j (λ same. false≢true (sym other ∙ eq-eqb i j (sym same))) ∙ sym (append-nil (a.seen j))
 
 -- one ask that reached its centre
 pub done_ask : (a b : DoorView) (i : ℕ) (ask : Ask) (fate : Fate) (say : Say) → answered fate ≡ Some say → HasAsked a b i (entry_for a.actor (ask, say)) → HasDone a b (Asked i ask fate ∷ [])
@@ -88,16 +95,13 @@ done_ask a b i ask fate say got asked = record {
   same = asked.same;
   made = λ j. made j (i == j) refl;
   more = known_more i (asked.between ++ one ∷ []);
-  seen = λ j. seen j (i == j) refl;
+  seen = seen_more a b i (entry_for a.actor (ask, say)) asked;
   there = λ j entry is. there j entry (i == j) refl is;
   alone = λ only j. alone only j (i == j) refl;
 }
   where
     one : Entry
     one = entry_for a.actor (ask, say)
-
-    apart : (j : ℕ) → (i == j) ≡ false → j ≡ i → ⊥
-    apart j other same = false≢true (sym other ∙ eq-eqb i j (sym same))
 
     reached : (j : ℕ) → (i == j) ≡ true → entries_made a.actor j (Asked i ask fate ∷ []) ≡ one ∷ []
     reached j here = made_one a.actor i j ask fate say here got
@@ -107,11 +111,7 @@ done_ask a b i ask fate say got asked = record {
 
     made : (j : ℕ) (test : Bool) → (i == j) ≡ test → b.made j ≡ a.made j ++ entries_made a.actor j (Asked i ask fate ∷ [])
     made j true here = subst (λ k. b.made k ≡ a.made k ++ one ∷ []) (eqb-true i j here) asked.made ∙ ap (λ es. a.made j ++ es) (sym (reached j here))
-    made j false other = asked.other_made j (apart j other) ∙ (sym (append-nil (a.made j)) ∙ ap (λ es. a.made j ++ es) (sym (missed j other)))
-
-    seen : (j : ℕ) (test : Bool) → (i == j) ≡ test → b.seen j ≡ a.seen j ++ cond test (asked.between ++ one ∷ []) []
-    seen j true here = subst (λ k. b.seen k ≡ a.seen k ++ (asked.between ++ one ∷ [])) (eqb-true i j here) asked.seen
-    seen j false other = asked.other_seen j (apart j other) ∙ sym (append-nil (a.seen j))
+    made j false other = asked.other_made j (λ same. false≢true (sym other ∙ eq-eqb i j (sym same))) ∙ (sym (append-nil (a.made j)) ∙ ap (λ es. a.made j ++ es) (sym (missed j other)))
 
     there : (j : ℕ) (entry : Entry) (test : Bool) → (i == j) ≡ test → In entry (entries_made a.actor j (Asked i ask fate ∷ [])) → In entry (cond test (asked.between ++ one ∷ []) [])
     there j entry true here is = In_right asked.between (one ∷ []) entry (subst (In entry) (reached j here) is)
@@ -138,6 +138,13 @@ done_then a b c ds es first later = record {
     joined : (i : ℕ) → entries_made a.actor i ds ++ entries_made b.actor i es ≡ entries_made a.actor i (ds ++ es)
     joined i = ap (λ actor. entries_made a.actor i ds ++ entries_made actor i es) first.same.actor ∙ sym (made_then a.actor i ds es)
 
+-- an ask that reached its centre made the list of it longer
+pub done_longer : (a b : DoorView) (i : ℕ) (ask : Ask) (fate : Fate) (say : Say) (ds : List Deed) → answered fate ≡ Some say → HasDone a b (Asked i ask fate ∷ ds) → length (a.made i) < length (b.made i)
+done_longer a b i ask fate say ds got done =
+    let one : entries_made a.actor i (Asked i ask fate ∷ []) ≡ entry_for a.actor (ask, say) ∷ [] = made_one a.actor i i ask fate say (eq-eqb i i refl) got in
+    let made : b.made i ≡ a.made i ++ entry_for a.actor (ask, say) ∷ entries_made a.actor i ds = done.made i ∙ ap (λ es. a.made i ++ es) (made_then a.actor i (Asked i ask fate ∷ []) ds ∙ ap (λ es. es ++ entries_made a.actor i ds) one) in
+    omega (arith, ap length made ∙ length-append (a.made i) (entry_for a.actor (ask, say) ∷ entries_made a.actor i ds))
+
 -- ---- doors that may have been asked
 
 -- a door that was not asked
@@ -146,6 +153,10 @@ may_none a = record { same = same_self a; more = λ i. []; seen = λ i. sym (app
 
 pub may_not : (a b : DoorView) → HasNotAsked a b → MayHaveAsked a b
 may_not a b not = record { same = not.same; more = λ i. []; seen = λ i. not.seen i ∙ sym (append-nil (a.seen i)) }
+
+-- a door that was asked once
+pub may_asked : (a b : DoorView) (i : ℕ) (entry : Entry) → HasAsked a b i entry → MayHaveAsked a b
+may_asked a b i entry asked = record { same = asked.same; more = known_more i (asked.between ++ entry ∷ []); seen = seen_more a b i entry asked }
 
 -- a door after deeds
 pub may_done : (a b : DoorView) (ds : List Deed) → HasDone a b ds → MayHaveAsked a b

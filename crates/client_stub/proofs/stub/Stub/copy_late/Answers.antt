@@ -1,0 +1,24 @@
+use Rattle.std.proofs.Common.{◌≡◌, refl, ap, ◌∙◌}
+use Rattle.dc_talk.proofs.Doors.{may_not}
+use Rattle.dc_talk.specs.declared.ask.Ask.TheVariants.{Commit as CommitAsk}
+use Rattle.client_stub.specs.Playing.{StubView, beside}
+use Rattle.client_stub.proofs.Growth.{leaves_unheard, on_err, short_asked, short_leaves, short_same}
+use Rattle.client_stub.proofs.LateCopies.{again_takes}
+use Rattle.client_stub.proofs.stub.Stub.copy_late.Goals as goal
+
+pub returns-in_err-say-clause-short : goal.returns-in_err-say-clause-short
+returns-in_err-say-clause-short g c = on_err _ (short_same _ _ _ _ (may_not _ _ c.in_err-say.ensures.none) refl)
+
+pub returns-in_err-push-clause-short : goal.returns-in_err-push-clause-short
+returns-in_err-push-clause-short g c = on_err _ (short_asked _ _ _ _ _ _ c.in_ok-say.ensures.asked c.in_err-push.ensures.err)
+
+pub returns-in_err-tell-clause-short : goal.returns-in_err-tell-clause-short
+returns-in_err-tell-clause-short g c =
+    let ask = CommitAsk c.args.tx in
+    let leaves = leaves_unheard _ _ c.args.log.now c.push.new.self c.args.centre ask c.in_ok-say.say c.requires.centre c.in_ok-say.ensures.asked c.in_ok-push.ensures.ok in
+    on_err _ (short_leaves _ _ c.tell.new.log _ leaves c.in_err-tell.ensures.err)
+
+pub returns-clause-takes : goal.returns-clause-takes
+returns-clause-takes g c =
+    let client : c.client-client.result ≡ c.args.self.now.client.client = c.client-client.ensures ∙ ap (λ (s : StubView). s.client.client) c.self.view_is in
+    again_takes (beside c.args.self.now (g.D.Door.shown c.args.door.now) c.args.log.now) (g.D.Door.shown c.ask.new.self) c.args.centre c.args.number c.args.tx c.in_ok-say.say c.push.new.self c.tell.new.log c.client-client.result c.again_line-line.result c.requires.sent c.requires.centre c.in_ok-say.ensures.asked c.in_ok-push.ensures.ok client c.again_line-line.ensures c.in_ok-tell.ensures.ok

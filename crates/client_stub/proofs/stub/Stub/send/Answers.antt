@@ -1,0 +1,28 @@
+use Rattle.std.proofs.Common.{◌≡◌, refl, ap, ◌∙◌}
+use Rattle.client_stub.specs.Playing.{StubView, acting, beside}
+use Rattle.client_stub.specs.Errands.{second_of}
+use Rattle.client_stub.proofs.Growth.{on_err, short_leaves, short_none, short_then}
+use Rattle.client_stub.proofs.Sending.{runs}
+use Rattle.client_stub.proofs.stub.Stub.send.Goals as goal
+
+pub returns-in_err-copy-clause-short : goal.returns-in_err-copy-clause-short
+returns-in_err-copy-clause-short g c = on_err _ (short_none _ _ _ refl)
+
+pub returns-in_err-ask_again-clause-short : goal.returns-in_err-ask_again-clause-short
+returns-in_err-ask_again-clause-short g c =
+    let p = beside c.args.self.now (g.D.Door.shown c.args.door.now) c.args.log.now in
+    let q = beside c.ask.new.self (g.D.Door.shown c.ask.new.door) c.ask.new.log in
+    on_err _ (short_then p q _ _ c.in_ok-line.ensures.asked.grows c.in_err-ask_again.ensures.short)
+
+pub returns-in_err-tell-clause-short : goal.returns-in_err-tell-clause-short
+returns-in_err-tell-clause-short g c =
+    let p = beside c.args.self.now (g.D.Door.shown c.args.door.now) c.args.log.now in
+    let q = beside c.ask.new.self (g.D.Door.shown c.ask.new.door) c.ask.new.log in
+    on_err _ (short_then p q _ _ c.in_ok-line.ensures.asked.grows (short_leaves _ _ c.tell.new.log _ c.in_ok-ask_again.ensures.asks.leaves c.in_err-tell.ensures.err))
+
+pub returns-clause-runs : goal.returns-clause-runs
+returns-clause-runs g c =
+    let p = beside c.args.self.now (g.D.Door.shown c.args.door.now) c.args.log.now in
+    let q = beside c.ask.new.self (g.D.Door.shown c.ask.new.door) c.ask.new.log in
+    let copy : c.in_ok-copy.copy ≡ second_of c.args.self.now.armed c.args.errand.ask = c.in_ok-copy.ensures ∙ ap (λ (s : StubView). second_of s.armed c.args.errand.ask) c.self.view_is in
+    runs c.args.errand p q (acting (g.D.Door.shown c.ask_again.new.door) c.ask_again.new.log) c.tell.new.log c.in_ok-copy.copy (c.in_ok-line.line, c.in_ok-line.more) c.in_ok-line.ensures.asked copy c.in_ok-ask_again.ensures.asks c.in_ok-tell.ensures.ok

@@ -1,0 +1,106 @@
+// Late copies of commits.
+ghost use Rattle.std.specs.Prelude.{◌≡◌, Some, IfOk, OnOk, OnErr};
+ghost use Rattle.dc_talk.specs.Doors.{IsBehind};
+ghost use Rattle.script_text.specs.declared.steps.ClientStep.TheVariants.{Again};
+ghost use Rattle.script_text.specs.Deeds.{commit_asked, commit_sent};
+ghost use Rattle.client_stub.specs.Playing.{IsCutShort, IsLinkBehind, Takes, acting, beside};
+
+use crate::lines::again_line;
+use crate::notes::tell;
+use crate::stub::Stub;
+use dc_talk::{Ask, Deed, Door, Fate, Line, Log, Note};
+use ids_core::NoMemory;
+use tx_core::Tx;
+
+impl Stub {
+    // The step `again`. It uses no fault.
+    pub(crate) fn again<D: Door>(
+        &mut self,
+        door: &mut D,
+        centre: u8,
+        number: u64,
+        log: &mut Log,
+    ) -> Result<(), NoMemory>
+        requires centre { IsBehind (D.shown door.old) centre }
+        requires behind { IsLinkBehind (D.shown door.old) self.old.client }
+        ensures place { D.place door.new ≡ D.place door.old }
+        ensures takes { OnOk result (Takes (Again centre number) (beside self.old (D.shown door.old) log.old) (beside self.new (D.shown door.new) log.new)) }
+        ensures linked { IsLinkBehind (D.shown door.new) self.new.client }
+        ensures short { OnErr result (IsCutShort (acting (D.shown door.old) log.old) (acting (D.shown door.new) log.new)) }
+    {
+        match commit_sent(log.as_slice(), number)? {
+            Some(tx) => {
+                self.copy_late(door, centre, number, tx, log)?;
+                Ok(())
+            }
+            None => {
+                let client = self.session.client();
+                let line = Line::AgainNone {
+                    client,
+                    centre,
+                    number,
+                };
+                tell(log, Some(line))?;
+                Ok(())
+            }
+        }
+    }
+
+    // Sends a commit of a number once more, to a centre, and tells how that ended.
+    fn copy_late<D: Door>(
+        &self,
+        door: &mut D,
+        centre: u8,
+        number: u64,
+        tx: Tx,
+        log: &mut Log,
+    ) -> Result<(), NoMemory>
+        requires centre { IsBehind (D.shown door.old) centre }
+        requires sent { commit_sent number log.old.notes ≡ Some tx }
+        ensures place { D.place door.new ≡ D.place door.old }
+        ensures takes { OnOk result (Takes (Again centre number) (beside self.now (D.shown door.old) log.old) (beside self.now (D.shown door.new) log.new)) }
+        ensures short { OnErr result (IsCutShort (acting (D.shown door.old) log.old) (acting (D.shown door.new) log.new)) }
+    {
+        let client = self.session.client();
+        let ask = Ask::Commit { tx };
+        let say = door.ask(centre, &ask)?;
+        let fate = Fate::Unheard(say);
+        let line = again_line(client, centre, number, &fate);
+        log.push(Deed::Asked { centre, ask, fate })?;
+        tell(log, line)?;
+        Ok(())
+    }
+}
+
+// The transaction of the first commit ask of this number among the notes.
+fn commit_sent(notes: &[Note], number: u64) -> Result<Option<Tx>, NoMemory>
+    ensures { IfOk result (λ tx. tx ≡ commit_sent number notes.now) }
+{
+    'asks: for note in notes {
+        let tx = commit_asked(&note.deed, number)?;
+        if tx.is_some() {
+            return Ok(tx);
+        }
+    }
+    Ok(None)
+}
+
+// The transaction of a deed, where it is a commit ask of this number.
+fn commit_asked(deed: &Deed, number: u64) -> Result<Option<Tx>, NoMemory>
+    ensures { IfOk result (λ tx. tx ≡ commit_asked number deed.now) }
+{
+    match deed {
+        Deed::Asked {
+            centre: _,
+            ask: Ask::Commit { tx },
+            fate: _,
+        } => {
+            if tx.dot.number == number {
+                Ok(Some(tx.copy()?))
+            } else {
+                Ok(None)
+            }
+        }
+        _ => Ok(None),
+    }
+}
