@@ -6,45 +6,38 @@ use Rattle.ids_core.specs.declared.limits.TheConstants.{MOST_CACHED, MOST_RECORD
 use Rattle.io_edge.specs.Streams.{TookFront, puts_back, puts_behind}
 use Rattle.script_text.specs.declared.script.Script.{Script}
 use Rattle.script_text.specs.Limits.{PassesLimits}
-use Rattle.script_text.specs.Scripts.{IsScript}
-use Rattle.script_text.specs.Steps.{IsCount, IsStepOf}
+use Rattle.script_text.specs.Scripts.{IsScript, header_of}
+use Rattle.script_text.specs.declared.limits.TheConstants.{MAX_LINES}
+use Rattle.script_text.specs.Steps.{IsCount, IsHeader}
+use Rattle.script_text.specs.Rows.{IsLine}
 use Rattle.script_text.proofs.LongTexts.{passes_more}
 use Rattle.run_book.specs.Setups.{setup_of}
-use Rattle.run_book.specs.Fit.{FitsWith}
-use Rattle.run_book.proofs.TogetherFits.{together_fit}
-use Rattle.run_book.proofs.TogetherSteps.{together_scripted}
 use Rattle.run_book.proofs.Causal.Theorem.{causal}
-use Rattle.world_core.specs.Shared.{IsInRange, IsSharedRun}
+use Rattle.print_text.specs.Text.{text_of}
+use Rattle.world_core.specs.Runs.{IsInRange, IsRunOf}
 use Rattle.top_call.specs.declared.engine.Owed.{Owed}
 use Rattle.top_call.specs.declared.top.Ended.{Ended}
 use Rattle.top_call.specs.Runs.{Given, IsCausalRun, IsNoScript, IsOwed, Played, Refused, Misused, IsPlayable, IsPlayed, IsSomeScript, IsStatus, EndsSo, Wrote, empty_book, given_script, serial_words}
 
 -- a script that was read has its numbers in range
-pub in_range : (bytes : List ℕ) (script : Script) → IsScript bytes script → length script.steps ≤ 200000 → All (IsStepOf script.clients) script.steps → IsCount MOST_CACHED script.cache → IsCount MOST_RECORDS script.limit → IsInRange script
-in_range bytes script spelled few steps cache limit = record { clients = spelled.clients; cache = cache.0; limit = limit; steps = steps; few = few }
+pub in_range : (script : Script) → IsHeader (header_of script) → IsCount MOST_CACHED script.cache → IsCount MOST_RECORDS script.limit → All (IsLine (header_of script)) script.sections → length script.sections ≤ MAX_LINES → IsInRange script
+in_range script header cache limit lines few = record { header = header; cache = cache; limit = limit; lines = lines; few = few }
 
 -- what is owed for a script is a run of its steps
-pub shared_plays : (bytes : List ℕ) (script : Script) (owed : Owed) → IsScript bytes script → IsInRange script → owed.status ≡ 0 → IsSharedRun script owed.book owed.text.items → IsPlayed (given_script (Some bytes)) owed
-shared_plays bytes script owed spelled range status r =
-    let fits : FitsWith owed.book (setup_of script) = together_fit (setup_of script) script.steps r.all owed.book r.together r.book_is range.clients.0 range.clients.1 range.limit.0 range.limit.1 range.cache in
-    record {
-      form = refl;
-      status = status;
-      run = record {
-        bytes = bytes;
-        input = refl;
-        script = script;
-        spelled = spelled;
-        run = record {
-          n = r.book_is.n ∙ sym spelled.n;
-          k = r.book_is.k ∙ sym spelled.k;
-          fits = fits;
-          steps = together_scripted script r.all owed.book r.together r.book_is;
-        };
-        causal = causal owed.book (setup_of script) fits;
-      };
-      text = r.text_is;
-    }
+pub run_plays : (bytes : List ℕ) (script : Script) (owed : Owed) → IsScript bytes script → owed.status ≡ 0 → IsRunOf script owed.book → owed.text.items ≡ text_of owed.book.logs → IsPlayed (given_script (Some bytes)) owed
+run_plays bytes script owed spelled status run text = record {
+  form = refl;
+  status = status;
+  run = record {
+    bytes = bytes;
+    input = refl;
+    script = script;
+    spelled = spelled;
+    run = run;
+    causal = causal owed.book (setup_of script) run.fits;
+  };
+  text = text;
+}
 
 -- ---- the input
 

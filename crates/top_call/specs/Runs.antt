@@ -7,10 +7,9 @@ use Rattle.script_text.specs.declared.script.Script.{Script}
 use Rattle.script_text.specs.Scripts.{IsScript}
 use Rattle.run_book.specs.declared.book.Book.{Book}
 use Rattle.run_book.specs.Setups.{setup_of}
-use Rattle.run_book.specs.Fit.{FitsWith}
-use Rattle.run_book.specs.Scripted.{HasSteps}
 use Rattle.run_book.specs.Causal.{IsCausal}
 use Rattle.print_text.specs.Text.{text_of}
+use Rattle.world_core.specs.Runs.{IsRunOf}
 use Rattle.top_call.specs.declared.engine.Owed.{Owed}
 use Rattle.top_call.specs.declared.top.Ended.{Ended}
 
@@ -51,14 +50,6 @@ IsSomeScript bytes = (script : Script) × IsScript bytes script
 -- the bytes are no script
 abbrev pub IsNoScript : List ℕ → Type 0
 IsNoScript bytes = (script : Script) → IsScript bytes script → ⊥
-
--- the book is one of a run of the script: it has the script's settings, its trails and logs belong
--- together, and they have the script's steps
-pub record IsRunOf (script : Script) (book : Book) : Type 0 where
-  pub n : book.n ≡ script.n
-  pub k : book.k ≡ script.k
-  pub fits : FitsWith book (setup_of script)
-  pub steps : HasSteps script book
 
 -- all that a source had left, as far as it tells that, are bytes that are a script, and the book is one
 -- of a run of this script and causal

@@ -1,14 +1,16 @@
 // From an input to a status, a text and a book.
 ghost use Rattle.std.specs.Prelude.{◌≡◌, ◌↔◌, IsTrue, IfOk};
 ghost use Rattle.script_text.specs.Limits.{PassesLimits};
-ghost use Rattle.world_core.specs.Shared.{IsInRange, IsSharedRun};
+ghost use Rattle.print_text.specs.Text.{text_of};
+ghost use Rattle.world_core.specs.Runs.{IsInRange, IsRunOf};
 ghost use Rattle.top_call.specs.Runs.{IsOwed, empty_book, given_script, refusal_text};
 
 use ids_core::NoMemory;
+use print_text::text_of;
 use run_book::Book;
 use script_text::{Input, Script, ScriptFault, parse};
 use std::alloc::Global;
-use world_core::play_steps;
+use world_core::serial;
 
 /// What is owed: the status, the text and the book with which a run ends where nothing fails.
 #[derive(Drop)]
@@ -31,17 +33,19 @@ fn refusal(alloc: Global) -> Result<Owed, NoMemory>
     })
 }
 
-// What is owed for a script.
+// What is owed for a script: it is played on one thread, and its text is that of the book.
 fn script_run(alloc: Global, script: &Script) -> Result<Owed, NoMemory>
     requires { IsInRange script.now }
     ensures status { IfOk result (λ owed. owed.status ≡ 0) }
-    ensures run { IfOk result (λ owed. IsSharedRun script.now owed.book owed.text.items) }
+    ensures run { IfOk result (λ owed. IsRunOf script.now owed.book) }
+    ensures text { IfOk result (λ owed. owed.text.items ≡ text_of owed.book.logs) }
 {
-    let run = play_steps(alloc, script)?;
+    let book = serial(alloc, script)?;
+    let text = text_of(alloc, book.logs.as_slice())?;
     Ok(Owed {
         status: 0,
-        text: run.text,
-        book: run.book,
+        text,
+        book,
     })
 }
 

@@ -3,8 +3,10 @@ use Rattle.std.specs.Prelude.{◌≡◌, ◌≤◌, ℕ, List, All, length, map,
 use Rattle.ids_core.specs.declared.limits.TheConstants.{MOST_CACHED, MOST_RECORDS}
 use Rattle.script_text.specs.declared.script.Script.{Script}
 use Rattle.script_text.specs.declared.steps.Section.{Section}
+use Rattle.script_text.specs.declared.limits.TheConstants.{MAX_LINES}
 use Rattle.script_text.specs.Steps.{IsCount, IsHeader}
-use Rattle.script_text.specs.Scripts.{IsLine, header_of}
+use Rattle.script_text.specs.Rows.{IsLine}
+use Rattle.script_text.specs.Scripts.{header_of}
 use Rattle.script_text.specs.Deeds.{Progress}
 use Rattle.client_stub.specs.Playing.{StubView}
 use Rattle.run_book.specs.declared.book.Book.{Book}
@@ -21,7 +23,7 @@ pub record IsInRange (script : Script) : Type 0 where
   pub cache : IsCount MOST_CACHED script.cache
   pub limit : IsCount MOST_RECORDS script.limit
   pub lines : All (IsLine (header_of script)) script.sections
-  pub few : length script.sections ≤ 200000
+  pub few : length script.sections ≤ MAX_LINES
 
 -- the book of what happened in a world: it has the world's trails and logs, it fits, and it is timely
 pub record IsWorldBook (w : WorldView) (b : Book) : Type 0 where
