@@ -97,8 +97,9 @@ again_takes p door i number tx say between later client said sent behind asked n
     }
 
 -- no commit ask has the number
-pub again_none : (p : Playing) (later : Logged) (i number client : ℕ) → commit_sent number p.log.notes ≡ None → client ≡ p.client.client → later ≡ noted_all p.log (told (Some (line.AgainNone client i number))) → Takes (Again i number) p (record p { log = later })
-again_none p later i number client none same is =
+pub again_none : (p : Playing) (later : Logged) (i number client : ℕ) (notes : List Note) (sent : Option Tx) → notes ≡ p.log.notes → sent ≡ commit_sent number notes → sent ≡ None → client ≡ p.client.client → later ≡ noted_all p.log (told (Some (line.AgainNone client i number))) → Takes (Again i number) p (record p { log = later })
+again_none p later i number client notes sent old first none same is =
     let s = p.client in
-    let by = grows_line (StepDeeds (progress p) (Again i number)) p later (line.AgainNone client i number) (line.AgainNone s.client i number) is (ap (λ n. line.AgainNone n i number) same) (over_none (commit_sent number p.log.notes) (line.AgainNone s.client i number) (AgainDeeds s.client i number) none) in
+    let lacks : commit_sent number p.log.notes ≡ None = ap (commit_sent number) (sym old) ∙ (sym first ∙ none) in
+    let by = grows_line (StepDeeds (progress p) (Again i number)) p later (line.AgainNone client i number) (line.AgainNone s.client i number) is (ap (λ n. line.AgainNone n i number) same) (over_none (commit_sent number p.log.notes) (line.AgainNone s.client i number) (AgainDeeds s.client i number) lacks) in
     record { deeds = by.deeds; such = by.such; grows = by.grows; armed = refl }

@@ -17,9 +17,9 @@ use Rattle.script_text.specs.declared.steps.AskFault.TheVariants.{LoseAsk, LoseR
 use Rattle.script_text.specs.Deeds.{copies, fate_of, told, took}
 use Rattle.client_stub.specs.declared.purpose.Errand.{Errand}
 use Rattle.client_stub.specs.Purposes.{line_after, goes_after}
-use Rattle.client_stub.specs.Playing.{Acting, Playing, StubView, Grows, Leaves, IsAskBehind, acting, beside, noted_all}
+use Rattle.client_stub.specs.Playing.{Acting, Playing, StubView, Grows, Leaves, IsAskBehind, IsCutShort, acting, beside, noted_all}
 use Rattle.client_stub.specs.Errands.{AsksAgain, HasAskedFor, Runs, copied, goes_of, line_of, second_of}
-use Rattle.client_stub.proofs.Growth.{grows_leaves, grows_then, grows_told, leaves_none}
+use Rattle.client_stub.proofs.Growth.{grows_leaves, grows_then, grows_told, leaves_none, short_then}
 
 -- what became of an ask under the fault that is armed, and whether the session took it
 pub record HasReached (e : Errand) (old : Playing) (new : StubView) (later : DoorView) (it : Fate × Bool) : Type 0 where
@@ -48,21 +48,28 @@ asked_for e p stub door it later client told gives behind reached same who line 
   short = reached.room;
 }
 
+-- an early end behind it
+pub short_asked_for : (e : Errand) (p q : Playing) (it : Option Line × Bool) (b : Acting) → HasAskedFor e p q it → IsCutShort (acting q.door q.log) b → IsCutShort (acting p.door p.log) b
+short_asked_for e p q it b asked later = short_then p q b (Asked e.centre e.ask asked.fate ∷ []) asked.grows later
+
 -- no second copy
 pub again_none : (i : ℕ) (copy : Option Ask) (a : Acting) → copy ≡ None → AsksAgain i copy a a
 again_none i copy a none = subst (λ copy. AsksAgain i copy a a) (sym none) (record { say = Misfit; leaves = leaves_none a; short = λ few. few })
 
 -- a second copy, right behind the ask that it is of
 second_grows : (armed : Option AskFault) (q : Playing) (a : Acting) (i : ℕ) (ask : Ask) (say again : Say) (before : Logged) → q.log ≡ noted before (Asked i ask (fate_of armed say)) → Leaves (acting q.door q.log) a (copied i (second_of armed ask) again) → Grows q (record q { door = a.door; log = a.log }) (copies armed i ask again)
-second_grows (Some Twice) q a i ask say again before last leaves = grows_leaves q a (Asked i ask (Unheard again) ∷ []) leaves refl (inr (inr (record {
-  say = again;
-  unheard = refl;
-  earlier = before.notes;
-  last = marked before.section before.step (Asked i ask (Heard say));
-  there = ap (λ (log : Logged). log.notes) last;
-  first = say;
-  same = refl;
-})), tt)
+second_grows (Some Twice) q a i ask say again before last leaves = grows_leaves q a (Asked i ask (Unheard again) ∷ []) leaves refl (
+  inr (inr (record {
+    say = again;
+    unheard = refl;
+    earlier = before.notes;
+    last = marked before.section before.step (Asked i ask (Heard say));
+    there = ap (λ (log : Logged). log.notes) last;
+    first = say;
+    same = refl;
+  })),
+  tt,
+)
 second_grows (Some LoseAsk) q a i ask say again before last leaves = grows_leaves q a [] leaves refl tt
 second_grows (Some LoseReply) q a i ask say again before last leaves = grows_leaves q a [] leaves refl tt
 second_grows None q a i ask say again before last leaves = grows_leaves q a [] leaves refl tt

@@ -45,11 +45,13 @@ pub fn hello_line(client: u32, centre: u8, fate: &Fate) -> Option<Line>
 {
     match fate {
         Fate::Heard(Say::Welcome { .. }) => Some(Line::At { client, centre }),
-        Fate::Heard(Say::Lacks {
-            centre: of,
-            need,
-            have,
-        }) => {
+        Fate::Heard(
+            Say::Lacks {
+                centre: of,
+                need,
+                have,
+            },
+        ) => {
             let lack = lack(*of, *need, *have);
             Some(Line::Refused {
                 client,

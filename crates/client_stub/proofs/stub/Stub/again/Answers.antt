@@ -1,5 +1,4 @@
-use Rattle.std.proofs.Common.{◌≡◌, None, refl, sym, ap, ◌∙◌}
-use Rattle.script_text.specs.Deeds.{commit_sent}
+use Rattle.std.proofs.Common.{◌≡◌, refl, ap, ◌∙◌}
 use Rattle.client_stub.specs.Playing.{StubView, beside}
 use Rattle.client_stub.proofs.Growth.{on_err, short_none}
 use Rattle.client_stub.proofs.LateCopies.{again_none}
@@ -14,5 +13,4 @@ returns-in_err-tell-in-None-clause-short g c = on_err _ (short_none _ _ _ c.in_e
 pub returns-in_ok-tell-in-None-clause-takes : goal.returns-in_ok-tell-in-None-clause-takes
 returns-in_ok-tell-in-None-clause-takes g c =
     let client : c.client-client.result ≡ c.args.self.now.client.client = c.client-client.ensures ∙ ap (λ (s : StubView). s.client.client) c.self.view_is in
-    let none : commit_sent c.args.number c.args.log.now.notes ≡ None = ap (commit_sent c.args.number) (sym c.as_slice.ensures) ∙ (sym c.in_ok-tx.ensures ∙ c.in-None.is) in
-    again_none (beside c.args.self.now (g.D.Door.shown c.args.door.now) c.args.log.now) c.tell.new.log c.args.centre c.args.number c.client-client.result none client c.in_ok-tell-in-None.ensures.ok
+    again_none (beside c.args.self.now (g.D.Door.shown c.args.door.now) c.args.log.now) c.tell.new.log c.args.centre c.args.number c.client-client.result c.as_slice.result.now c.in_ok-tx.field-0 c.as_slice.ensures c.in_ok-tx.ensures c.in-None.is client c.in_ok-tell-in-None.ensures.ok

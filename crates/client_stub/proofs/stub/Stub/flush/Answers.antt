@@ -1,5 +1,5 @@
 use Rattle.std.proofs.Common.{refl, ◌∙◌, subst}
-use Rattle.client_stub.specs.Playing.{beside}
+use Rattle.client_stub.specs.Playing.{acting, beside}
 use Rattle.client_stub.specs.Errands.{FlushesOn}
 use Rattle.client_stub.proofs.Growth.{on_err, short_then}
 use Rattle.client_stub.proofs.Flushes.{flush_begins, flush_last, flush_more}
@@ -23,7 +23,8 @@ pub returns-in_err-push_on-clause-short : goal.returns-in_err-push_on-clause-sho
 returns-in_err-push_on-clause-short g c =
     let p = beside c.args.self.now (g.D.Door.shown c.args.door.now) c.args.log.now in
     let q = beside c.pushes.self (g.D.Door.shown c.pushes.door) c.pushes.log in
-    on_err _ (short_then p q _ _ c.pushes.invariant.flushed.grows c.in_err-push_on.ensures.short)
+    let b = acting (g.D.Door.shown c.push_on.new.door) c.push_on.new.log in
+    on_err _ (short_then p q b c.pushes.invariant.flushed.deeds c.pushes.invariant.flushed.grows c.in_err-push_on.ensures.short)
 
 pub returns-clause-takes : goal.returns-clause-takes
 returns-clause-takes g c =
