@@ -23,7 +23,8 @@ use Rattle.script_text.specs.declared.steps.AskFault.TheVariants.{LoseAsk, LoseR
 use Rattle.script_text.specs.declared.steps.ClientStep.TheVariants.{Flush as FlushStep}
 use Rattle.script_text.specs.Deeds.{FlushDeeds, FlushEnds, Progress, Pushes, PushesOn, after_all, copies, fate_of, goes_on, push_line, told, flush_ends, flush_goes}
 use Rattle.client_stub.specs.declared.purpose.Purpose.TheVariants as purpose
-use Rattle.client_stub.specs.Playing.{Playing, Grows, Takes, noted_all, progress}
+use Rattle.dc_talk.specs.Acting.{noted_all}
+use Rattle.client_stub.specs.Playing.{Playing, Grows, Takes, progress}
 use Rattle.client_stub.specs.Errands.{FlushesOn, GrowsBy, HasPushedOn, Runs, number_in, room, room_over, used_by}
 use Rattle.client_stub.proofs.Growth.{grows_then, grows_none}
 use Rattle.client_stub.proofs.Calling.{used_then}

@@ -22,7 +22,8 @@ use Rattle.dc_talk.specs.Doors.{DoorView, IsSameDoor, IsBehind, HasAsked, MayHav
 use Rattle.dc_talk.specs.Rule.{after}
 use Rattle.dc_talk.proofs.Doors.{done_none, done_quiet, done_ask, done_then, may_none, may_asked, may_done, may_then}
 use Rattle.script_text.specs.Deeds.{after_all, told}
-use Rattle.client_stub.specs.Playing.{Acting, Playing, Grows, Leaves, AllowsAll, IsAskBehind, IsCutShort, acting, noted_all}
+use Rattle.dc_talk.specs.Acting.{Acting, Leaves, IsAskBehind, IsCutShort, acting, noted_all}
+use Rattle.client_stub.specs.Playing.{Playing, Grows, AllowsAll}
 
 -- ---- logs
 

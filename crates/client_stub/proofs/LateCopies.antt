@@ -19,7 +19,8 @@ use Rattle.dc_talk.specs.Doors.{DoorView, IsBehind, HasAsked}
 use Rattle.dc_talk.specs.Rule.{IsLate}
 use Rattle.script_text.specs.declared.steps.ClientStep.TheVariants.{Again}
 use Rattle.script_text.specs.Deeds.{AgainDeeds, StepDeeds, again_line, commit_asked, commit_sent, told}
-use Rattle.client_stub.specs.Playing.{Playing, Grows, Takes, acting, noted_all, progress}
+use Rattle.dc_talk.specs.Acting.{acting, noted_all}
+use Rattle.client_stub.specs.Playing.{Playing, Grows, Takes, progress}
 use Rattle.client_stub.proofs.Growth.{grows_leaves, grows_then, grows_told, leaves_unheard}
 use Rattle.client_stub.proofs.Stepping.{grows_line, over_some, over_none}
 

@@ -17,7 +17,8 @@ use Rattle.script_text.specs.declared.steps.AskFault.TheVariants.{LoseAsk, LoseR
 use Rattle.script_text.specs.Deeds.{copies, fate_of, told, took}
 use Rattle.client_stub.specs.declared.purpose.Errand.{Errand}
 use Rattle.client_stub.specs.Purposes.{line_after, goes_after}
-use Rattle.client_stub.specs.Playing.{Acting, Playing, StubView, Grows, Leaves, IsAskBehind, IsCutShort, acting, beside, noted_all}
+use Rattle.dc_talk.specs.Acting.{Acting, Leaves, IsAskBehind, IsCutShort, acting, noted_all}
+use Rattle.client_stub.specs.Playing.{Playing, StubView, Grows, beside}
 use Rattle.client_stub.specs.Errands.{AsksAgain, HasAskedFor, Runs, copied, goes_of, line_of, second_of}
 use Rattle.client_stub.proofs.Growth.{grows_leaves, grows_then, grows_told, leaves_none, short_then}
 

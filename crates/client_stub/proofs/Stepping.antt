@@ -26,7 +26,8 @@ use Rattle.script_text.specs.Deeds.{Asks, OrTells, OverNext, Pushes, FetchDeeds,
 use Rattle.client_stub.specs.declared.purpose.Purpose.{Purpose}
 use Rattle.client_stub.specs.declared.purpose.Purpose.TheVariants as purpose
 use Rattle.client_stub.specs.declared.purpose.Errand.{Errand}
-use Rattle.client_stub.specs.Playing.{Playing, Grows, Takes, noted_all, progress}
+use Rattle.dc_talk.specs.Acting.{noted_all}
+use Rattle.client_stub.specs.Playing.{Playing, Grows, Takes, progress}
 use Rattle.client_stub.specs.Errands.{GrowsBy, MakesCall, Runs, line_of, number_in, used_by}
 use Rattle.client_stub.proofs.Growth.{grows_none, grows_then, grows_told}
 use Rattle.client_stub.proofs.SessionAsks.{PushAsks, PushIdle, push_asks, push_idle, FetchAsks, fetch_asks, fetch_refused, refresh_asks, refresh_shut}

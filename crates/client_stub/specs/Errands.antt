@@ -21,7 +21,8 @@ use Rattle.script_text.specs.declared.steps.AskFault.{AskFault}
 use Rattle.script_text.specs.declared.steps.AskFault.TheVariants.{Twice}
 use Rattle.script_text.specs.Deeds.{Asks, FlushEnds, PushesOn, calls, fate_of, is_ask, told, took}
 use Rattle.client_stub.specs.declared.purpose.Errand.{Errand}
-use Rattle.client_stub.specs.Playing.{Acting, Playing, Grows, Leaves, progress}
+use Rattle.dc_talk.specs.Acting.{Acting, Leaves}
+use Rattle.client_stub.specs.Playing.{Playing, Grows, progress}
 use Rattle.client_stub.specs.Purposes.{line_after, goes_after}
 
 -- the fault that is armed after deeds: an ask uses it

@@ -1,39 +1,30 @@
 -- A client before a door to the centres, and how its log and what the door shows grow by its deeds.
-use Rattle.std.specs.Prelude.{◌≡◌, map, IfSome, List, [], ◌∷◌, ◌++◌, Option, All}
+use Rattle.std.specs.Prelude.{◌≡◌, ℕ, IfSome, List, [], ◌∷◌, Option, All}
 use Rattle.dc_talk.specs.declared.log.Deed.{Deed}
-use Rattle.dc_talk.specs.declared.log.Deed.TheVariants.{Asked}
-use Rattle.dc_talk.specs.declared.log.Note.{Note}
-use Rattle.dc_talk.specs.Logs.{Logged, marked, noted}
+use Rattle.dc_talk.specs.Logs.{Logged, noted}
+use Rattle.dc_talk.specs.Acting.{Acting, noted_all, IsAskBehind, Leaves}
 use Rattle.dc_talk.specs.Clients.{Client}
-use Rattle.dc_talk.specs.Doors.{DoorView, IsBehind, HasDone, MayHaveAsked}
+use Rattle.dc_talk.specs.Doors.{DoorView, IsBehind, HasDone}
 use Rattle.dc_talk.specs.Rule.{after, Allows}
 use Rattle.script_text.specs.declared.steps.AskFault.{AskFault}
 use Rattle.script_text.specs.declared.steps.ClientStep.{ClientStep}
 use Rattle.script_text.specs.declared.steps.OperatorStep.{OperatorStep}
-use Rattle.script_text.specs.Deeds.{Progress, StepDeeds, OperatorDeeds, after_all, armed_after}
+use Rattle.script_text.specs.Deeds.{Progress, StepDeeds, after_all, armed_after}
+use Rattle.script_text.specs.Orders.{OperatorDeeds}
 
 -- a client, with the fault that is armed for its next ask
 pub record StubView : Type 0 where
   pub client : Client
   pub armed : Option AskFault
 
--- a door to the centres, and the log of the actor that asks through it
-pub record Acting : Type 0 where
-  pub door : DoorView
-  pub log : Logged
-
--- the same with a client
+-- a client before a door, with its log
 pub record Playing : Type 0 where
   pub door : DoorView
   pub client : Client
   pub armed : Option AskFault
   pub log : Logged
 
--- a log beside a door
-abbrev pub acting : DoorView → Logged → Acting
-acting door log = record { door = door; log = log }
-
--- a client before a door, with its log
+-- the same of a client that is so
 abbrev pub beside : StubView → DoorView → Logged → Playing
 beside stub door log = record { door = door; client = stub.client; armed = stub.armed; log = log }
 
@@ -41,19 +32,10 @@ beside stub door log = record { door = door; client = stub.client; armed = stub.
 abbrev pub progress : Playing → Progress
 progress p = record { client = p.client; armed = p.armed; notes = p.log.notes }
 
--- the log with more deeds, at the section and step that it is at
-abbrev pub noted_all : Logged → List Deed → Logged
-noted_all log deeds = record log { notes = log.notes ++ map (marked log.section log.step) deeds }
-
 -- each deed is one that the session rule allows, in turn
 abbrev pub AllowsAll : Client → Logged → List Deed → Type 0
 AllowsAll s log [] = Unit {0}
 AllowsAll s log (deed ∷ deeds) = Allows s log.notes deed × AllowsAll (after s deed) (noted log deed) deeds
-
--- the centre of an ask is behind the door
-abbrev pub IsAskBehind : DoorView → Deed → Type 0
-IsAskBehind door (Asked i ask fate) = IsBehind door i
-IsAskBehind door _ = Unit {0}
 
 -- the client is connected to no centre, or to one behind the door
 abbrev pub IsLinkBehind : DoorView → Client → Type 0
@@ -74,20 +56,8 @@ pub record Takes (step : ClientStep) (old new : Playing) : Type 0 where
   pub grows : Grows old new deeds
   pub armed : new.armed ≡ armed_after old.armed step deeds
 
--- a log and what the door shows grow by these deeds
-pub record Leaves (old new : Acting) (deeds : List Deed) : Type 0 where
-  pub log : new.log ≡ noted_all old.log deeds
-  pub door : HasDone old.door new.door deeds
-  pub behind : All (IsAskBehind old.door) deeds
-
--- a step of the operator: what it leaves is what is defined for the step
-pub record Operates (step : OperatorStep) (old new : Acting) : Type 0 where
+-- a step of the operator of n centres: what it leaves is what is defined for the step
+pub record Operates (n : ℕ) (step : OperatorStep) (old new : Acting) : Type 0 where
   pub deeds : List Deed
-  pub such : OperatorDeeds step deeds
+  pub such : OperatorDeeds n step deeds
   pub leaves : Leaves old new deeds
-
--- a step that came to an early end: notes were put behind those of the log, and the door may have been asked
-pub record IsCutShort (old new : Acting) : Type 0 where
-  pub notes : List Note
-  pub log : new.log ≡ record old.log { notes = old.log.notes ++ notes }
-  pub door : MayHaveAsked old.door new.door

@@ -3,7 +3,8 @@ ghost use Rattle.std.specs.Prelude.{◌≡◌, Some, IfOk, OnOk, OnErr};
 ghost use Rattle.dc_talk.specs.Doors.{IsBehind};
 ghost use Rattle.script_text.specs.declared.steps.ClientStep.TheVariants.{Again};
 ghost use Rattle.script_text.specs.Deeds.{commit_asked, commit_sent};
-ghost use Rattle.client_stub.specs.Playing.{IsCutShort, IsLinkBehind, Takes, acting, beside};
+ghost use Rattle.dc_talk.specs.Acting.{IsCutShort, acting};
+ghost use Rattle.client_stub.specs.Playing.{IsLinkBehind, Takes, beside};
 
 use crate::lines::again_line;
 use crate::notes::tell;

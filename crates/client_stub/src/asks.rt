@@ -3,7 +3,8 @@ ghost use Rattle.std.specs.Prelude.{◌≡◌, ◌≢◌, ◌↔◌, true, false
 ghost use Rattle.dc_talk.specs.Doors.{IsBehind};
 ghost use Rattle.script_text.specs.declared.steps.ClientStep.TheVariants.{Connect, Push, Refresh};
 ghost use Rattle.script_text.specs.Deeds.{FetchDeeds};
-ghost use Rattle.client_stub.specs.Playing.{IsCutShort, IsLinkBehind, Takes, acting, beside, progress};
+ghost use Rattle.dc_talk.specs.Acting.{IsCutShort, acting};
+ghost use Rattle.client_stub.specs.Playing.{IsLinkBehind, Takes, beside, progress};
 ghost use Rattle.client_stub.specs.Errands.{GrowsBy, number_in};
 
 use crate::notes::tell;

@@ -3,7 +3,8 @@ ghost use Rattle.std.specs.Prelude.{◌≡◌, IfOk, OnOk, OnErr};
 ghost use Rattle.dc_talk.specs.Calls.{outcome_of};
 ghost use Rattle.dc_talk.specs.Doors.{DoorView};
 ghost use Rattle.script_text.specs.Deeds.{CallDeeds, calls, change_call, read_call};
-ghost use Rattle.client_stub.specs.Playing.{IsCutShort, IsLinkBehind, acting, beside, progress};
+ghost use Rattle.dc_talk.specs.Acting.{IsCutShort, acting};
+ghost use Rattle.client_stub.specs.Playing.{IsLinkBehind, beside, progress};
 ghost use Rattle.client_stub.specs.Errands.{GrowsBy, MakesCall, needs_fetch};
 
 use crate::lines::{call_line, word_of};

@@ -1,7 +1,8 @@
 // Flushes.
 ghost use Rattle.std.specs.Prelude.{◌≡◌, IfOk, OnOk, OnErr};
 ghost use Rattle.script_text.specs.declared.steps.ClientStep.TheVariants.{Flush};
-ghost use Rattle.client_stub.specs.Playing.{IsCutShort, IsLinkBehind, Takes, acting, beside};
+ghost use Rattle.dc_talk.specs.Acting.{IsCutShort, acting};
+ghost use Rattle.client_stub.specs.Playing.{IsLinkBehind, Takes, beside};
 ghost use Rattle.client_stub.specs.Errands.{FlushesOn};
 
 use crate::asks::number_in;

@@ -2,7 +2,7 @@
 ghost use Rattle.std.specs.Prelude.{◌≡◌, OnOk, OnErr};
 ghost use Rattle.dc_talk.specs.Doors.{IsBehind};
 ghost use Rattle.script_text.specs.Deeds.{told};
-ghost use Rattle.client_stub.specs.Playing.{IsCutShort, acting, noted_all};
+ghost use Rattle.dc_talk.specs.Acting.{IsCutShort, acting, noted_all};
 ghost use Rattle.client_stub.specs.Errands.{AsksUnheard};
 
 use dc_talk::{Ask, Deed, Door, Fate, Line, Log};

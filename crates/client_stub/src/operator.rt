@@ -1,7 +1,8 @@
 // The steps of the operator.
 ghost use Rattle.std.specs.Prelude.{◌≡◌, OnOk, OnErr};
 ghost use Rattle.script_text.specs.Steps.{IsOperatorStep};
-ghost use Rattle.client_stub.specs.Playing.{IsCutShort, Operates, acting};
+ghost use Rattle.dc_talk.specs.Acting.{IsCutShort, acting};
+ghost use Rattle.client_stub.specs.Playing.{Operates};
 
 use crate::notes::ask_unheard;
 use dc_talk::{Ask, Door, Log};

@@ -6,7 +6,8 @@ ghost use Rattle.dc_talk.specs.declared.log.Deed.TheVariants.{Asked};
 ghost use Rattle.dc_talk.specs.Doors.{IsBehind, HasDone, MayHaveAsked};
 ghost use Rattle.dc_talk.specs.Rule.{after, heard, takes, Gives};
 ghost use Rattle.script_text.specs.Deeds.{fate_of, took};
-ghost use Rattle.client_stub.specs.Playing.{IsCutShort, IsLinkBehind, acting, beside};
+ghost use Rattle.dc_talk.specs.Acting.{IsCutShort, acting};
+ghost use Rattle.client_stub.specs.Playing.{IsLinkBehind, beside};
 ghost use Rattle.client_stub.specs.Errands.{AsksAgain, HasAskedFor, Runs, second_of};
 
 use crate::notes::{ask_unheard, tell};

@@ -1,7 +1,8 @@
 // A client: its session, and the fault that is armed for its next ask.
 ghost use Rattle.std.specs.Prelude.{◌≡◌, Some, None, OnOk, OnErr};
 ghost use Rattle.script_text.specs.Steps.{IsStep};
-ghost use Rattle.client_stub.specs.Playing.{IsCutShort, IsLinkBehind, Takes, acting, beside};
+ghost use Rattle.dc_talk.specs.Acting.{IsCutShort, acting};
+ghost use Rattle.client_stub.specs.Playing.{IsLinkBehind, Takes, beside};
 
 use crate::calls::{change_call, read_call};
 use client_session::Session;

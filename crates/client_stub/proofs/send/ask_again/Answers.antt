@@ -1,4 +1,4 @@
-use Rattle.client_stub.specs.Playing.{acting}
+use Rattle.dc_talk.specs.Acting.{acting}
 use Rattle.client_stub.proofs.Sending.{again_none}
 use Rattle.client_stub.proofs.send.ask_again.Goals as goal
 

@@ -1,5 +1,6 @@
 use Rattle.std.proofs.Common.{refl, ◌∙◌, subst}
-use Rattle.client_stub.specs.Playing.{acting, beside}
+use Rattle.dc_talk.specs.Acting.{acting}
+use Rattle.client_stub.specs.Playing.{beside}
 use Rattle.client_stub.specs.Errands.{FlushesOn}
 use Rattle.client_stub.proofs.Growth.{on_err, short_then}
 use Rattle.client_stub.proofs.Flushes.{flush_begins, flush_last, flush_more}

@@ -1,5 +1,6 @@
 use Rattle.std.proofs.Common.{◌≡◌, refl, ap, ◌∙◌}
-use Rattle.client_stub.specs.Playing.{StubView, acting, beside}
+use Rattle.dc_talk.specs.Acting.{acting}
+use Rattle.client_stub.specs.Playing.{StubView, beside}
 use Rattle.client_stub.specs.Errands.{second_of}
 use Rattle.client_stub.proofs.Growth.{on_err, short_leaves, short_none}
 use Rattle.client_stub.proofs.Sending.{runs, short_asked_for}
