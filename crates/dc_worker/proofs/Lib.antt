@@ -1,0 +1,5 @@
+pub mod Work
+pub mod Provenance
+pub mod Delivering
+pub mod Sending
+pub mod Telling
