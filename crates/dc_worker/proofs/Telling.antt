@@ -25,9 +25,13 @@ tells_vector a b c r vector first say line report is learn told =
     } in
     record { deeds = deeds; such = such; adds = adds_then a b c (Asked r.from Report (Unheard first) ∷ []) (Asked r.to (Learn r.from vector) (Unheard say) ∷ []) report learn; carries = tells_carry r deeds line such }
 
--- a report with which the tell ends
-pub tells_none : (a b : Acting) (r : Route) (first : Say) (line : Option Line) → Adds a b (Asked r.from Report (Unheard first) ∷ []) → AfterTold r first [] line → CarriesSuch (λ deeds. Tells r deeds line) a b
-tells_none a b r first line report follows =
+-- with an answer that is no vector a tell ends
+told_none : (r : Route) (first : Say) (line : Option Line) → ((vector : List ℕ) → first ≡ Vector vector → ⊥) → line ≡ tell_line r r.from first → AfterTold r first [] line
+told_none r (Vector vector) line not is = absurd (not vector refl)
+told_none r first line not is = (refl, is)
+
+pub tells_none : (a b : Acting) (r : Route) (first : Say) (line : Option Line) → Adds a b (Asked r.from Report (Unheard first) ∷ []) → ((vector : List ℕ) → first ≡ Vector vector → ⊥) → line ≡ tell_line r r.from first → CarriesSuch (λ deeds. Tells r deeds line) a b
+tells_none a b r first line report not is =
     let deeds : List Deed = Asked r.from Report (Unheard first) ∷ [] in
-    let such : Tells r deeds line = record { say = first; later = []; whole = refl; follows = follows } in
+    let such : Tells r deeds line = record { say = first; later = []; whole = refl; follows = told_none r first line not is } in
     record { deeds = deeds; such = such; adds = report; carries = tells_carry r deeds line such }

@@ -1,5 +1,5 @@
 -- What asks add to a log and to what a door shows, one after another.
-use Rattle.std.proofs.Common.{◌≡◌, ◌≢◌, ◌<◌, ◌^◌, ℕ, ◌==◌, Bool, true, false, length, List, [], ◌∷◌, ◌++◌, Some, refl, sym, ap, ◌∙◌, subst}
+use Rattle.std.proofs.Common.{◌≡◌, ◌≢◌, ◌<◌, ◌^◌, ℕ, ◌==◌, Bool, true, false, length, List, [], ◌∷◌, ◌++◌, Some, Result, Ok, Err, IfOk, OnErr, refl, sym, ap, ◌∙◌, subst}
 use Rattle.std.proofs.lemmas.Bool.{eqb-true}
 use Rattle.std.proofs.lemmas.List.{append-nil}
 use Rattle.dc_talk.specs.declared.ask.Ask.{Ask}
@@ -52,3 +52,15 @@ adds_behind a b ds i adds is = behind_later a.door b.door i adds.leaves.door.sam
 -- an early end behind deeds
 pub cut_then : (a b c : Acting) (ds : List Deed) → Adds a b ds → IsCutShort b c → IsCutShort a c
 cut_then a b c ds adds cut = cut_after a b c ds adds.leaves cut
+
+-- ---- results
+
+-- what holds of a value, where there is one, gives what follows from it
+pub ok_turn : {T E : Type 0} (r : Result T E) (P Q : T → Type 0) → ((x : T) → P x → Q x) → IfOk r P → IfOk r Q
+ok_turn (Ok x) P Q turn is = turn x is
+ok_turn (Err e) P Q turn is = tt
+
+-- so does what holds where there is none
+pub err_turn : {T E : Type 0} (r : Result T E) (P Q : Type 0) → (P → Q) → OnErr r P → OnErr r Q
+err_turn (Ok x) P Q turn is = tt
+err_turn (Err e) P Q turn is = turn is
