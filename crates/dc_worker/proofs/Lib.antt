@@ -3,3 +3,4 @@ pub mod Provenance
 pub mod Delivering
 pub mod Sending
 pub mod Telling
+pub mod Turns

@@ -62,9 +62,10 @@ fn over_routes_from<D: Door>(
 {
     'others: for before in 0..n {
         let to = before + 1;
-        if from != to {
-            over_route(door, round, from, to, log)?;
+        if from == to {
+            continue 'others;
         }
+        over_route(door, round, from, to, log)?;
     }
     Ok(())
 }
