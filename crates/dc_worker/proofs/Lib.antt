@@ -4,3 +4,4 @@ pub mod Delivering
 pub mod Sending
 pub mod Telling
 pub mod Turns
+pub mod Passing

@@ -122,9 +122,9 @@ tells_carry r deeds line is = subst (CarriesAll []) (sym is.whole) (tt, after_to
 -- ---- passes
 
 -- what is done in turn, each of which carries by itself
-pub turns_carry : {X : Type 0} (Does : X → List Deed → Type 0) → ((x : X) (deeds : List Deed) → Does x deeds → CarriesAll [] deeds) → (xs : List X) (deeds : List Deed) → InTurn Does xs deeds → CarriesAll [] deeds
-turns_carry Does each [] deeds no_turn = tt
-turns_carry Does each (x ∷ xs) deeds (next_turn first later whole does rest) = subst (CarriesAll []) (sym whole) (carries_both first later (each x first does) (turns_carry Does each xs later rest))
+pub turns_carry : {X : Type 0} (Do : X → List Deed → Type 0) → ((x : X) (deeds : List Deed) → Do x deeds → CarriesAll [] deeds) → (xs : List X) (deeds : List Deed) → InTurn Do xs deeds → CarriesAll [] deeds
+turns_carry Do each [] deeds no_turn = tt
+turns_carry Do each (x ∷ xs) deeds (next_turn first later whole does rest) = subst (CarriesAll []) (sym whole) (carries_both first later (each x first does) (turns_carry Do each xs later rest))
 
 pub passes_carry : (n : ℕ) (deeds : List Deed) → Passes n deeds → CarriesAll [] deeds
 passes_carry n deeds is = subst (CarriesAll []) (sym is.whole) (carries_both is.ships is.tells

@@ -30,17 +30,17 @@ carries_such_then Are Bes Both a b c both first later = record {
 
 -- ---- turns
 
-pub turns_then : {X : Type 0} (Does : X → List Deed → Type 0) (xs ys : List X) (ds es : List Deed) → InTurn Does xs ds → InTurn Does ys es → InTurn Does (xs ++ ys) (ds ++ es)
-turns_then Does [] ys ds es no_turn later = later
-turns_then Does (x ∷ xs) ys ds es (next_turn front rest whole does more) later = next_turn front (rest ++ es) (ap (λ all. all ++ es) whole ∙ append_assoc front rest es) does (turns_then Does xs ys rest es more later)
+pub turns_then : {X : Type 0} (Do : X → List Deed → Type 0) (xs ys : List X) (ds es : List Deed) → InTurn Do xs ds → InTurn Do ys es → InTurn Do (xs ++ ys) (ds ++ es)
+turns_then Do [] ys ds es no_turn later = later
+turns_then Do (x ∷ xs) ys ds es (next_turn front rest whole does more) later = next_turn front (rest ++ es) (ap (λ all. all ++ es) whole ∙ append_assoc front rest es) does (turns_then Do xs ys rest es more later)
 
 -- one turn
-turns_one : {X : Type 0} (Does : X → List Deed → Type 0) (x : X) (ds : List Deed) → Does x ds → InTurn Does (x ∷ []) ds
-turns_one Does x ds does = next_turn ds [] (sym (append-nil ds)) does no_turn
+turns_one : {X : Type 0} (Do : X → List Deed → Type 0) (x : X) (ds : List Deed) → Do x ds → InTurn Do (x ∷ []) ds
+turns_one Do x ds does = next_turn ds [] (sym (append-nil ds)) does no_turn
 
 -- no turn
-pub turns_none : (Does : Route → List Deed → Type 0) (a : Acting) → CarriesSuch (InTurn Does []) a a
-turns_none Does a = record { deeds = []; such = no_turn; adds = adds_none a; carries = tt }
+pub turns_none : (Do : Route → List Deed → Type 0) (a : Acting) → CarriesSuch (InTurn Do []) a a
+turns_none Do a = record { deeds = []; such = no_turn; adds = adds_none a; carries = tt }
 
 -- ---- the routes from a centre
 

@@ -38,5 +38,5 @@ fn pass<D: Door>(door: &mut D, n: u8, log: &mut Log) -> Result<bool, NoMemory>
     let before = log.as_slice().len();
     over_all_routes(door, Round::Ship, n, log)?;
     over_all_routes(door, Round::Tell, n, log)?;
-    Ok(has_news(&log.as_slice()[before..]))
+    Ok(has_news(log.as_slice(), before))
 }
