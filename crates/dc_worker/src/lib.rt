@@ -4,6 +4,7 @@
 mod asks;
 mod deliveries;
 mod ends;
+mod laws;
 mod news;
 mod rounds;
 mod sends;
@@ -14,6 +15,7 @@ mod tells;
 pub use asks::ask_unheard;
 pub use deliveries::{deliver, deliver_all};
 pub use ends::{is_there, ship_line};
+pub use laws::law_carried;
 pub use sends::{Sent, send_for};
 pub use settling::settle;
 pub use ships::{ship_all, ship_one};
