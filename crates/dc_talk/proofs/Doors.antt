@@ -33,17 +33,17 @@ made_none : (actor i : ℕ) (deed : Deed) → exchanged_in i deed ≡ None → e
 made_none actor i deed none = subst (λ o. filter_map (λ (x : Option (Ask × Say)). option_map (entry_for actor) x) (o ∷ []) ≡ []) (sym none) refl
 
 -- a deed that reached another centre made none
-made_other : (actor i j : ℕ) (ask : Ask) (fate : Fate) → (i == j) ≡ false → entries_made actor j (Asked i ask fate ∷ []) ≡ []
+pub made_other : (actor i j : ℕ) (ask : Ask) (fate : Fate) → (i == j) ≡ false → entries_made actor j (Asked i ask fate ∷ []) ≡ []
 made_other actor i j ask fate other = made_none actor j (Asked i ask fate) (ap (λ test. cond test (option_map (λ say. (ask, say)) (answered fate)) None) other)
 
 -- one that reached the centre made its entry
-made_one : (actor i j : ℕ) (ask : Ask) (fate : Fate) (say : Say) → (i == j) ≡ true → answered fate ≡ Some say → entries_made actor j (Asked i ask fate ∷ []) ≡ entry_for actor (ask, say) ∷ []
+pub made_one : (actor i j : ℕ) (ask : Ask) (fate : Fate) (say : Say) → (i == j) ≡ true → answered fate ≡ Some say → entries_made actor j (Asked i ask fate ∷ []) ≡ entry_for actor (ask, say) ∷ []
 made_one actor i j ask fate say here got =
     let exchanged : exchanged_in j (Asked i ask fate) ≡ Some (ask, say) = ap (λ test. cond test (option_map (λ say. (ask, say)) (answered fate)) None) here ∙ ap (option_map (λ say. (ask, say))) got in
     subst (λ o. filter_map (λ (x : Option (Ask × Say)). option_map (entry_for actor) x) (o ∷ []) ≡ entry_for actor (ask, say) ∷ []) (sym exchanged) refl
 
 -- more deeds made more entries
-made_then : (actor i : ℕ) (ds es : List Deed) → entries_made actor i (ds ++ es) ≡ entries_made actor i ds ++ entries_made actor i es
+pub made_then : (actor i : ℕ) (ds es : List Deed) → entries_made actor i (ds ++ es) ≡ entries_made actor i ds ++ entries_made actor i es
 made_then actor i ds es = filter_map-append (entry_made actor i) ds es
 
 -- ---- deeds

@@ -1,0 +1,136 @@
+-- What deeds carry, one after another and behind more.
+use Rattle.std.proofs.Common.{◌≡◌, ℕ, inl, inr, Bool, true, false, ◌==◌, List, [], ◌∷◌, ◌++◌, Option, Some, None, refl, sym, ap, subst, arith}
+use Rattle.std.specs.Prelude.{MatchBool, cond}
+use Rattle.std.proofs.lemmas.List.{append-nil, append_assoc}
+use Rattle.list_core.specs.Members.{In}
+use Rattle.list_core.proofs.Members.{In_left, In_right}
+use Rattle.tx_core.specs.declared.tx.Record.{Record}
+use Rattle.dc_talk.specs.declared.ask.Ask.{Ask}
+use Rattle.dc_talk.specs.declared.ask.Ask.TheVariants.{Hello, Refresh, Fetch, Commit, Send, Deliver, Report, Learn, Stop, Start}
+use Rattle.dc_talk.specs.declared.say.Say.{Say}
+use Rattle.dc_talk.specs.declared.say.Say.TheVariants.{Records, Vector}
+use Rattle.dc_talk.specs.declared.log.Fate.TheVariants.{Unheard}
+use Rattle.dc_talk.specs.declared.log.Deed.{Deed}
+use Rattle.dc_talk.specs.declared.log.Deed.TheVariants.{Did, Asked, Told}
+use Rattle.dc_talk.specs.declared.line.ShipEnd.{ShipEnd}
+use Rattle.dc_talk.specs.declared.line.Line.{Line}
+use Rattle.dc_talk.specs.Logs.{exchanged_in}
+use Rattle.script_text.specs.Carrying.{Route, is_there, delivery_end, Delivers, AfterSend, Sends, AfterReport, Ships, AfterTold, Tells, InTurn, no_turn, next_turn, Passes, Settles, last_pass, one_pass}
+use Rattle.dc_worker.specs.Provenance.{HasAnswer, WasSent, Carries, CarriesAll}
+
+-- ---- more deeds
+
+-- an answer among deeds is one among these and those before them
+has_behind : (front deeds : List Deed) (i : ℕ) (ask : Ask) (say : Say) → HasAnswer deeds i ask say → HasAnswer (front ++ deeds) i ask say
+has_behind front deeds i ask say has = record { deed = has.deed; there = In_right front deeds has.deed has.there; exchanged = has.exchanged }
+
+-- and among these and those behind them
+has_before : (deeds back : List Deed) (i : ℕ) (ask : Ask) (say : Say) → HasAnswer deeds i ask say → HasAnswer (deeds ++ back) i ask say
+has_before deeds back i ask say has = record { deed = has.deed; there = In_left deeds back has.deed has.there; exchanged = has.exchanged }
+
+sent_behind : (front deeds : List Deed) (item : Record) → WasSent deeds item → WasSent (front ++ deeds) item
+sent_behind front deeds item sent = record { centre = sent.centre; after = sent.after; most = sent.most; list = sent.list; answer = has_behind front deeds sent.centre (Send sent.after sent.most) (Records sent.list) sent.answer; among = sent.among }
+
+sent_before : (deeds back : List Deed) (item : Record) → WasSent deeds item → WasSent (deeds ++ back) item
+sent_before deeds back item sent = record { centre = sent.centre; after = sent.after; most = sent.most; list = sent.list; answer = has_before deeds back sent.centre (Send sent.after sent.most) (Records sent.list) sent.answer; among = sent.among }
+
+-- a deed that carries no more than those before it brought does so behind more of them
+carries_behind : (front before : List Deed) (deed : Deed) → Carries before deed → Carries (front ++ before) deed
+carries_behind front before (Asked i (Deliver item) fate) is = sent_behind front before item is
+carries_behind front before (Asked i (Learn from vector) fate) is = has_behind front before from Report (Vector vector) is
+carries_behind front before (Asked i (Send after most) fate) is = tt
+carries_behind front before (Asked i Report fate) is = tt
+carries_behind front before (Asked i Stop fate) is = tt
+carries_behind front before (Asked i Start fate) is = tt
+carries_behind front before (Asked i (Hello client need) fate) is = absurd is
+carries_behind front before (Asked i (Refresh client here) fate) is = absurd is
+carries_behind front before (Asked i (Fetch object here) fate) is = absurd is
+carries_behind front before (Asked i (Commit tx) fate) is = absurd is
+carries_behind front before (Did call outcome) is = absurd is
+carries_behind front before (Told line) is = tt
+
+-- so do all
+pub carries_more : (front before deeds : List Deed) → CarriesAll before deeds → CarriesAll (front ++ before) deeds
+carries_more front before [] all = tt
+carries_more front before (deed ∷ deeds) all = (
+  carries_behind front before deed all.0,
+  subst (λ seen. CarriesAll seen deeds) (sym (append_assoc front before (deed ∷ []))) (carries_more front (before ++ deed ∷ []) deeds all.1),
+)
+
+-- deeds after deeds
+pub carries_then : (before ds es : List Deed) → CarriesAll before ds → CarriesAll (before ++ ds) es → CarriesAll before (ds ++ es)
+carries_then before [] es first later = subst (λ seen. CarriesAll seen es) (append-nil before) later
+carries_then before (d ∷ ds) es first later = (first.0, carries_then (before ++ d ∷ []) ds es first.1 (subst (λ seen. CarriesAll seen es) (sym (append_assoc before (d ∷ []) ds)) later))
+
+-- deeds after deeds that carry by themselves
+pub carries_both : (ds es : List Deed) → CarriesAll [] ds → CarriesAll [] es → CarriesAll [] (ds ++ es)
+carries_both ds es first later = carries_then [] ds es first (subst (λ seen. CarriesAll seen es) (append-nil ds) (carries_more ds [] es later))
+
+-- ---- what is delivered, shipped and told
+
+-- the last deed is one of the deeds
+last_in : (before : List Deed) (deed : Deed) → In deed (before ++ deed ∷ [])
+last_in before deed = In_right before (deed ∷ []) deed (inl refl)
+
+-- what an ask of a centre exchanged with it
+exchanged_there : (i : ℕ) (ask : Ask) (say : Say) → exchanged_in i (Asked i ask (Unheard say)) ≡ Some (ask, say)
+exchanged_there i ask say = let same : (i == i) ≡ true = grind arith in ap (λ test. cond test (Some (ask, say)) None) same
+
+-- the answer that the last deed brought
+brought : (before : List Deed) (i : ℕ) (ask : Ask) (say : Say) → HasAnswer (before ++ Asked i ask (Unheard say) ∷ []) i ask say
+brought before i ask say = record { deed = Asked i ask (Unheard say); there = last_in before (Asked i ask (Unheard say)); exchanged = exchanged_there i ask say }
+
+-- deliveries of records that were sent
+pub delivers_carry : (before : List Deed) (to : ℕ) (items : List Record) (last : Option ShipEnd) (deeds : List Deed) (end : Option ShipEnd) → ((item : Record) → In item items → WasSent before item) → Delivers to items last deeds end → CarriesAll before deeds
+delivers_carry before to [] last deeds end sent is = subst (CarriesAll before) (sym is.0) tt
+delivers_carry before to (item ∷ items) last [] end sent is = tt
+delivers_carry before to (item ∷ items) last (deed ∷ deeds) end sent (say, asks, rest) = (
+  subst (Carries before) (sym asks) (sent item (inl refl)),
+  either (is_there say) rest (λ more. delivers_carry (before ++ deed ∷ []) to items (delivery_end to item say) deeds end (λ other among. sent_before before (deed ∷ []) other (sent other (inr among))) more),
+)
+  where
+    either : (test : Bool) → MatchBool test (Delivers to items (delivery_end to item say) deeds end) ((deeds ≡ []) × (end ≡ delivery_end to item say)) → (Delivers to items (delivery_end to item say) deeds end → CarriesAll (before ++ deed ∷ []) deeds) → CarriesAll (before ++ deed ∷ []) deeds
+    either true more on = on more
+    either false none on = subst (CarriesAll (before ++ deed ∷ [])) (sym none.0) tt
+
+-- what follows a send
+after_send_carries : (before : List Deed) (r : Route) (last : Option ShipEnd) (after most : ℕ) (say : Say) (deeds : List Deed) (end : Option ShipEnd) → AfterSend r last say deeds end → CarriesAll (before ++ Asked r.from (Send after most) (Unheard say) ∷ []) deeds
+after_send_carries before r last after most (Records list) deeds end is =
+    delivers_carry (before ++ Asked r.from (Send after most) (Unheard (Records list)) ∷ []) r.to list last deeds end
+        (λ item among. record { centre = r.from; after = after; most = most; list = list; answer = brought before r.from (Send after most) (Records list); among = among }) is
+after_send_carries before r last after most say deeds end is = subst (CarriesAll (before ++ Asked r.from (Send after most) (Unheard say) ∷ [])) (sym is.0) tt
+
+pub sends_carry : (before : List Deed) (r : Route) (last : Option ShipEnd) (after most : ℕ) (deeds : List Deed) (end : Option ShipEnd) → Sends r last (Send after most) deeds end → CarriesAll before deeds
+sends_carry before r last after most deeds end is = subst (CarriesAll before) (sym is.whole) (tt, after_send_carries before r last after most is.say is.later end is.follows)
+
+-- what follows the report of the centre that is delivered to
+after_report_carries : (before : List Deed) (r : Route) (say : Say) (deeds : List Deed) (end : Option ShipEnd) → AfterReport r say deeds end → CarriesAll before deeds
+after_report_carries before r (Vector vector) deeds end is = sends_carry before r None _ _ deeds end is
+after_report_carries before r say deeds end is = subst (CarriesAll before) (sym is.0) tt
+
+pub ships_carry : (r : Route) (deeds : List Deed) (end : Option ShipEnd) → Ships r deeds end → CarriesAll [] deeds
+ships_carry r deeds end is = subst (CarriesAll []) (sym is.whole) (tt, after_report_carries (Asked r.to Report (Unheard is.say) ∷ []) r is.say is.later end is.follows)
+
+-- what follows the report of the centre whose vector is told
+after_told_carries : (r : Route) (say : Say) (deeds : List Deed) (line : Option Line) → AfterTold r say deeds line → CarriesAll (Asked r.from Report (Unheard say) ∷ []) deeds
+after_told_carries r (Vector vector) deeds line is = subst (CarriesAll (Asked r.from Report (Unheard (Vector vector)) ∷ [])) (sym is.1) (brought [] r.from Report (Vector vector), tt)
+after_told_carries r say deeds line is = subst (CarriesAll (Asked r.from Report (Unheard say) ∷ [])) (sym is.0) tt
+
+pub tells_carry : (r : Route) (deeds : List Deed) (line : Option Line) → Tells r deeds line → CarriesAll [] deeds
+tells_carry r deeds line is = subst (CarriesAll []) (sym is.whole) (tt, after_told_carries r is.say is.later line is.follows)
+
+-- ---- passes
+
+-- what is done in turn, each of which carries by itself
+pub turns_carry : {X : Type 0} (Do : X → List Deed → Type 0) → ((x : X) (deeds : List Deed) → Do x deeds → CarriesAll [] deeds) → (xs : List X) (deeds : List Deed) → InTurn Do xs deeds → CarriesAll [] deeds
+turns_carry Do each [] deeds no_turn = tt
+turns_carry Do each (x ∷ xs) deeds (next_turn first later whole does rest) = subst (CarriesAll []) (sym whole) (carries_both first later (each x first does) (turns_carry Do each xs later rest))
+
+pub passes_carry : (n : ℕ) (deeds : List Deed) → Passes n deeds → CarriesAll [] deeds
+passes_carry n deeds is = subst (CarriesAll []) (sym is.whole) (carries_both is.ships is.tells
+    (turns_carry (λ r deeds. (end : Option ShipEnd) × Ships r deeds end) (λ r deeds does. ships_carry r deeds does.0 does.1) _ is.ships is.shipped)
+    (turns_carry (λ r deeds. (line : Option Line) × Tells r deeds line) (λ r deeds does. tells_carry r deeds does.0 does.1) _ is.tells is.told_all))
+
+pub settles_carry : (n : ℕ) (deeds : List Deed) → Settles n deeds → CarriesAll [] deeds
+settles_carry n deeds (last_pass passed none) = passes_carry n deeds passed
+settles_carry n deeds (one_pass first later whole passed some rest) = subst (CarriesAll []) (sym whole) (carries_both first later (passes_carry n first passed) (settles_carry n later rest))

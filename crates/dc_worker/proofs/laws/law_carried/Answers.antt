@@ -1,0 +1,21 @@
+use Rattle.std.proofs.Common.{[]}
+use Rattle.dc_worker.proofs.Provenance.{carries_more, carries_then, sends_carry, ships_carry, tells_carry, settles_carry}
+use Rattle.dc_worker.proofs.laws.law_carried.Goals as goal
+
+pub returns-clause-sends : goal.returns-clause-sends
+returns-clause-sends c = sends_carry []
+
+pub returns-clause-ships : goal.returns-clause-ships
+returns-clause-ships c = ships_carry
+
+pub returns-clause-tells : goal.returns-clause-tells
+returns-clause-tells c = tells_carry
+
+pub returns-clause-settles : goal.returns-clause-settles
+returns-clause-settles c = settles_carry
+
+pub returns-clause-more : goal.returns-clause-more
+returns-clause-more c = carries_more
+
+pub returns-clause-both : goal.returns-clause-both
+returns-clause-both c = carries_then

@@ -1,0 +1,12 @@
+use Rattle.std.proofs.Common.{◌≡◌}
+use Rattle.dc_talk.specs.Acting.{acting}
+use Rattle.script_text.specs.Carrying.{InTurn}
+use Rattle.dc_worker.specs.Work.{CarriesSuch}
+use Rattle.dc_worker.specs.Rounds.{Does, routes_from}
+use Rattle.dc_worker.proofs.rounds.over_routes_from.Given as goal
+
+abbrev pub invariant-others : goal.invariant-others
+invariant-others g l = record {
+  place : g.D.Door.place l.door ≡ g.D.Door.place l.fn.door;
+  does : CarriesSuch (InTurn (Does l.round) (routes_from l.before l.from)) (acting (g.D.Door.shown l.fn.door) l.fn.log) (acting (g.D.Door.shown l.door) l.log);
+}

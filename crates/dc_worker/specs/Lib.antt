@@ -1,0 +1,4 @@
+pub mod Work
+pub mod Provenance
+pub mod Sends
+pub mod Rounds

@@ -1,0 +1,20 @@
+// The laws of what is carried. Each is a function with nothing to do, whose contract is the law.
+ghost use Rattle.std.specs.Prelude.{ℕ, List, [], ◌++◌, Option};
+ghost use Rattle.dc_talk.specs.declared.ask.Ask.TheVariants.{Send};
+ghost use Rattle.dc_talk.specs.declared.line.Line.{Line};
+ghost use Rattle.dc_talk.specs.declared.line.ShipEnd.{ShipEnd};
+ghost use Rattle.dc_talk.specs.declared.log.Deed.{Deed};
+ghost use Rattle.script_text.specs.Carrying.{Route, Sends, Ships, Tells, Settles};
+ghost use Rattle.dc_worker.specs.Provenance.{CarriesAll};
+
+/// What the deeds of a carrier carry, an earlier one of them brought: a record that is delivered was in a centre's
+/// answer to a send, and a vector that is taught in the answer of its centre to a report. That stays so with more
+/// deeds in front of them, and of deeds behind one another.
+pub fn law_carried()
+    ensures sends { (r : Route) (last : Option ShipEnd) (after most : ℕ) (deeds : List Deed) (end : Option ShipEnd) → Sends r last (Send after most) deeds end → CarriesAll [] deeds }
+    ensures ships { (r : Route) (deeds : List Deed) (end : Option ShipEnd) → Ships r deeds end → CarriesAll [] deeds }
+    ensures tells { (r : Route) (deeds : List Deed) (line : Option Line) → Tells r deeds line → CarriesAll [] deeds }
+    ensures settles { (n : ℕ) (deeds : List Deed) → Settles n deeds → CarriesAll [] deeds }
+    ensures more { (front before deeds : List Deed) → CarriesAll before deeds → CarriesAll (front ++ before) deeds }
+    ensures both { (before ds es : List Deed) → CarriesAll before ds → CarriesAll (before ++ ds) es → CarriesAll before (ds ++ es) }
+{}

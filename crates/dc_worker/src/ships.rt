@@ -1,0 +1,61 @@
+// Deliveries of a centre's records to another one.
+ghost use Rattle.std.specs.Prelude.{◌≡◌, ◌≢◌, ◌≤◌, ◌-◌, Some, IfOk, OnErr};
+ghost use Rattle.dc_talk.specs.declared.ask.Ask.TheVariants.{Send};
+ghost use Rattle.dc_talk.specs.declared.line.ShipEnd.TheVariants.{Absent};
+ghost use Rattle.dc_talk.specs.Acting.{acting, IsCutShort};
+ghost use Rattle.dc_talk.specs.Doors.{IsBehind};
+ghost use Rattle.script_text.specs.Carrying.{route, Sends, Ships};
+ghost use Rattle.dc_worker.specs.Work.{CarriesSuch};
+
+use crate::asks::ask_unheard;
+use crate::deliveries::deliver_all;
+use crate::sends::{Sent, send_for, sent_of};
+use dc_talk::{Ask, Door, Log, MOST_SENT, ShipEnd};
+use ids_core::NoMemory;
+
+/// Delivers the record of this number, at least 1, that a centre stamped to another one. Both are behind the door.
+/// Answers how that ended. An `Err` is want of memory: one or both may have been asked.
+pub fn ship_one<D: Door>(
+    door: &mut D,
+    from: u8,
+    to: u8,
+    seq: u64,
+    log: &mut Log,
+) -> Result<Option<ShipEnd>, NoMemory>
+    requires from { IsBehind (D.shown door.old) from }
+    requires to { IsBehind (D.shown door.old) to }
+    requires apart { from ≢ to }
+    requires seq { 1 ≤ seq }
+    ensures place { D.place door.new ≡ D.place door.old }
+    ensures ships { IfOk result (λ end. CarriesSuch (λ deeds. Sends (route from to) (Some (Absent seq)) (Send (seq - 1) 1) deeds end) (acting (D.shown door.old) log.old) (acting (D.shown door.new) log.new)) }
+    ensures short { OnErr result (IsCutShort (acting (D.shown door.old) log.old) (acting (D.shown door.new) log.new)) }
+{
+    let after = seq - 1;
+    let say = ask_unheard(door, from, Ask::Send { after, most: 1 }, log)?;
+    match sent_of(from, say) {
+        Sent::Items(items) => deliver_all(door, to, items, Some(ShipEnd::Absent { seq }), log),
+        Sent::Ended(end) => Ok(end),
+    }
+}
+
+/// Delivers the records that a centre stamped and another one lacks there, at most `MOST_SENT` of them, until one is
+/// answered neither `Applied` nor `Old`. Both are behind the door. Answers how the last delivery ended: nothing where
+/// there was none. An `Err` is want of memory: one or both may have been asked.
+pub fn ship_all<D: Door>(
+    door: &mut D,
+    from: u8,
+    to: u8,
+    log: &mut Log,
+) -> Result<Option<ShipEnd>, NoMemory>
+    requires from { IsBehind (D.shown door.old) from }
+    requires to { IsBehind (D.shown door.old) to }
+    requires apart { from ≢ to }
+    ensures place { D.place door.new ≡ D.place door.old }
+    ensures ships { IfOk result (λ end. CarriesSuch (λ deeds. Ships (route from to) deeds end) (acting (D.shown door.old) log.old) (acting (D.shown door.new) log.new)) }
+    ensures short { OnErr result (IsCutShort (acting (D.shown door.old) log.old) (acting (D.shown door.new) log.new)) }
+{
+    match send_for(door, from, to, MOST_SENT, log)? {
+        Sent::Items(items) => deliver_all(door, to, items, None, log),
+        Sent::Ended(end) => Ok(end),
+    }
+}
