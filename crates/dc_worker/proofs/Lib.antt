@@ -1,5 +1,4 @@
 pub mod Work
-pub mod Provenance
 pub mod Delivering
 pub mod Sending
 pub mod Telling

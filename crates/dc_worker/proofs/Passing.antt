@@ -18,10 +18,10 @@ use Rattle.dc_talk.proofs.Doors.{made_then}
 use Rattle.script_text.specs.Carrying.{Route, routes, Ships, Tells, InTurn, no_turn, next_turn, Passes, Settles, last_pass, one_pass, is_news}
 use Rattle.dc_worker.specs.declared.rounds.Round.TheVariants.{Ship, Tell}
 use Rattle.dc_worker.specs.Work.{Adds, CarriesSuch}
-use Rattle.dc_worker.specs.Provenance.{CarriesAll}
+use Rattle.script_text.specs.Provenance.{CarriesAll}
 use Rattle.dc_worker.specs.Rounds.{Does, passes_of}
 use Rattle.dc_worker.proofs.Work.{adds_none, adds_then}
-use Rattle.dc_worker.proofs.Provenance.{carries_both}
+use Rattle.script_text.proofs.Provenance.{carries_both}
 
 -- ---- a pass
 

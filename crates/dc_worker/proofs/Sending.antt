@@ -18,7 +18,7 @@ use Rattle.dc_worker.specs.declared.sends.Sent.TheVariants.{Items, Ended}
 use Rattle.dc_worker.specs.Work.{Adds, AddsSuch, CarriesSuch}
 use Rattle.dc_worker.specs.Sends.{sent_of, AfterNeed, SendsFor}
 use Rattle.dc_worker.proofs.Work.{adds_then}
-use Rattle.dc_worker.proofs.Provenance.{sends_carry, ships_carry}
+use Rattle.script_text.proofs.Provenance.{sends_carry, ships_carry}
 
 -- ---- a report and a send
 

@@ -15,7 +15,7 @@ use Rattle.dc_worker.specs.declared.rounds.Round.{Round}
 use Rattle.dc_worker.specs.Work.{CarriesSuch}
 use Rattle.dc_worker.specs.Rounds.{Does, routes_from, routes_of}
 use Rattle.dc_worker.proofs.Work.{adds_none, adds_then}
-use Rattle.dc_worker.proofs.Provenance.{carries_both}
+use Rattle.script_text.proofs.Provenance.{carries_both}
 
 -- ---- deeds of two kinds, one behind the other
 

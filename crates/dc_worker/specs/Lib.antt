@@ -1,4 +1,3 @@
 pub mod Work
-pub mod Provenance
 pub mod Sends
 pub mod Rounds

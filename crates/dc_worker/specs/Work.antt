@@ -10,7 +10,7 @@ use Rattle.script_text.specs.Carrying.{is_there, delivery_end}
 use Rattle.dc_talk.specs.declared.log.Deed.{Deed}
 use Rattle.dc_talk.specs.Logs.{entries_made}
 use Rattle.dc_talk.specs.Acting.{Acting, Leaves}
-use Rattle.dc_worker.specs.Provenance.{CarriesAll}
+use Rattle.script_text.specs.Provenance.{CarriesAll}
 
 -- a log and what the door shows grow by these deeds; the door's list of a centre that was asked stays short
 pub record Adds (old new : Acting) (deeds : List Deed) : Type 0 where

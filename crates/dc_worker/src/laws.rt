@@ -5,7 +5,7 @@ ghost use Rattle.dc_talk.specs.declared.line.Line.{Line};
 ghost use Rattle.dc_talk.specs.declared.line.ShipEnd.{ShipEnd};
 ghost use Rattle.dc_talk.specs.declared.log.Deed.{Deed};
 ghost use Rattle.script_text.specs.Carrying.{Route, Sends, Ships, Tells, Settles};
-ghost use Rattle.dc_worker.specs.Provenance.{CarriesAll};
+ghost use Rattle.script_text.specs.Provenance.{CarriesAll};
 
 /// What the deeds of a carrier carry, an earlier one of them brought: a record that is delivered was in a centre's
 /// answer to a send, and a vector that is taught in the answer of its centre to a report. That stays so with more

@@ -1,5 +1,5 @@
 use Rattle.std.proofs.Common.{[]}
-use Rattle.dc_worker.proofs.Provenance.{carries_more, carries_then, sends_carry, ships_carry, tells_carry, settles_carry}
+use Rattle.script_text.proofs.Provenance.{carries_more, carries_then, sends_carry, ships_carry, tells_carry, settles_carry}
 use Rattle.dc_worker.proofs.laws.law_carried.Goals as goal
 
 pub returns-clause-sends : goal.returns-clause-sends
