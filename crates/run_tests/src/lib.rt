@@ -4,8 +4,6 @@
 #![tactic(auto)]
 
 #[cfg(test)]
-mod client_stub_tests;
-#[cfg(test)]
 mod print_text_tests;
 #[cfg(test)]
 mod run_book_stamps;

@@ -1,7 +1,7 @@
-// Lines that no script with one centre can write, and the text of a log.
+// Lines that no script can write, and the text of logs.
 use dc_talk::{Call, Deed, Line, Log, Miss, Outcome, PushEnd, StepWord};
 use ids_core::{NoMemory, ObjectId};
-use print_text::{write_deed, write_line, write_notes};
+use print_text::{text_of, write_deed, write_line};
 use samples::counter;
 use std::alloc::Global;
 use std::test::Fail;
@@ -161,9 +161,9 @@ fn note(log: &mut Log, object: ObjectId) -> Result<(), NoMemory> {
 #[test]
 fn a_log_tells_its_lines_alone(rt: HostRuntime) -> Result<(), Fail> {
     let mut log = Log::new(rt.alloc(), 2);
+    log.set(1, 1);
     note(&mut log, counter("a")?)?;
-    let mut text = Vec::new(rt.alloc());
-    write_notes(&mut text, log.as_slice())?;
+    let mut text = text_of(rt.alloc(), &[Log::new(rt.alloc(), 1), log])?;
     write_deed(&mut text, &Deed::Told(Line::BeginOpen { client: 1 }))?;
     assert_eq!(rt;
         text.as_slice(),

@@ -4,6 +4,7 @@ use dc_centre::Centre;
 use dc_talk::Log;
 use hist_lock::Trail;
 use ids_core::{Dot, NoMemory};
+use print_text::text_of;
 use run_book::{
     Book, Logs, Trails, law_agree, law_causal, law_closed, law_known, law_numbers, law_one_list,
     law_refusals, law_session, law_sound, law_value,
@@ -100,10 +101,11 @@ fn ask(rt: &impl Abort, alloc: Global, book: &Book) -> Result<(), Fail> {
 
 #[test]
 fn a_book_tells_what_a_read_stands_on(rt: HostRuntime) -> Result<(), Fail> {
-    let run = played(
+    let book = played(
         rt.alloc(),
         b"centres 1 k 1\nclients 1\nc1 connect 1\nc1 begin\nc1 inc c.a 5\nc1 commit\nc1 begin\nc1 inc c.a 2\nc1 read c.a\n",
     )?;
-    assert!(rt; run.text.as_slice() == b"c1 at 1\nc1 commit 1\nc1 read c.a 7\n".as_slice());
-    ask(&rt, rt.alloc(), &run.book)
+    let text = text_of(rt.alloc(), book.logs.as_slice())?;
+    assert!(rt; text.as_slice() == b"c1 at 1\nc1 commit 1\nc1 read c.a 7\n".as_slice());
+    ask(&rt, rt.alloc(), &book)
 }

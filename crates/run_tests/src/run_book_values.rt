@@ -57,11 +57,32 @@ fn change(alloc: Global, dice: &mut Dice, client: u64) -> Result<String, AllocEr
     }
 }
 
-// A step of one of five clients.
+// A step of the operator, or one by which a client moves between three centres or its asks go wrong.
+fn far_step(alloc: Global, dice: &mut Dice, client: u64) -> Result<String, AllocError> {
+    let centre = dice.roll(3) + 1;
+    let other = centre % 3 + 1;
+    match dice.roll(8) {
+        0 | 1 => format!(in alloc; "c{client} connect {centre}\n"),
+        2 => {
+            let fault = dice.pick(&["lose ask", "lose reply", "twice"]);
+            format!(in alloc; "c{client} {fault}\n")
+        }
+        3 => format!(in alloc; "c{client} again {centre} 1\n"),
+        4 => format!(in alloc; "ship {centre} {other}\n"),
+        5 => format!(in alloc; "tell {centre} {other}\n"),
+        6 => {
+            let switch = dice.pick(&["down", "up", "up"]);
+            format!(in alloc; "{switch} {centre}\n")
+        }
+        _ => format!(in alloc; "settle\n"),
+    }
+}
+
+// A step of one of five clients at its session, or one between the centres.
 fn step(alloc: Global, dice: &mut Dice) -> Result<String, AllocError> {
     let client = dice.roll(5) + 1;
     let name = dice.pick(&["a", "b"]);
-    match dice.roll(14) {
+    match dice.roll(18) {
         0 | 1 => format!(in alloc; "c{client} begin\n"),
         2 => format!(in alloc; "c{client} commit\n"),
         3 => format!(in alloc; "c{client} flush\n"),
@@ -72,18 +93,20 @@ fn step(alloc: Global, dice: &mut Dice) -> Result<String, AllocError> {
             let kind = dice.pick(&["c", "r", "s", "m"]);
             format!(in alloc; "c{client} read {kind}.{name}\n")
         }
+        11..=13 => far_step(alloc, dice, client),
         _ => change(alloc, dice, client),
     }
 }
 
-// The script of a number: five connected clients that take a hundred steps in turns of chance.
+// The script of a number: five clients of three centres that take a hundred and fifty steps in turns of chance.
 fn made_script(alloc: Global, seed: u64) -> Result<Vec<u8>, AllocError> {
     let mut dice = Dice::new(seed);
-    let mut bytes = Vec::from_slice(alloc, b"centres 1 k 1\nclients 5\ncache 3\n")?;
+    let mut bytes = Vec::from_slice(alloc, b"centres 3 k 2\nclients 5\ncache 3\n")?;
     for client in 1..6 {
-        bytes.extend_from_slice(format!(in alloc; "c{client} connect 1\n")?.as_bytes())?;
+        let centre = client % 3 + 1;
+        bytes.extend_from_slice(format!(in alloc; "c{client} connect {centre}\n")?.as_bytes())?;
     }
-    for _ in 0..100 {
+    for _ in 0..150 {
         bytes.extend_from_slice(step(alloc, &mut dice)?.as_bytes())?;
     }
     Ok(bytes)
@@ -173,10 +196,10 @@ fn count_reads(alloc: Global, book: &Book, log: usize) -> Result<(u64, u64), NoM
 
 // The same of all logs of the run of a made script.
 fn count_all(alloc: Global, seed: u64) -> Result<(u64, u64), Fail> {
-    let run = played(alloc, &made_script(alloc, seed)?)?;
+    let book = played(alloc, &made_script(alloc, seed)?)?;
     let (mut agree, mut all) = (0_u64, 0_u64);
-    for log in 0..run.book.logs.as_slice().len() {
-        let counts = count_reads(alloc, &run.book, log)?;
+    for log in 0..book.logs.as_slice().len() {
+        let counts = count_reads(alloc, &book, log)?;
         agree = agree.saturating_add(counts.0);
         all = all.saturating_add(counts.1);
     }
@@ -193,7 +216,7 @@ fn reads_of_fifty_made_runs_have_the_values_by_dependency_sets(
         assert_eq!(rt; agree, reads);
         all = all.saturating_add(reads);
     }
-    // A hundred steps have some twenty reads.
+    // A hundred and fifty steps have some twenty reads.
     assert!(rt; all > 500);
     Ok(())
 }
