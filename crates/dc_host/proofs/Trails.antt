@@ -77,7 +77,7 @@ has_not_answered kept place one new (Err e) is same = map-set_same seen_of kept 
 -- ---- a door after an ask
 
 module _ (old new : List CentreTrail) (place : ℕ) (entry : Entry) (has : HasAnswered old new place entry) where
-  -- the trail of the centre that answered was that of the entry's answer
+  -- what the trail of the centre that answers was before
   trail_was : trail_at old (suc place) ≡ has.centre.entries
   trail_was = ap entries_of has.there
 
