@@ -31,6 +31,7 @@ link_did s CommitCall Nothing = refl
 link_did s AbortCall Fine = refl
 link_did s _ _ = refl
 
+-- so does one that ends so
 pub link_ended : (s t : Client) (call : Call) (outcome : Outcome) → Ends s t call outcome → t.link ≡ s.link
 link_ended s t call outcome ends = ap (λ (s : Client). s.link) ends.after ∙ link_did s call outcome
 
@@ -81,6 +82,7 @@ once_deeds : (p : Progress) (c : ObjectCall) (out : Outcome) → needs_fetch out
 once_deeds p c (Refused (NeedsFetch o)) n ds e = cc
 once_deeds p c _ n ds e = e
 
+-- it grows by its deeds alone
 pub called_once : (p q : Playing) (c : ObjectCall) (needs : Bool) → needs ≡ false → MakesCall c.call p q needs → GrowsBy (CallDeeds (progress p) c (outcome_of p.client c.call)) p q
 called_once p q c needs n made = record {
   deeds = calls p.client c.call;
@@ -89,7 +91,7 @@ called_once p q c needs n made = record {
   armed = made.armed ∙ sym (calls_use p.armed p.client c.call);
 }
 
--- a call has no line where it has to have its object fetched, and changes nothing
+-- a call has no line where it has to have its object fetched
 no_line : (client : ℕ) (call : Call) (out : Outcome) → needs_fetch out ≡ true → call_line client call out ≡ None
 no_line client BeginCall (Refused (NeedsFetch o)) n = refl
 no_line client (ChangeCall o change) (Refused (NeedsFetch p)) n = refl
@@ -98,6 +100,7 @@ no_line client CommitCall (Refused (NeedsFetch o)) n = refl
 no_line client AbortCall (Refused (NeedsFetch o)) n = refl
 no_line client _ _ n = cc
 
+-- and it changes nothing
 unchanged : (s : Client) (call : Call) (out : Outcome) → needs_fetch out ≡ true → did s call out ≡ s
 unchanged s BeginCall (Refused (NeedsFetch o)) n = refl
 unchanged s (ChangeCall o change) (Refused (NeedsFetch p)) n = refl
@@ -115,6 +118,7 @@ again_deeds p c _ n rest f = cc
 same_fetch : (p q : Playing) (c : ObjectCall) (rest : List Deed) → q.client ≡ p.client → q.armed ≡ p.armed → FetchDeeds (progress q) c rest → FetchDeeds (progress p) c rest
 same_fetch p q c rest client armed f = subst (λ (s : Client). FetchDeeds (record { client = s; armed = p.armed; notes = p.log.notes }) c rest) client (subst (λ (armed : Option AskFault). FetchDeeds (record { client = q.client; armed = armed; notes = p.log.notes }) c rest) armed f)
 
+-- it grows by the call, the fetch and what follows that
 pub called_again : (p q r : Playing) (c : ObjectCall) (needs : Bool) → needs ≡ true → MakesCall c.call p q needs → GrowsBy (FetchDeeds (progress q) c) q r → GrowsBy (CallDeeds (progress p) c (outcome_of p.client c.call)) p r
 called_again p q r c needs n made f =
     let out = outcome_of p.client c.call in

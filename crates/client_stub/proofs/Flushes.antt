@@ -39,6 +39,7 @@ room_taken door s link i tx (Stamped stamp) linked = rw linked refl
 room_taken door s link i tx (Known through) linked = rw linked refl
 room_taken door s link i tx _ linked = ap (room_over door) linked
 
+-- so does hearing an answer, taken or not
 room_heard : (door : DoorView) (s : Client) (link : Connection) (i : ℕ) (tx : Tx) (say : Say) → s.link ≡ Some link → room_over door (heard s i (CommitAsk tx) say).link ≡ room_over door (Some link)
 room_heard door s link i tx say linked = by_test (takes s i (CommitAsk tx) say)
   where
@@ -46,6 +47,7 @@ room_heard door s link i tx say linked = by_test (takes s i (CommitAsk tx) say)
     by_test true = room_taken door s link i tx say linked
     by_test false = ap (room_over door) linked
 
+-- and so whatever became of the ask
 room_after : (door : DoorView) (s : Client) (link : Connection) (i : ℕ) (tx : Tx) (fate : Fate) → s.link ≡ Some link → room_over door (after s (Asked i (CommitAsk tx) fate)).link ≡ room_over door (Some link)
 room_after door s link i tx (Heard say) linked = room_heard door s link i tx say linked
 room_after door s link i tx _ linked = ap (room_over door) linked
@@ -64,9 +66,11 @@ on_answered (ReplyLost say) on = cc
 on_answered (Unheard say) on = cc
 on_answered AskLost on = cc
 
+-- so it was not lost
 on_reached : (fate : Fate) → goes_on fate ≡ true → fate ≢ AskLost
 on_reached fate on lost = let no : goes_on AskLost ≡ true = subst (λ fate. goes_on fate ≡ true) lost on in cc
 
+-- what is left falls as a number below a bound rises
 falls : (most a b : ℕ) → a < b → b < most → most - b < most - a
 falls most a b more short = omega arith
 
@@ -108,6 +112,7 @@ pushes_so p q i ask a say again ds false stops whole grows armed short = record 
   armed = armed ∙ sym (ap (used_by p.armed) whole);
 }
 
+-- a push of a commit
 pub flush_pushes : (p q : Playing) (i : ℕ) (ask : Ask) (number : ℕ) (more : Bool) → commit_ask p.client ≡ Ok (Some (i, ask)) → number ≡ number_in ask → Runs (errand (purpose.Flush number) i ask) p q more → FlushesOn p q more
 flush_pushes p q i ask number more asked is runs =
     let a = push_asks p.client i ask asked in
@@ -139,6 +144,7 @@ pub record HasFlushed (p q : Playing) : Type 0 where
   pub grows : Grows p q deeds
   pub armed : q.armed ≡ used_by p.armed deeds
 
+-- no push yet
 pub flush_begins : (p : Playing) → HasFlushed p p
 flush_begins p = record { deeds = []; ends = λ later f. f; grows = grows_none p; armed = refl }
 
@@ -146,6 +152,7 @@ flush_begins p = record { deeds = []; ends = λ later f. f; grows = grows_none p
 pushes_from : (p q : Playing) (ds : List Deed) → PushesOn (progress q) ds → PushesOn (reached p q) ds
 pushes_from p q ds on = record { link = on.link; linked = on.linked; tx = on.tx; next = on.next; say = on.say; again = on.again; on = on.on; asked = on.asked }
 
+-- what ends a flush behind a push ends it before
 flush_on : (p q r : Playing) (on : HasPushedOn q r) (later : List Deed) → FlushDeeds (reached p r) later → FlushDeeds (reached p q) (on.deeds ++ later)
 flush_on p q r on later f =
     let from : FlushDeeds (record { client = after_all q.client on.deeds; armed = None; notes = p.log.notes }) later =
@@ -153,9 +160,11 @@ flush_on p q r on later f =
     (subst (λ (armed : Option AskFault). FlushDeeds (record { client = r.client; armed = armed; notes = p.log.notes }) later) on.armed f) in
     flush_goes on.deeds later refl (pushes_from p q on.deeds on.pushes) from
 
+-- a push uses the fault that is armed
 pushed_uses : (armed : Option AskFault) (s : Progress) (ds : List Deed) → PushesOn s ds → used_by armed ds ≡ None
 pushed_uses armed s ds on = ap (used_by armed) on.asked
 
+-- one more push
 pub flush_more : (p q r : Playing) → HasFlushed p q → HasPushedOn q r → HasFlushed p r
 flush_more p q r h on = record {
   deeds = h.deeds ++ on.deeds;
@@ -164,6 +173,7 @@ flush_more p q r h on = record {
   armed = on.armed ∙ (sym (pushed_uses q.armed (progress q) on.deeds on.pushes) ∙ used_then p.armed q.armed h.deeds on.deeds h.armed);
 }
 
+-- the end of a flush
 pub flush_last : (p q r : Playing) → HasFlushed p q → GrowsBy (FlushEnds (progress q)) q r → Takes FlushStep p r
 flush_last p q r h last = takes_by FlushStep p r (λ deeds. refl) (record {
   deeds = h.deeds ++ last.deeds;

@@ -46,14 +46,17 @@ allows_then s log (d ∷ ds) es first more = (first.0, allows_then (after s d) (
 pub behind_on : (a b : DoorView) (i : ℕ) → IsSameDoor a b → IsBehind a i → IsBehind b i
 behind_on a b i same is = (is.0, subst (λ n. i ≤ n) (sym same.centres) is.1)
 
+-- and the other way
 behind_back : (a b : DoorView) (i : ℕ) → IsSameDoor a b → IsBehind b i → IsBehind a i
 behind_back a b i same is = (is.0, subst (λ n. i ≤ n) same.centres is.1)
 
+-- so has an ask
 asked_back : (a b : DoorView) (deed : Deed) → IsSameDoor a b → IsAskBehind b deed → IsAskBehind a deed
 asked_back a b (Did call outcome) same is = tt
 asked_back a b (Asked i ask fate) same is = behind_back a b i same is
 asked_back a b (Told line) same is = tt
 
+-- so have the asks of more deeds after deeds
 all_behind : (a b : DoorView) (ds es : List Deed) → IsSameDoor a b → All (IsAskBehind a) ds → All (IsAskBehind b) es → All (IsAskBehind a) (ds ++ es)
 all_behind a b ds es same first more = All-append (IsAskBehind a) ds es first (In-All (IsAskBehind a) es (λ deed is. asked_back a b deed same (All-In (IsAskBehind b) es deed more is)))
 
@@ -105,6 +108,7 @@ grows_told p (Some line) = record {
 pub grows_leaves : (p : Playing) (q : Acting) (ds : List Deed) → Leaves (acting p.door p.log) q ds → p.client ≡ after_all p.client ds → AllowsAll p.client p.log ds → Grows p (record p { door = q.door; log = q.log }) ds
 grows_leaves p q ds leaves still allowed = record { log = leaves.log; client = still; door = leaves.door; allowed = allowed; behind = leaves.behind }
 
+-- no deeds of a log beside a door
 pub leaves_none : (a : Acting) → Leaves a a []
 leaves_none a = record { log = sym (noted_none a.log); door = done_none a.door; behind = All-nil (IsAskBehind a.door) }
 

@@ -30,18 +30,21 @@ use Rattle.client_stub.proofs.Stepping.{grows_line, over_some, over_none}
 sent_more : (number : ℕ) (notes : List Note) (i : ℕ) (note : Note) → i < length notes → note ≡ get_or notes i note → commit_sent number (drop i notes) ≡ option_or (commit_asked number note.deed) (commit_sent number (drop (i + 1) notes))
 sent_more number notes i note within is = at_drop_more (commit_sent number) notes i note within ∙ ap (λ (n : Note). option_or (commit_asked number n.deed) (commit_sent number (drop (i + 1) notes))) (sym is)
 
--- a note that is one settles it, and another does not
+-- what is there is the first
 some_first : (o p : Option Tx) → is_some o ≡ true → option_or o p ≡ o
 some_first None p some = cc
 some_first (Some tx) p some = refl
 
+-- and what is none leaves it to the rest
 none_first : (o p : Option Tx) → is_some o ≡ false → option_or o p ≡ p
 none_first None p none = refl
 none_first (Some tx) p none = cc
 
+-- a note that is a commit ask of the number is the first one
 pub sent_found : (number : ℕ) (notes : List Note) (i : ℕ) (note : Note) (tx : Option Tx) → i < length notes → note ≡ get_or notes i note → tx ≡ commit_asked number note.deed → is_some tx ≡ true → commit_sent number (drop i notes) ≡ tx
 sent_found number notes i note tx within is asked some = sent_more number notes i note within is ∙ (ap (λ o. option_or o (commit_sent number (drop (i + 1) notes))) (sym asked) ∙ some_first tx (commit_sent number (drop (i + 1) notes)) some)
 
+-- another note is passed
 pub sent_passed : (number : ℕ) (notes : List Note) (i : ℕ) (note : Note) (tx : Option Tx) → i < length notes → note ≡ get_or notes i note → tx ≡ commit_asked number note.deed → is_some tx ≡ false → commit_sent number (drop i notes) ≡ commit_sent number (drop (i + 1) notes)
 sent_passed number notes i note tx within is asked none = sent_more number notes i note within is ∙ (ap (λ o. option_or o (commit_sent number (drop (i + 1) notes))) (sym asked) ∙ none_first tx (commit_sent number (drop (i + 1) notes)) none)
 
@@ -53,10 +56,12 @@ pub record IsCommitAsk (deed : Deed) (tx : Tx) : Type 0 where
   pub fate : Fate
   pub asked : deed ≡ Asked centre (CommitAsk tx) fate
 
+-- it is one where the numbers are equal
 asked_when : (test : Bool) (i : ℕ) (t tx : Tx) (fate : Fate) → when test t ≡ Some tx → IsCommitAsk (Asked i (CommitAsk t) fate) tx
 asked_when true i t tx fate is = let same : t ≡ tx = cc in record { centre = i; fate = fate; asked = ap (λ t. Asked i (CommitAsk t) fate) same }
 asked_when false i t tx fate is = cc
 
+-- a deed of which a transaction was asked is a commit ask of it
 asked_of : (number : ℕ) (deed : Deed) (tx : Tx) → commit_asked number deed ≡ Some tx → IsCommitAsk deed tx
 asked_of number (Asked i (CommitAsk t) fate) tx is = asked_when (t.dot.number == number) i t tx fate is
 asked_of number _ tx is = cc
@@ -68,6 +73,7 @@ pub record IsSent (notes : List Note) (tx : Tx) : Type 0 where
   pub there : slice_get notes place ≡ Some note
   pub commit : IsCommitAsk note.deed tx
 
+-- the first commit ask of a number does
 sent_of : (number : ℕ) (notes : List Note) (tx : Tx) → commit_sent number notes ≡ Some tx → IsSent notes tx
 sent_of number [] tx is = cc
 sent_of number (note ∷ notes) tx is = by_first (sent_of number notes tx) (commit_asked number note.deed) refl is
@@ -76,6 +82,7 @@ sent_of number (note ∷ notes) tx is = by_first (sent_of number notes tx) (comm
     by_first rest None first later = let sent = rest later in record { place = suc sent.place; note = sent.note; there = sent.there; commit = sent.commit }
     by_first rest (Some t) first same = record { place = zero; note = note; there = refl; commit = asked_of number note.deed tx (first ∙ same) }
 
+-- so a copy of it is late
 late : (number : ℕ) (notes : List Note) (tx : Tx) (say : Say) → commit_sent number notes ≡ Some tx → IsLate notes (CommitAsk tx) (Unheard say)
 late number notes tx say is =
     let sent = sent_of number notes tx is in

@@ -43,29 +43,33 @@ grows_line Are p later l m is same are = record {
   armed = refl;
 }
 
--- deeds over what is there, and the line where nothing is
+-- deeds over what is there
 pub over_some : {X : Type 0} (o : Option X) (x : X) (l : Line) (Over : X → List Deed → Type 0) (deeds : List Deed) → o ≡ Some x → Over x deeds → OrTells o l Over deeds
 over_some o x l Over deeds is over = subst (λ o. OrTells o l Over deeds) (sym is) over
 
+-- the line where nothing is there
 pub over_none : {X : Type 0} (o : Option X) (l : Line) (Over : X → List Deed → Type 0) → o ≡ None → OrTells o l Over (Told l ∷ [])
 over_none o l Over is = subst (λ o. OrTells o l Over (Told l ∷ [])) (sym is) refl
 
--- deeds over the next commit, and the lines where none is left or no centre is connected
+-- deeds over the next commit
 pub next_there : (s : Client) (l : Line) (Over : Connection → Tx → List Deed → Type 0) (i : ℕ) (ask : Ask) (a : PushAsks s i ask) (deeds : List Deed) → Over a.link a.tx deeds → OverNext s l Over deeds
 next_there s l Over i ask a deeds over =
     over_some s.link a.link (line.PushUnconnected s.client) (λ link. OrTells (next_commit s link) l (Over link)) deeds a.linked
     (over_some (next_commit s a.link) a.tx l (Over a.link) deeds a.next over)
 
+-- the line where no commit is left
 pub next_idle : (s : Client) (l : Line) (Over : Connection → Tx → List Deed → Type 0) → PushIdle s → OverNext s l Over (Told l ∷ [])
 next_idle s l Over a =
     over_some s.link a.link (line.PushUnconnected s.client) (λ link. OrTells (next_commit s link) l (Over link)) (Told l ∷ []) a.linked
     (over_none (next_commit s a.link) l (Over a.link) a.next)
 
+-- the line where no centre is connected
 pub next_unlinked : (s : Client) (l : Line) (Over : Connection → Tx → List Deed → Type 0) → s.link ≡ None → OverNext s l Over (Told (line.PushUnconnected s.client) ∷ [])
 next_unlinked s l Over none = over_none s.link (line.PushUnconnected s.client) (λ link. OrTells (next_commit s link) l (Over link)) none
 
 -- ---- errands
 
+-- an ask of a centre with its purpose
 abbrev pub errand : Purpose → ℕ → Ask → Errand
 errand for centre ask = record { purpose = for; centre = centre; ask = ask }
 
@@ -89,7 +93,7 @@ next_errand for p q i ask number more a is e =
     let numbered = subst (λ n. Runs (errand (for n) i ask) p q more) is e in
     subst (λ ask. Runs (errand (for (number_in ask)) a.link.centre ask) p q more) a.asks (subst (λ i. Runs (errand (for (number_in ask)) i ask) p q more) a.centre numbered)
 
--- a push of a commit, one that finds none, and one without a link
+-- a push of a commit
 pub push_takes : (p q : Playing) (i : ℕ) (ask : Ask) (number : ℕ) (more : Bool) → commit_ask p.client ≡ Ok (Some (i, ask)) → number ≡ number_in ask → Runs (errand (purpose.Push number) i ask) p q more → Takes Push p q
 push_takes p q i ask number more asked is runs =
     let s = p.client in
@@ -97,17 +101,19 @@ push_takes p q i ask number more asked is runs =
     let r = next_errand (λ n. purpose.Push n) p q i ask number more a is runs in
     takes_by Push p q (λ deeds. refl) (runs_by (StepDeeds (progress p) Push) (errand (purpose.Push a.tx.dot.number) a.link.centre (CommitAsk a.tx)) p q more r (next_there s (line.PushNone s.client) (Pushes (progress p)) i ask a r.deeds r.asks))
 
+-- a push that finds no commit left
 pub idle_takes : (p : Playing) (later : Logged) (client : ℕ) → commit_ask p.client ≡ Ok None → client ≡ p.client.client → later ≡ noted_all p.log (told (Some (line.PushNone client))) → Takes Push p (record p { log = later })
 idle_takes p later client asked same is =
     let s = p.client in
     takes_by Push p (record p { log = later }) (λ deeds. refl) (grows_line (StepDeeds (progress p) Push) p later (line.PushNone client) (line.PushNone s.client) is (ap line.PushNone same) (next_idle s (line.PushNone s.client) (Pushes (progress p)) (push_idle s asked)))
 
+-- a push without a link
 pub unconnected_takes : (p : Playing) (later : Logged) (client : ℕ) → p.client.link ≡ None → client ≡ p.client.client → later ≡ noted_all p.log (told (Some (line.PushUnconnected client))) → Takes Push p (record p { log = later })
 unconnected_takes p later client none same is =
     let s = p.client in
     takes_by Push p (record p { log = later }) (λ deeds. refl) (grows_line (StepDeeds (progress p) Push) p later (line.PushUnconnected client) (line.PushUnconnected s.client) is (ap line.PushUnconnected same) (next_unlinked s (line.PushNone s.client) (Pushes (progress p)) none))
 
--- a refresh over the link, one without a link, and one while a transaction is open
+-- a refresh over the link
 pub refresh_takes : (p q : Playing) (i : ℕ) (ask : Ask) (more : Bool) → refresh_ask p.client ≡ Ok (i, ask) → Runs (errand purpose.Refresh i ask) p q more → Takes Refresh p q
 refresh_takes p q i ask more asked runs =
     let s = p.client in
@@ -116,11 +122,13 @@ refresh_takes p q i ask more asked runs =
     takes_by Refresh p q (λ deeds. refl) (runs_by (StepDeeds (progress p) Refresh) (errand purpose.Refresh a.link.centre (refresh_of s)) p q more r
     (over_some s.link a.link (line.RefreshUnconnected s.client) (RefreshDeeds (progress p) s.draft) r.deeds a.linked (subst (λ d. RefreshDeeds (progress p) d a.link r.deeds) (sym a.shut) r.asks)))
 
+-- a refresh without a link
 pub refresh_unlinked : (p : Playing) (later : Logged) (client : ℕ) → p.client.link ≡ None → client ≡ p.client.client → later ≡ noted_all p.log (told (Some (line.RefreshUnconnected client))) → Takes Refresh p (record p { log = later })
 refresh_unlinked p later client none same is =
     let s = p.client in
     takes_by Refresh p (record p { log = later }) (λ deeds. refl) (grows_line (StepDeeds (progress p) Refresh) p later (line.RefreshUnconnected client) (line.RefreshUnconnected s.client) is (ap line.RefreshUnconnected same) (over_none s.link (line.RefreshUnconnected s.client) (RefreshDeeds (progress p) s.draft) none))
 
+-- a refresh while a transaction is open
 pub refresh_open : (p : Playing) (later : Logged) (client : ℕ) (r : Refusal) → (r ≡ NotConnected → ⊥) → refresh_ask p.client ≡ Err r → client ≡ p.client.client → later ≡ noted_all p.log (told (Some (line.RefreshOpen client))) → Takes Refresh p (record p { log = later })
 refresh_open p later client r other asked same is =
     let s = p.client in
@@ -148,10 +156,11 @@ arm_takes step p s fault is same =
 missed : (s : Client) (i : ℕ) (c : ObjectCall) (fate : Fate) → took s i (fetch_of s c.object) fate ≡ false → told (line_of s (errand (purpose.Fetch c) i (fetch_of s c.object)) fate) ≡ after_fetch s i c fate
 missed s i c fate t = rw t refl
 
--- one that gave a state has no line, and is followed by the call
+-- one that gave a state has no line
 silent : (s : Client) (i : ℕ) (c : ObjectCall) (fate : Fate) → took s i (fetch_of s c.object) fate ≡ true → line_of s (errand (purpose.Fetch c) i (fetch_of s c.object)) fate ≡ None
 silent s i c fate t = rw t refl
 
+-- what follows it is the call
 fetched : (s : Client) (i : ℕ) (c : ObjectCall) (fate : Fate) → took s i (fetch_of s c.object) fate ≡ true → calls (after s (Asked i (fetch_of s c.object) fate)) c.call ≡ after_fetch s i c fate
 fetched s i c fate t = rw t refl
 
@@ -170,6 +179,7 @@ over_link p c link ds linked asks = over_some p.client.link link (line.Unconnect
 at_link : (p q : Playing) (c : ObjectCall) (i : ℕ) (ask : Ask) (more : Bool) (a : FetchAsks p.client c.object i ask) → Runs (errand (purpose.Fetch c) i ask) p q more → Runs (errand (purpose.Fetch c) a.link.centre (fetch_of p.client c.object)) p q more
 at_link p q c i ask more a e = subst (λ ask. Runs (errand (purpose.Fetch c) a.link.centre ask) p q more) a.asks (subst (λ i. Runs (errand (purpose.Fetch c) i ask) p q more) a.centre e)
 
+-- a fetch that gave no state, with its line
 pub fetch_missed : (p q : Playing) (c : ObjectCall) (i : ℕ) (ask : Ask) (more : Bool) → fetch_ask p.client c.object ≡ Ok (i, ask) → more ≡ false → Runs (errand (purpose.Fetch c) i ask) p q more → GrowsBy (FetchDeeds (progress p) c) p q
 fetch_missed p q c i ask more asked no_state runs =
     let s = p.client in
@@ -187,6 +197,7 @@ fetch_missed p q c i ask more asked no_state runs =
 behind_fetch : (s : Client) (armed : Option AskFault) (i : ℕ) (c : ObjectCall) (say again : Say) (ds : List Deed) → took s i (fetch_of s c.object) (fate_of armed say) ≡ true → ds ≡ Asked i (fetch_of s c.object) (fate_of armed say) ∷ (copies armed i (fetch_of s c.object) again ++ told (line_of s (errand (purpose.Fetch c) i (fetch_of s c.object)) (fate_of armed say))) → ds ≡ Asked i (fetch_of s c.object) (fate_of armed say) ∷ (copies armed i (fetch_of s c.object) again ++ [])
 behind_fetch s armed i c say again ds t whole = whole ∙ ap (λ (l : Option Line). Asked i (fetch_of s c.object) (fate_of armed say) ∷ (copies armed i (fetch_of s c.object) again ++ told l)) (silent s i c (fate_of armed say) t)
 
+-- a fetch that gave a state, with the call behind it
 pub fetch_called : (p q r : Playing) (c : ObjectCall) (i : ℕ) (ask : Ask) (more needs : Bool) → fetch_ask p.client c.object ≡ Ok (i, ask) → more ≡ true → Runs (errand (purpose.Fetch c) i ask) p q more → MakesCall c.call q r needs → GrowsBy (FetchDeeds (progress p) c) p r
 fetch_called p q r c i ask more needs asked state runs calling =
     let s = p.client in
@@ -213,6 +224,7 @@ fetch_called p q r c i ask more needs asked state runs calling =
       armed = calling.armed ∙ (run.armed ∙ sym (ap (used_by p.armed) all));
     }
 
+-- a fetch without a link
 pub fetch_unlinked : (p : Playing) (later : Logged) (c : ObjectCall) (client : ℕ) (r : Refusal) → fetch_ask p.client c.object ≡ Err r → client ≡ p.client.client → later ≡ noted_all p.log (told (Some (line.Unconnected client c.word c.object))) → GrowsBy (FetchDeeds (progress p) c) p (record p { log = later })
 fetch_unlinked p later c client r asked same is =
     grows_line (FetchDeeds (progress p) c) p later (line.Unconnected client c.word c.object) (line.Unconnected p.client.client c.word c.object) is (ap (λ n. line.Unconnected n c.word c.object) same)

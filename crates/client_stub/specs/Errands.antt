@@ -113,6 +113,7 @@ abbrev pub room_over : DoorView → Option Connection → ℕ
 room_over door None = 0
 room_over door (Some link) = 2 ^ 62 - length (door.made link.centre)
 
+-- so many for a client before a door
 abbrev pub room : Playing → ℕ
 room p = room_over p.door p.client.link
 

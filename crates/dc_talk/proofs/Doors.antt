@@ -1,5 +1,5 @@
 -- What deeds leave at a door, one after another.
-use Rattle.std.proofs.Common.{◌≡◌, ◌<◌, ℕ, ◌+◌, length, length-append, arith, inl, inr, ⊎_elim, Bool, true, false, cond, List, [], ◌∷◌, ◌++◌, Option, Some, None, refl, sym, ap, ◌∙◌, subst}
+use Rattle.std.proofs.Common.{◌≡◌, ◌<◌, ℕ, length, length-append, arith, ⊎_elim, Bool, true, false, cond, List, [], ◌∷◌, ◌++◌, Option, Some, None, refl, sym, ap, ◌∙◌, subst}
 use Rattle.std.specs.Prelude.{◌==◌}
 use Rattle.std.specs.Option.{option_map}
 use Rattle.std.specs.List.{filter_map}
@@ -20,9 +20,11 @@ use Rattle.dc_talk.specs.Doors.{DoorView, IsSameDoor, HasAsked, HasNotAsked, Has
 
 -- ---- the same door
 
+-- a door is the same as itself
 pub same_self : (a : DoorView) → IsSameDoor a a
 same_self a = record { actor = refl; centres = refl; alone = refl }
 
+-- a door that is the same as one that is the same
 pub same_then : (a b c : DoorView) → IsSameDoor a b → IsSameDoor b c → IsSameDoor a c
 same_then a b c first more = record { actor = more.actor ∙ first.actor; centres = more.centres ∙ first.centres; alone = more.alone ∙ first.alone }
 
@@ -82,6 +84,7 @@ done_lost a i ask = done_quiet a (Asked i ask AskLost) (λ j. either (i == j))
 abbrev known_more : ℕ → List Entry → ℕ → List Entry
 known_more i entries j = cond (i == j) entries []
 
+-- that is all that it knows more
 seen_more : (a b : DoorView) (i : ℕ) (entry : Entry) (asked : HasAsked a b i entry) (j : ℕ) → b.seen j ≡ a.seen j ++ known_more i (asked.between ++ entry ∷ []) j
 seen_more a b i entry asked j = by_test (i == j) refl
   where
@@ -147,10 +150,11 @@ done_longer a b i ask fate say ds got done =
 
 -- ---- doors that may have been asked
 
--- a door that was not asked
+-- a door of which nothing is asked
 pub may_none : (a : DoorView) → MayHaveAsked a a
 may_none a = record { same = same_self a; more = λ i. []; seen = λ i. sym (append-nil (a.seen i)) }
 
+-- a door after an ask that was not made
 pub may_not : (a b : DoorView) → HasNotAsked a b → MayHaveAsked a b
 may_not a b not = record { same = not.same; more = λ i. []; seen = λ i. not.seen i ∙ sym (append-nil (a.seen i)) }
 
