@@ -2,6 +2,8 @@
 // kind has none.
 ghost use Rattle.std.specs.Prelude.{◌≡◌, IfOk};
 ghost use Rattle.dc_talk.specs.declared.calls.Call.TheVariants.{Begin as BeginCall, Change as ChangeCall, Read as ReadCall, Commit as CommitCall, Abort as AbortCall};
+ghost use Rattle.std.specs.Option.{option_map};
+ghost use Rattle.dc_talk.specs.declared.line.Line.TheVariants as line;
 ghost use Rattle.script_text.specs.Deeds.{lack, missed_by, miss_of, hello_line, word_of, call_line, fetch_line, answer_end, push_end, push_line, again_line, goes_on, refresh_line};
 
 use dc_talk::{Call, Change, Fate, Line, Miss, Outcome, PushEnd, Refusal, Say, StepWord};
@@ -39,6 +41,17 @@ fn miss_of(fate: &Fate) -> Option<Miss>
     }
 }
 
+// The line of a connect whose ask has no answer that counts, where it has none.
+fn hello_missed(client: u32, centre: u8, miss: Option<Miss>) -> Option<Line>
+    ensures { result ≡ option_map (line.ConnectMissed client centre) miss }
+{
+    miss.map(|miss| Line::ConnectMissed {
+        client,
+        centre,
+        miss,
+    })
+}
+
 /// The line of a connect whose ask came to this.
 pub fn hello_line(client: u32, centre: u8, fate: &Fate) -> Option<Line>
     ensures { result ≡ hello_line client centre fate.now }
@@ -59,11 +72,7 @@ pub fn hello_line(client: u32, centre: u8, fate: &Fate) -> Option<Line>
                 lack,
             })
         }
-        _ => miss_of(fate).map(|miss| Line::ConnectMissed {
-            client,
-            centre,
-            miss,
-        }),
+        _ => hello_missed(client, centre, miss_of(fate)),
     }
 }
 
@@ -260,6 +269,13 @@ pub fn again_line(client: u32, centre: u8, number: u64, fate: &Fate) -> Option<L
     })
 }
 
+// The line of a refresh whose ask has no answer that counts, where it has none.
+fn refresh_missed(client: u32, miss: Option<Miss>) -> Option<Line>
+    ensures { result ≡ option_map (line.RefreshMissed client) miss }
+{
+    miss.map(|miss| Line::RefreshMissed { client, miss })
+}
+
 /// The line of a refresh whose ask came to this, by whether the session took the answer.
 pub fn refresh_line(client: u32, took: bool, fate: &Fate) -> Option<Line>
     ensures { result ≡ refresh_line client took fate.now }
@@ -280,6 +296,6 @@ pub fn refresh_line(client: u32, took: bool, fate: &Fate) -> Option<Line>
             client,
             lack: lack(*centre, *need, *have),
         }),
-        _ => miss_of(fate).map(|miss| Line::RefreshMissed { client, miss }),
+        _ => refresh_missed(client, miss_of(fate)),
     }
 }
