@@ -175,6 +175,19 @@ fn abort_line(client: u32, outcome: &Outcome) -> Option<Line>
     }
 }
 
+// The line of a call on an object whose fetch has no answer that counts, where it has none.
+fn fetch_missed(client: u32, on: &ObjectCall, miss: Option<Miss>) -> Option<Line>
+    ensures { result ≡ option_map (line.FetchMissed client on.now.word on.now.object) miss }
+{
+    let (word, object) = (on.word, on.object);
+    miss.map(|miss| Line::FetchMissed {
+        client,
+        word,
+        object,
+        miss,
+    })
+}
+
 /// The line of a fetch for a call, where it gave no state.
 pub fn fetch_line(client: u32, on: &ObjectCall, fate: &Fate) -> Option<Line>
     ensures { result ≡ fetch_line client on.now fate.now }
@@ -200,12 +213,7 @@ pub fn fetch_line(client: u32, on: &ObjectCall, fate: &Fate) -> Option<Line>
             word,
             object,
         }),
-        _ => miss_of(fate).map(|miss| Line::FetchMissed {
-            client,
-            word,
-            object,
-            miss,
-        }),
+        _ => fetch_missed(client, on, miss_of(fate)),
     }
 }
 
