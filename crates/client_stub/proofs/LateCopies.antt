@@ -21,7 +21,8 @@ use Rattle.script_text.specs.declared.steps.ClientStep.TheVariants.{Again}
 use Rattle.script_text.specs.Deeds.{AgainDeeds, StepDeeds, again_line, commit_asked, commit_sent, told}
 use Rattle.dc_talk.specs.Acting.{acting, noted_all}
 use Rattle.client_stub.specs.Playing.{Playing, Grows, Takes, progress}
-use Rattle.client_stub.proofs.Growth.{grows_leaves, grows_then, grows_told, leaves_unheard}
+use Rattle.dc_talk.proofs.Acting.{leaves_ask}
+use Rattle.client_stub.proofs.Growth.{grows_leaves, grows_then, grows_told}
 use Rattle.client_stub.proofs.Stepping.{grows_line, over_some, over_none}
 
 -- ---- the first commit ask of a number
@@ -95,7 +96,7 @@ pub again_takes : (p : Playing) (door : DoorView) (i number : ℕ) (tx : Tx) (sa
 again_takes p door i number tx say between later client said sent behind asked noting who lined telling =
     let deed : Deed = Asked i (CommitAsk tx) (Unheard say) in
     let q : Playing = record p { door = door; log = between } in
-    let first : Grows p q (deed ∷ []) = grows_leaves p (acting door between) (deed ∷ []) (leaves_unheard p.door door p.log between i (CommitAsk tx) say behind asked noting) refl (inr (inl (late number p.log.notes tx say sent)), tt) in
+    let first : Grows p q (deed ∷ []) = grows_leaves p (acting door between) (deed ∷ []) (leaves_ask (acting p.door p.log) (acting door between) i (CommitAsk tx) (Unheard say) say refl behind asked noting) refl (inr (inl (late number p.log.notes tx say sent)), tt) in
     let last : Grows q (record q { log = later }) (told said) = subst (λ (log : Logged). Grows q (record q { log = log }) (told said)) (sym telling) (grows_told q said) in
     record {
       deeds = deed ∷ told said;

@@ -5,3 +5,4 @@ pub mod SessionAsks
 pub mod Stepping
 pub mod LateCopies
 pub mod Flushes
+pub mod Operating

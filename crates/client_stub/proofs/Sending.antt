@@ -1,5 +1,6 @@
 -- An ask under the fault that is armed, its second copy and its line, as growth.
 use Rattle.std.proofs.Common.{◌≡◌, ◌≢◌, ◌<◌, ◌^◌, ℕ, Bool, inl, inr, List, [], ◌∷◌, ◌++◌, length, Option, Some, None, refl, sym, ap, ◌∙◌, subst}
+use Rattle.std.proofs.lemmas.Bool.{eq-eqb}
 use Rattle.std.proofs.lemmas.List.Elements.{All-nil, All-cons}
 use Rattle.dc_talk.specs.declared.ask.Ask.{Ask}
 use Rattle.dc_talk.specs.declared.say.Say.{Say}
@@ -9,7 +10,7 @@ use Rattle.dc_talk.specs.declared.log.Fate.TheVariants.{AskLost, Heard, Unheard}
 use Rattle.dc_talk.specs.declared.log.Deed.{Deed}
 use Rattle.dc_talk.specs.declared.log.Deed.TheVariants.{Asked}
 use Rattle.dc_talk.specs.declared.line.Line.{Line}
-use Rattle.dc_talk.specs.Logs.{Logged, marked, noted}
+use Rattle.dc_talk.specs.Logs.{Logged, marked, noted, entry_for, entries_made}
 use Rattle.dc_talk.specs.Doors.{DoorView, IsBehind, HasDone}
 use Rattle.dc_talk.specs.Rule.{after, Gives}
 use Rattle.script_text.specs.declared.steps.AskFault.{AskFault}
@@ -18,9 +19,13 @@ use Rattle.script_text.specs.Deeds.{copies, fate_of, told, took}
 use Rattle.client_stub.specs.declared.purpose.Errand.{Errand}
 use Rattle.client_stub.specs.Purposes.{line_after, goes_after}
 use Rattle.dc_talk.specs.Acting.{Acting, Leaves, IsAskBehind, IsCutShort, acting, noted_all}
+use Rattle.dc_talk.proofs.Doors.{made_one}
+use Rattle.script_text.specs.Orders.{Orders}
+use Rattle.dc_worker.specs.Work.{AddsSuch}
 use Rattle.client_stub.specs.Playing.{Playing, StubView, Grows, beside}
 use Rattle.client_stub.specs.Errands.{AsksAgain, HasAskedFor, Runs, copied, goes_of, line_of, second_of}
-use Rattle.client_stub.proofs.Growth.{grows_leaves, grows_then, grows_told, leaves_none, short_then}
+use Rattle.dc_talk.proofs.Acting.{leaves_none}
+use Rattle.client_stub.proofs.Growth.{grows_leaves, grows_then, grows_told, cut_grown}
 
 -- what became of an ask under the fault that is armed, and whether the session took it
 pub record HasReached (e : Errand) (old : Playing) (new : StubView) (later : DoorView) (it : Fate × Bool) : Type 0 where
@@ -50,12 +55,24 @@ asked_for e p stub door it later client told gives behind reached same who line 
 }
 
 -- an early end behind it
-pub short_asked_for : (e : Errand) (p q : Playing) (it : Option Line × Bool) (b : Acting) → HasAskedFor e p q it → IsCutShort (acting q.door q.log) b → IsCutShort (acting p.door p.log) b
-short_asked_for e p q it b asked later = short_then p q b (Asked e.centre e.ask asked.fate ∷ []) asked.grows later
+pub cut_asked_for : (e : Errand) (p q : Playing) (it : Option Line × Bool) (b : Acting) → HasAskedFor e p q it → IsCutShort (acting q.door q.log) b → IsCutShort (acting p.door p.log) b
+cut_asked_for e p q it b asked later = cut_grown p q b (Asked e.centre e.ask asked.fate ∷ []) asked.grows later
 
 -- no second copy
 pub again_none : (i : ℕ) (copy : Option Ask) (a : Acting) → copy ≡ None → AsksAgain i copy a a
 again_none i copy a none = subst (λ copy. AsksAgain i copy a a) (sym none) (record { say = Misfit; leaves = leaves_none a; short = λ few. few })
+
+-- a second copy that was asked
+pub again_one : (i : ℕ) (copy : Option Ask) (ask : Ask) (a b : Acting) → copy ≡ Some ask → AddsSuch (Orders i ask) a b → AsksAgain i copy a b
+again_one i copy ask a b is asked =
+    let say : Say = asked.such.0 in
+    let actor = a.door.actor in
+    let made : entries_made actor i asked.deeds ≡ entry_for actor (ask, say) ∷ [] = ap (entries_made actor i) asked.such.1 ∙ made_one actor i i ask (Unheard say) say (eq-eqb i i refl) refl in
+    subst (λ copy. AsksAgain i copy a b) (sym is) (record {
+      say = say;
+      leaves = subst (λ deeds. Leaves a b deeds) asked.such.1 asked.adds.leaves;
+      short = λ few. asked.adds.short i (λ none. let empty : entry_for actor (ask, say) ∷ [] ≡ [] = sym made ∙ none in cc);
+    })
 
 -- a second copy, right behind the ask that it is of
 second_grows : (armed : Option AskFault) (q : Playing) (a : Acting) (i : ℕ) (ask : Ask) (say again : Say) (before : Logged) → q.log ≡ noted before (Asked i ask (fate_of armed say)) → Leaves (acting q.door q.log) a (copied i (second_of armed ask) again) → Grows q (record q { door = a.door; log = a.log }) (copies armed i ask again)

@@ -85,12 +85,6 @@ pub record HasAskedFor (errand : Errand) (old new : Playing) (it : Option Line �
   pub goes : it.1 ≡ goes_of old.client errand fate
   pub short : fate ≢ AskLost → length (new.door.made errand.centre) < 2 ^ 62
 
--- an ask of centre i that no session heard, with no line
-pub record AsksUnheard (i : ℕ) (ask : Ask) (old new : Acting) : Type 0 where
-  pub say : Say
-  pub leaves : Leaves old new (Asked i ask (Unheard say) ∷ [])
-  pub short : length (new.door.made i) < 2 ^ 62
-
 -- a second copy of an ask of centre i, where there is one
 pub record AsksAgain (i : ℕ) (copy : Option Ask) (old new : Acting) : Type 0 where
   pub say : Say

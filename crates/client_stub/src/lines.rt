@@ -2,8 +2,7 @@
 // kind has none.
 ghost use Rattle.std.specs.Prelude.{◌≡◌, IfOk};
 ghost use Rattle.dc_talk.specs.declared.calls.Call.TheVariants.{Begin as BeginCall, Change as ChangeCall, Read as ReadCall, Commit as CommitCall, Abort as AbortCall};
-ghost use Rattle.std.specs.Option.{option_map};
-ghost use Rattle.dc_talk.specs.declared.line.Line.TheVariants as line;
+ghost use Rattle.dc_talk.specs.declared.log.Fate.TheVariants.{Heard};
 ghost use Rattle.script_text.specs.Deeds.{lack, missed_by, miss_of, hello_line, word_of, call_line, fetch_line, answer_end, push_end, push_line, again_line, goes_on, refresh_line};
 
 use dc_talk::{Call, Change, Fate, Line, Miss, Outcome, PushEnd, Refusal, Say, StepWord};
@@ -41,38 +40,40 @@ fn miss_of(fate: &Fate) -> Option<Miss>
     }
 }
 
-// The line of a connect whose ask has no answer that counts, where it has none.
-fn hello_missed(client: u32, centre: u8, miss: Option<Miss>) -> Option<Line>
-    ensures { result ≡ option_map (line.ConnectMissed client centre) miss }
-{
-    miss.map(|miss| Line::ConnectMissed {
-        client,
-        centre,
-        miss,
-    })
-}
-
 /// The line of a connect whose ask came to this.
 pub fn hello_line(client: u32, centre: u8, fate: &Fate) -> Option<Line>
     ensures { result ≡ hello_line client centre fate.now }
 {
     match fate {
-        Fate::Heard(Say::Welcome { .. }) => Some(Line::At { client, centre }),
-        Fate::Heard(
-            Say::Lacks {
-                centre: of,
-                need,
-                have,
-            },
-        ) => {
-            let lack = lack(*of, *need, *have);
-            Some(Line::Refused {
-                client,
-                centre,
-                lack,
-            })
-        }
-        _ => hello_missed(client, centre, miss_of(fate)),
+        Fate::Heard(say) => heard_hello(client, centre, say),
+        _ => miss_of(fate).map(|miss| Line::ConnectMissed {
+            client,
+            centre,
+            miss,
+        }),
+    }
+}
+
+// The line of a connect whose answer was heard.
+fn heard_hello(client: u32, centre: u8, say: &Say) -> Option<Line>
+    ensures { result ≡ hello_line client centre (Heard say.now) }
+{
+    match say {
+        Say::Welcome { .. } => Some(Line::At { client, centre }),
+        Say::Lacks {
+            centre: of,
+            need,
+            have,
+        } => Some(Line::Refused {
+            client,
+            centre,
+            lack: lack(*of, *need, *have),
+        }),
+        _ => missed_by(say).map(|miss| Line::ConnectMissed {
+            client,
+            centre,
+            miss,
+        }),
     }
 }
 
@@ -175,32 +176,35 @@ fn abort_line(client: u32, outcome: &Outcome) -> Option<Line>
     }
 }
 
-// The line of a call on an object whose fetch has no answer that counts, where it has none.
-fn fetch_missed(client: u32, on: &ObjectCall, miss: Option<Miss>) -> Option<Line>
-    ensures { result ≡ option_map (line.FetchMissed client on.now.word on.now.object) miss }
-{
-    let (word, object) = (on.word, on.object);
-    miss.map(|miss| Line::FetchMissed {
-        client,
-        word,
-        object,
-        miss,
-    })
-}
-
 /// The line of a fetch for a call, where it gave no state.
 pub fn fetch_line(client: u32, on: &ObjectCall, fate: &Fate) -> Option<Line>
     ensures { result ≡ fetch_line client on.now fate.now }
 {
     let (word, object) = (on.word, on.object);
     match fate {
-        Fate::Heard(Say::Lacks { centre, need, have }) => Some(Line::FetchLacks {
+        Fate::Heard(say) => heard_fetch(client, on, say),
+        _ => miss_of(fate).map(|miss| Line::FetchMissed {
+            client,
+            word,
+            object,
+            miss,
+        }),
+    }
+}
+
+// The line of a fetch whose answer was heard.
+fn heard_fetch(client: u32, on: &ObjectCall, say: &Say) -> Option<Line>
+    ensures { result ≡ fetch_line client on.now (Heard say.now) }
+{
+    let (word, object) = (on.word, on.object);
+    match say {
+        Say::Lacks { centre, need, have } => Some(Line::FetchLacks {
             client,
             word,
             object,
             lack: lack(*centre, *need, *have),
         }),
-        Fate::Heard(Say::Pruned { centre, base, at }) => Some(Line::FetchPruned {
+        Say::Pruned { centre, base, at } => Some(Line::FetchPruned {
             client,
             word,
             object,
@@ -208,12 +212,17 @@ pub fn fetch_line(client: u32, on: &ObjectCall, fate: &Fate) -> Option<Line>
             base: *base,
             at: *at,
         }),
-        Fate::Heard(Say::Object { .. }) => Some(Line::FetchIgnored {
+        Say::Object { .. } => Some(Line::FetchIgnored {
             client,
             word,
             object,
         }),
-        _ => fetch_missed(client, on, miss_of(fate)),
+        _ => missed_by(say).map(|miss| Line::FetchMissed {
+            client,
+            word,
+            object,
+            miss,
+        }),
     }
 }
 
@@ -277,19 +286,22 @@ pub fn again_line(client: u32, centre: u8, number: u64, fate: &Fate) -> Option<L
     })
 }
 
-// The line of a refresh whose ask has no answer that counts, where it has none.
-fn refresh_missed(client: u32, miss: Option<Miss>) -> Option<Line>
-    ensures { result ≡ option_map (line.RefreshMissed client) miss }
-{
-    miss.map(|miss| Line::RefreshMissed { client, miss })
-}
-
 /// The line of a refresh whose ask came to this, by whether the session took the answer.
 pub fn refresh_line(client: u32, took: bool, fate: &Fate) -> Option<Line>
     ensures { result ≡ refresh_line client took fate.now }
 {
     match fate {
-        Fate::Heard(Say::Snap { vector, mine, .. }) => {
+        Fate::Heard(say) => heard_refresh(client, took, say),
+        _ => miss_of(fate).map(|miss| Line::RefreshMissed { client, miss }),
+    }
+}
+
+// The line of a refresh whose answer was heard.
+fn heard_refresh(client: u32, took: bool, say: &Say) -> Option<Line>
+    ensures { result ≡ refresh_line client took (Heard say.now) }
+{
+    match say {
+        Say::Snap { vector, mine, .. } => {
             if took {
                 Some(Line::Sees {
                     client,
@@ -300,10 +312,10 @@ pub fn refresh_line(client: u32, took: bool, fate: &Fate) -> Option<Line>
                 Some(Line::RefreshIgnored { client })
             }
         }
-        Fate::Heard(Say::Lacks { centre, need, have }) => Some(Line::RefreshLacks {
+        Say::Lacks { centre, need, have } => Some(Line::RefreshLacks {
             client,
             lack: lack(*centre, *need, *have),
         }),
-        _ => refresh_missed(client, miss_of(fate)),
+        _ => missed_by(say).map(|miss| Line::RefreshMissed { client, miss }),
     }
 }

@@ -10,11 +10,12 @@ ghost use Rattle.dc_talk.specs.Acting.{IsCutShort, acting};
 ghost use Rattle.client_stub.specs.Playing.{IsLinkBehind, beside};
 ghost use Rattle.client_stub.specs.Errands.{AsksAgain, HasAskedFor, Runs, second_of};
 
-use crate::notes::{ask_unheard, tell};
+use crate::notes::tell;
 use crate::purpose::Errand;
 use crate::stub::Stub;
 use client_session::Heard;
 use dc_talk::{Ask, Deed, Door, Fate, Line, Log, Say};
+use dc_worker::ask_only;
 use ids_core::NoMemory;
 use script_text::AskFault;
 
@@ -141,7 +142,7 @@ fn ask_again<D: Door>(
     ensures short { OnErr result (IsCutShort (acting (D.shown door.old) log.old) (acting (D.shown door.new) log.new)) }
 {
     match copy {
-        Some(ask) => ask_unheard(door, centre, ask, log),
+        Some(ask) => ask_only(door, centre, ask, log),
         None => Ok(()),
     }
 }

@@ -9,10 +9,12 @@ use Rattle.dc_talk.specs.declared.log.Fate.{Fate}
 use Rattle.dc_talk.specs.declared.log.Deed.{Deed}
 use Rattle.dc_talk.specs.declared.log.Deed.TheVariants.{Did, Asked, Told}
 use Rattle.dc_talk.specs.declared.log.Note.{Note}
+use Rattle.dc_talk.specs.declared.line.Line.{Line}
+use Rattle.dc_talk.specs.Entries.{Entry}
 use Rattle.dc_talk.specs.Logs.{Logged, marked, noted, answered, entry_for}
 use Rattle.dc_talk.specs.Doors.{DoorView, IsBehind, IsSameDoor, HasAsked, HasNotAsked, HasDone, MayHaveAsked}
-use Rattle.dc_talk.specs.Acting.{Acting, noted_all, IsAskBehind, Leaves, IsCutShort}
-use Rattle.dc_talk.proofs.Doors.{done_none, done_ask, done_then, may_not, may_done, may_then}
+use Rattle.dc_talk.specs.Acting.{Acting, acting, noted_all, IsAskBehind, Leaves, IsCutShort}
+use Rattle.dc_talk.proofs.Doors.{done_none, done_quiet, done_ask, done_then, may_none, may_not, may_asked, may_done, may_then}
 
 -- ---- logs
 
@@ -36,7 +38,7 @@ behind_before a b (Asked i ask fate) same is = (is.0, subst (λ n. i ≤ n) same
 behind_before a b (Did call outcome) same is = tt
 behind_before a b (Told line) same is = tt
 
-all_before : (a b : DoorView) (ds : List Deed) → IsSameDoor a b → All (IsAskBehind b) ds → All (IsAskBehind a) ds
+pub all_before : (a b : DoorView) (ds : List Deed) → IsSameDoor a b → All (IsAskBehind b) ds → All (IsAskBehind a) ds
 all_before a b [] same all = All-nil (IsAskBehind a)
 all_before a b (d ∷ ds) same all = All-cons (IsAskBehind a) d ds (behind_before a b d same (All-head (IsAskBehind b) d ds all)) (all_before a b ds same (All-tail (IsAskBehind b) d ds all))
 
@@ -52,6 +54,14 @@ leaves_ask a b i ask fate say got behind asked log = record {
   log = log;
   door = done_ask a.door b.door i ask fate say got asked;
   behind = All-cons (IsAskBehind a.door) (Asked i ask fate) [] behind (All-nil (IsAskBehind a.door));
+}
+
+-- a line that is told
+pub leaves_line : (door : DoorView) (log later : Logged) (line : Line) → later ≡ noted log (Told line) → Leaves (acting door log) (acting door later) (Told line ∷ [])
+leaves_line door log later line is = record {
+  log = is;
+  door = done_quiet door (Told line) (λ i. refl);
+  behind = All-cons (IsAskBehind door) (Told line) [] tt (All-nil (IsAskBehind door));
 }
 
 -- deeds after deeds
@@ -71,6 +81,14 @@ cut_quiet a b log door = record { notes = []; log = log ∙ ap (λ notes. record
 -- nothing was noted, and nothing asked
 pub cut_unasked : (a b : Acting) → b.log ≡ a.log → HasNotAsked a.door b.door → IsCutShort a b
 cut_unasked a b log not = cut_quiet a b log (may_not a.door b.door not)
+
+-- nothing was noted, beside a door that nobody asked
+pub cut_none : (door : DoorView) (log later : Logged) → later ≡ log → IsCutShort (acting door log) (acting door later)
+cut_none door log later is = cut_quiet (acting door log) (acting door later) is (may_none door)
+
+-- one ask was answered, and not noted
+pub cut_asked : (a b : Acting) (i : ℕ) (entry : Entry) → b.log ≡ a.log → HasAsked a.door b.door i entry → IsCutShort a b
+cut_asked a b i entry log asked = cut_quiet a b log (may_asked a.door b.door i entry asked)
 
 -- an early end behind deeds
 pub cut_after : (a b c : Acting) (ds : List Deed) → Leaves a b ds → IsCutShort b c → IsCutShort a c

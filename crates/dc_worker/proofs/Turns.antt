@@ -1,12 +1,11 @@
 -- What is done over routes in turn.
 use Rattle.std.proofs.Common.{◌≡◌, ◌≢◌, ℕ, suc, ◌+◌, ◌==◌, Bool, true, false, not, cond, List, [], ◌∷◌, ◌++◌, map, filter, refl, sym, ap, ◌∙◌, subst, arith}
 use Rattle.std.specs.Prelude.{flat_map}
-use Rattle.std.specs.List.{range_with_len}
 use Rattle.std.proofs.lemmas.Bool.{eq-eqb, ne_eqb}
-use Rattle.std.proofs.lemmas.List.{append-nil, append_assoc, map-append}
+use Rattle.std.proofs.lemmas.List.{append-nil, append_assoc, map-append, map-id}
 use Rattle.std.proofs.lemmas.List.Elements.{filter-append}
+use Rattle.std.proofs.lemmas.List.FromFn.{map-range_with_len_more}
 use Rattle.std.proofs.lemmas.Grind.{flat_map-append}
-use Rattle.list_core.proofs.Ranges.{range_more}
 use Rattle.vv_core.specs.Vectors.{centres}
 use Rattle.dc_talk.specs.declared.log.Deed.{Deed}
 use Rattle.dc_talk.specs.Acting.{Acting}
@@ -44,10 +43,16 @@ turns_none Do a = record { deeds = []; such = no_turn; adds = adds_none a; carri
 
 -- ---- the routes from a centre
 
+-- one centre more is the last
+centres_more : (k : ℕ) → centres (suc k) ≡ centres k ++ (1 + k) ∷ []
+centres_more k =
+    let next : suc k ≡ k + 1 = omega arith in
+    ap centres next ∙ (sym (map-id (centres (k + 1))) ∙ (map-range_with_len_more (λ n. n) 1 k (1 + k) refl ∙ ap (λ all. all ++ (1 + k) ∷ []) (map-id (centres k))))
+
 -- with one centre more there is the route to it
 routes_to_more : (k from : ℕ) → routes_from (suc k) from ≡ routes_from k from ++ map (route from) (cond (not (from == 1 + k)) ((1 + k) ∷ []) [])
 routes_to_more k from =
-    ap (λ all. map (route from) (filter (λ to. not (from == to)) all)) (range_more 1 k)
+    ap (λ all. map (route from) (filter (λ to. not (from == to)) all)) (centres_more k)
     ∙ (ap (map (route from)) (filter-append (λ to. not (from == to)) (centres k) ((1 + k) ∷ []))
     ∙ map-append (route from) (filter (λ to. not (from == to)) (centres k)) (cond (not (from == 1 + k)) ((1 + k) ∷ []) []))
 
@@ -76,7 +81,7 @@ pub over_next : (round : Round) (k from to : ℕ) (a b c : Acting) → to ≡ k 
 over_next round k from to a b c next other before does =
     subst (λ all. CarriesSuch (InTurn (Does round) all) a c) (sym (routes_to_other k from to next other))
     (carries_such_then (InTurn (Does round) (routes_from k from)) (Does round (route from to)) (InTurn (Does round) (routes_from k from ++ route from to ∷ [])) a b c
-        (λ ds es first later. turns_then (Does round) (routes_from k from) (route from to ∷ []) ds es first (turns_one (Does round) (route from to) es later)) before does)
+    (λ ds es first later. turns_then (Does round) (routes_from k from) (route from to ∷ []) ds es first (turns_one (Does round) (route from to) es later)) before does)
 
 -- a round over the routes to the first centres is one over those to the first centres and to itself
 pub over_self : (round : Round) (k from to : ℕ) (a b : Acting) → to ≡ k + 1 → from ≡ to → CarriesSuch (InTurn (Does round) (routes_from k from)) a b → CarriesSuch (InTurn (Does round) (routes_from to from)) a b
@@ -90,7 +95,7 @@ routes_of_more n k from next =
     let this : from ≡ suc k = omega (arith, next) in
     let same : 1 + k ≡ from = omega (arith, next) in
     ap (routes_of n) this
-    ∙ (ap (flat_map (routes_from n)) (range_more 1 k)
+    ∙ (ap (flat_map (routes_from n)) (centres_more k)
     ∙ (flat_map-append (routes_from n) (centres k) ((1 + k) ∷ [])
     ∙ (ap (λ more. routes_of n k ++ more) (append-nil (routes_from n (1 + k)))
     ∙ ap (λ j. routes_of n k ++ routes_from n j) same)))
@@ -100,4 +105,4 @@ pub over_more : (round : Round) (n k from : ℕ) (a b c : Acting) → from ≡ k
 over_more round n k from a b c next before does =
     subst (λ all. CarriesSuch (InTurn (Does round) all) a c) (sym (routes_of_more n k from next))
     (carries_such_then (InTurn (Does round) (routes_of n k)) (InTurn (Does round) (routes_from n from)) (InTurn (Does round) (routes_of n k ++ routes_from n from)) a b c
-        (λ ds es first later. turns_then (Does round) (routes_of n k) (routes_from n from) ds es first later) before does)
+    (λ ds es first later. turns_then (Does round) (routes_of n k) (routes_from n from) ds es first later) before does)

@@ -13,7 +13,8 @@ use Rattle.dc_talk.specs.Doors.{IsBehind, HasAsked}
 use Rattle.dc_talk.specs.Acting.{Acting, IsCutShort}
 use Rattle.dc_talk.proofs.Doors.{made_other, made_then}
 use Rattle.dc_talk.proofs.Acting.{behind_later, leaves_none, leaves_ask, leaves_then, cut_after, cut_behind}
-use Rattle.dc_worker.specs.Work.{Adds}
+use Rattle.script_text.specs.Orders.{Orders}
+use Rattle.dc_worker.specs.Work.{Adds, AddsSuch}
 
 -- no deeds
 pub adds_none : (a : Acting) → Adds a a []
@@ -29,6 +30,10 @@ adds_ask a b i ask say behind asked log = record {
     short : (j : ℕ) → entries_made a.door.actor j (Asked i ask (Unheard say) ∷ []) ≢ [] → (test : Bool) → (i == j) ≡ test → length (b.door.made j) < 2 ^ 62
     short j some true here = subst (λ k. length (b.door.made k) < 2 ^ 62) (eqb-true i j here) asked.short.0
     short j some false other = absurd (some (made_other a.door.actor i j ask (Unheard say) other))
+
+-- the same, of an ask whose answer is for nobody
+pub orders : (a b : Acting) (i : ℕ) (ask : Ask) (say : Say) → IsBehind a.door i → HasAsked a.door b.door i (entry_for a.door.actor (ask, say)) → b.log ≡ noted a.log (Asked i ask (Unheard say)) → AddsSuch (Orders i ask) a b
+orders a b i ask say behind asked log = record { deeds = Asked i ask (Unheard say) ∷ []; such = (say, refl); adds = adds_ask a b i ask say behind asked log }
 
 -- deeds after deeds
 pub adds_then : (a b c : Acting) (ds es : List Deed) → Adds a b ds → Adds b c es → Adds a c (ds ++ es)

@@ -12,7 +12,7 @@ mod settling;
 mod ships;
 mod tells;
 
-pub use asks::ask_unheard;
+pub use asks::{ask_only, ask_unheard};
 pub use deliveries::{deliver, deliver_all};
 pub use ends::{is_there, ship_line};
 pub use laws::law_carried;

@@ -9,6 +9,8 @@ mod client_pending_tests;
 #[cfg(test)]
 mod client_session_tests;
 #[cfg(test)]
+mod client_stub_tests;
+#[cfg(test)]
 mod dc_centre_peers;
 #[cfg(test)]
 mod dc_centre_tests;
@@ -17,6 +19,10 @@ mod dc_host_tests;
 #[cfg(test)]
 mod dc_talk_tests;
 #[cfg(test)]
+mod dc_worker_tests;
+#[cfg(test)]
 mod hist_lock_tests;
+#[cfg(test)]
+mod printed;
 #[cfg(test)]
 mod told;

@@ -17,10 +17,10 @@ returns-in-Items-clause-ships g c =
     let e = acting (g.D.Door.shown c.deliver_all.new.door) c.deliver_all.new.log in
     let r = route c.args.from c.args.to in
     ok_turn c.deliver_all.result
-        (λ end. AddsSuch (λ deeds. Delivers c.args.to c.in-Items.items (Some (Absent c.args.seq)) deeds end) b e)
-        (λ end. CarriesSuch (λ deeds. Sends r (Some (Absent c.args.seq)) (Send (c.args.seq - 1) 1) deeds end) a e)
-        (λ end delivered. sends_items a b e r (Some (Absent c.args.seq)) (c.args.seq - 1) 1 c.in_ok-say.say c.in-Items.items end c.in_ok-say.ensures.asks c.in-Items.ensures delivered)
-        c.deliver_all.ensures.delivers
+    (λ end. AddsSuch (λ deeds. Delivers c.args.to c.in-Items.items (Some (Absent c.args.seq)) deeds end) b e)
+    (λ end. CarriesSuch (λ deeds. Sends r (Some (Absent c.args.seq)) (Send (c.args.seq - 1) 1) deeds end) a e)
+    (λ end delivered. sends_items a b e r (Some (Absent c.args.seq)) (c.args.seq - 1) 1 c.in_ok-say.say c.in-Items.items end c.in_ok-say.ensures.asks c.in-Items.ensures delivered)
+    c.deliver_all.ensures.delivers
 
 pub returns-in-Items-clause-short : goal.returns-in-Items-clause-short
 returns-in-Items-clause-short g c =

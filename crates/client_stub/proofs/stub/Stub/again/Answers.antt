@@ -1,14 +1,15 @@
 use Rattle.std.proofs.Common.{◌≡◌, refl, ap, ◌∙◌}
 use Rattle.client_stub.specs.Playing.{StubView, beside}
-use Rattle.client_stub.proofs.Growth.{on_err, short_none}
+use Rattle.dc_talk.proofs.Acting.{cut_none}
+use Rattle.client_stub.proofs.Growth.{on_err}
 use Rattle.client_stub.proofs.LateCopies.{again_none}
 use Rattle.client_stub.proofs.stub.Stub.again.Goals as goal
 
 pub returns-in_err-tx-clause-short : goal.returns-in_err-tx-clause-short
-returns-in_err-tx-clause-short g c = on_err _ (short_none _ _ _ refl)
+returns-in_err-tx-clause-short g c = on_err _ (cut_none _ _ _ refl)
 
 pub returns-in_err-tell-in-None-clause-short : goal.returns-in_err-tell-in-None-clause-short
-returns-in_err-tell-in-None-clause-short g c = on_err _ (short_none _ _ _ c.in_err-tell-in-None.ensures.err)
+returns-in_err-tell-in-None-clause-short g c = on_err _ (cut_none _ _ _ c.in_err-tell-in-None.ensures.err)
 
 pub returns-in_ok-tell-in-None-clause-takes : goal.returns-in_ok-tell-in-None-clause-takes
 returns-in_ok-tell-in-None-clause-takes g c =

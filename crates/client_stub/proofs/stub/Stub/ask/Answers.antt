@@ -1,12 +1,16 @@
 use Rattle.std.proofs.Common.{◌≡◌, ap, ◌∙◌}
+use Rattle.dc_talk.specs.Acting.{acting}
 use Rattle.dc_talk.proofs.Doors.{may_done}
+use Rattle.dc_talk.proofs.Acting.{cut_quiet}
 use Rattle.client_stub.specs.Playing.{StubView, beside}
-use Rattle.client_stub.proofs.Growth.{on_err, short_same}
+use Rattle.client_stub.proofs.Growth.{on_err}
 use Rattle.client_stub.proofs.Sending.{asked_for}
 use Rattle.client_stub.proofs.stub.Stub.ask.Goals as goal
 
 pub returns-in_err-push-clause-short : goal.returns-in_err-push-clause-short
-returns-in_err-push-clause-short g c = on_err _ (short_same _ _ _ _ (may_done _ _ _ c.in_ok-fate.ensures.door) c.in_err-push.ensures.err)
+returns-in_err-push-clause-short g c =
+    let a = acting (g.D.Door.shown c.args.door.now) c.args.log.now in
+    on_err _ (cut_quiet a (acting (g.D.Door.shown c.reach.new.door) c.push.new.self) c.in_err-push.ensures.err (may_done _ _ _ c.in_ok-fate.ensures.door))
 
 pub returns-clause-asked : goal.returns-clause-asked
 returns-clause-asked g c =

@@ -2,27 +2,28 @@ use Rattle.std.proofs.Common.{◌≡◌, refl, ap, ◌∙◌, subst}
 use Rattle.dc_talk.specs.Calls.{Ends}
 use Rattle.script_text.specs.Deeds.{call_line}
 use Rattle.client_stub.specs.Playing.{StubView, beside}
-use Rattle.client_stub.proofs.Growth.{on_err, short_none, short_noted}
+use Rattle.dc_talk.proofs.Acting.{cut_none}
+use Rattle.client_stub.proofs.Growth.{on_err, cut_noted}
 use Rattle.client_stub.proofs.Calling.{link_ended, makes_call}
 use Rattle.client_stub.proofs.stub.Stub.call.Goals as goal
 
 pub returns-in_err-outcome-clause-short : goal.returns-in_err-outcome-clause-short
-returns-in_err-outcome-clause-short c = λ door. on_err _ (short_none _ _ _ refl)
+returns-in_err-outcome-clause-short c = λ door. on_err _ (cut_none _ _ _ refl)
 
 pub returns-in_err-line-clause-short : goal.returns-in_err-line-clause-short
-returns-in_err-line-clause-short c = λ door. on_err _ (short_none _ _ _ refl)
+returns-in_err-line-clause-short c = λ door. on_err _ (cut_none _ _ _ refl)
 
 pub returns-in_err-push-clause-linked : goal.returns-in_err-push-clause-linked
 returns-in_err-push-clause-linked c = link_ended _ _ _ _ c.in_ok-outcome.ensures.ends ∙ ap (λ (s : StubView). s.client.link) c.self.view_is
 
 pub returns-in_err-push-clause-short : goal.returns-in_err-push-clause-short
-returns-in_err-push-clause-short c = λ door. on_err _ (short_none _ _ _ c.in_err-push.ensures.err)
+returns-in_err-push-clause-short c = λ door. on_err _ (cut_none _ _ _ c.in_err-push.ensures.err)
 
 pub returns-in_err-tell-clause-linked : goal.returns-in_err-tell-clause-linked
 returns-in_err-tell-clause-linked c = link_ended _ _ _ _ c.in_ok-outcome.ensures.ends ∙ ap (λ (s : StubView). s.client.link) c.self.view_is
 
 pub returns-in_err-tell-clause-short : goal.returns-in_err-tell-clause-short
-returns-in_err-tell-clause-short c = λ door. on_err _ (short_noted _ _ _ _ _ c.in_ok-push.ensures.ok c.in_err-tell.ensures.err)
+returns-in_err-tell-clause-short c = λ door. on_err _ (cut_noted _ _ _ _ _ c.in_ok-push.ensures.ok c.in_err-tell.ensures.err)
 
 pub returns-clause-makes : goal.returns-clause-makes
 returns-clause-makes c = λ door.

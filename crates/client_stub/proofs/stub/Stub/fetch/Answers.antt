@@ -1,17 +1,18 @@
 use Rattle.std.proofs.Common.{◌≡◌, ap, sym, ◌∙◌, Ok, Err}
 use Rattle.client_session.specs.SessionAnswers.{fetch_ask}
 use Rattle.client_stub.specs.Playing.{StubView, beside}
-use Rattle.client_stub.proofs.Growth.{on_err, short_none, short_then}
+use Rattle.dc_talk.proofs.Acting.{cut_none}
+use Rattle.client_stub.proofs.Growth.{on_err, cut_grown}
 use Rattle.client_stub.proofs.Stepping.{fetch_called, fetch_missed, fetch_unlinked}
 use Rattle.client_stub.proofs.stub.Stub.fetch.Goals as goal
 
 pub returns-in_err-call-in-Ok-clause-short : goal.returns-in_err-call-in-Ok-clause-short
 returns-in_err-call-in-Ok-clause-short g c =
     let door = g.D.Door.shown c.send.new.door in
-    on_err _ (short_then (beside c.args.self.now (g.D.Door.shown c.args.door.now) c.args.log.now) (beside c.send.new.self door c.send.new.log) _ _ c.in_ok-send-in-Ok.ensures.runs.grows (c.in_err-call-in-Ok.ensures.short door))
+    on_err _ (cut_grown (beside c.args.self.now (g.D.Door.shown c.args.door.now) c.args.log.now) (beside c.send.new.self door c.send.new.log) _ _ c.in_ok-send-in-Ok.ensures.runs.grows (c.in_err-call-in-Ok.ensures.short door))
 
 pub returns-in_err-tell-in-Err-clause-short : goal.returns-in_err-tell-in-Err-clause-short
-returns-in_err-tell-in-Err-clause-short g c = on_err _ (short_none _ _ _ c.in_err-tell-in-Err.ensures.err)
+returns-in_err-tell-in-Err-clause-short g c = on_err _ (cut_none _ _ _ c.in_err-tell-in-Err.ensures.err)
 
 pub returns-in_ok-call-in-Ok-clause-grows : goal.returns-in_ok-call-in-Ok-clause-grows
 returns-in_ok-call-in-Ok-clause-grows g c =

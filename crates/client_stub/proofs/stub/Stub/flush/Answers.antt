@@ -2,7 +2,7 @@ use Rattle.std.proofs.Common.{refl, ◌∙◌, subst}
 use Rattle.dc_talk.specs.Acting.{acting}
 use Rattle.client_stub.specs.Playing.{beside}
 use Rattle.client_stub.specs.Errands.{FlushesOn}
-use Rattle.client_stub.proofs.Growth.{on_err, short_then}
+use Rattle.client_stub.proofs.Growth.{on_err, cut_grown}
 use Rattle.client_stub.proofs.Flushes.{flush_begins, flush_last, flush_more}
 use Rattle.client_stub.proofs.stub.Stub.flush.Goals as goal
 
@@ -25,7 +25,7 @@ returns-in_err-push_on-clause-short g c =
     let p = beside c.args.self.now (g.D.Door.shown c.args.door.now) c.args.log.now in
     let q = beside c.pushes.self (g.D.Door.shown c.pushes.door) c.pushes.log in
     let b = acting (g.D.Door.shown c.push_on.new.door) c.push_on.new.log in
-    on_err _ (short_then p q b c.pushes.invariant.flushed.deeds c.pushes.invariant.flushed.grows c.in_err-push_on.ensures.short)
+    on_err _ (cut_grown p q b c.pushes.invariant.flushed.deeds c.pushes.invariant.flushed.grows c.in_err-push_on.ensures.short)
 
 pub returns-clause-takes : goal.returns-clause-takes
 returns-clause-takes g c =

@@ -1,18 +1,19 @@
 use Rattle.std.proofs.Common.{◌≡◌, refl, ap, sym, ◌∙◌, Ok, Err, None, Some}
 use Rattle.client_session.specs.SessionAnswers.{commit_ask}
 use Rattle.client_stub.specs.Playing.{StubView, beside}
-use Rattle.client_stub.proofs.Growth.{on_err, short_none}
+use Rattle.dc_talk.proofs.Acting.{cut_none}
+use Rattle.client_stub.proofs.Growth.{on_err}
 use Rattle.client_stub.proofs.Stepping.{push_takes, idle_takes, unconnected_takes}
 use Rattle.client_stub.proofs.stub.Stub.push.Goals as goal
 
 pub returns-in_err-tell-in-Ok-None-clause-short : goal.returns-in_err-tell-in-Ok-None-clause-short
-returns-in_err-tell-in-Ok-None-clause-short g c = on_err _ (short_none _ _ _ c.in_err-tell-in-Ok-None.ensures.err)
+returns-in_err-tell-in-Ok-None-clause-short g c = on_err _ (cut_none _ _ _ c.in_err-tell-in-Ok-None.ensures.err)
 
 pub returns-in_err-tell-in-Err-NotConnected-clause-short : goal.returns-in_err-tell-in-Err-NotConnected-clause-short
-returns-in_err-tell-in-Err-NotConnected-clause-short g c = on_err _ (short_none _ _ _ c.in_err-tell-in-Err-NotConnected.ensures.err)
+returns-in_err-tell-in-Err-NotConnected-clause-short g c = on_err _ (cut_none _ _ _ c.in_err-tell-in-Err-NotConnected.ensures.err)
 
 pub returns-in-Err-clause-short : goal.returns-in-Err-clause-short
-returns-in-Err-clause-short g c = short_none _ _ _ refl
+returns-in-Err-clause-short g c = cut_none _ _ _ refl
 
 pub returns-in_ok-tell-in-Ok-None-clause-takes : goal.returns-in_ok-tell-in-Ok-None-clause-takes
 returns-in_ok-tell-in-Ok-None-clause-takes g c =

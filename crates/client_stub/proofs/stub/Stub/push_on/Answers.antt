@@ -2,18 +2,19 @@ use Rattle.std.proofs.Common.{◌≡◌, refl, ap, sym, ◌∙◌, Ok, Err, None
 use Rattle.client_session.specs.declared.session.Facts.{Facts}
 use Rattle.client_session.specs.SessionAnswers.{commit_ask}
 use Rattle.client_stub.specs.Playing.{StubView, beside}
-use Rattle.client_stub.proofs.Growth.{on_err, short_none}
+use Rattle.dc_talk.proofs.Acting.{cut_none}
+use Rattle.client_stub.proofs.Growth.{on_err}
 use Rattle.client_stub.proofs.Flushes.{flush_pushes, flush_done, flush_unlinked}
 use Rattle.client_stub.proofs.stub.Stub.push_on.Goals as goal
 
 pub returns-in_err-tell-in-Ok-None-clause-short : goal.returns-in_err-tell-in-Ok-None-clause-short
-returns-in_err-tell-in-Ok-None-clause-short g c = on_err _ (short_none _ _ _ c.in_err-tell-in-Ok-None.ensures.err)
+returns-in_err-tell-in-Ok-None-clause-short g c = on_err _ (cut_none _ _ _ c.in_err-tell-in-Ok-None.ensures.err)
 
 pub returns-in_err-tell-in-Err-NotConnected-clause-short : goal.returns-in_err-tell-in-Err-NotConnected-clause-short
-returns-in_err-tell-in-Err-NotConnected-clause-short g c = on_err _ (short_none _ _ _ c.in_err-tell-in-Err-NotConnected.ensures.err)
+returns-in_err-tell-in-Err-NotConnected-clause-short g c = on_err _ (cut_none _ _ _ c.in_err-tell-in-Err-NotConnected.ensures.err)
 
 pub returns-in-Err-clause-short : goal.returns-in-Err-clause-short
-returns-in-Err-clause-short g c = short_none _ _ _ refl
+returns-in-Err-clause-short g c = cut_none _ _ _ refl
 
 pub returns-in_ok-tell-in-Ok-None-clause-goes : goal.returns-in_ok-tell-in-Ok-None-clause-goes
 returns-in_ok-tell-in-Ok-None-clause-goes g c =

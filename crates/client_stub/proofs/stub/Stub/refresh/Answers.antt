@@ -1,15 +1,16 @@
 use Rattle.std.proofs.Common.{◌≡◌, ap, sym, ◌∙◌, Ok, Err, None}
 use Rattle.client_session.specs.SessionAnswers.{refresh_ask}
 use Rattle.client_stub.specs.Playing.{StubView, beside}
-use Rattle.client_stub.proofs.Growth.{on_err, short_none}
+use Rattle.dc_talk.proofs.Acting.{cut_none}
+use Rattle.client_stub.proofs.Growth.{on_err}
 use Rattle.client_stub.proofs.Stepping.{refresh_takes, refresh_unlinked, refresh_open}
 use Rattle.client_stub.proofs.stub.Stub.refresh.Goals as goal
 
 pub returns-in_err-tell-in-Err-clause-short : goal.returns-in_err-tell-in-Err-clause-short
-returns-in_err-tell-in-Err-clause-short g c = on_err _ (short_none _ _ _ c.in_err-tell-in-Err.ensures.err)
+returns-in_err-tell-in-Err-clause-short g c = on_err _ (cut_none _ _ _ c.in_err-tell-in-Err.ensures.err)
 
 pub returns-in_err-tell-in-Err-2-clause-short : goal.returns-in_err-tell-in-Err-2-clause-short
-returns-in_err-tell-in-Err-2-clause-short g c = on_err _ (short_none _ _ _ c.in_err-tell-in-Err-2.ensures.err)
+returns-in_err-tell-in-Err-2-clause-short g c = on_err _ (cut_none _ _ _ c.in_err-tell-in-Err-2.ensures.err)
 
 pub returns-then-is_not_connected-clause-takes : goal.returns-then-is_not_connected-clause-takes
 returns-then-is_not_connected-clause-takes g c =
