@@ -38,6 +38,18 @@ is_begun kept since number each all = record {
   before = λ i. let same : at since i ≡ length (trail_at (all_seen kept) i) = ap (λ since. at since i) all ∙ length_at (all_seen kept) i in omega arith;
 }
 
+-- ---- a trail by its number
+
+-- the trail of a centre that was found
+pub trail_found : (kept : List KeptCentre) (place centre : ℕ) (one : KeptCentre) → centre ≡ suc place → slice_get kept place ≡ Some one → one.trail.entries ≡ trail_at (all_seen kept) centre
+trail_found kept place centre one is there = subst (λ i. one.trail.entries ≡ trail_at (all_seen kept) i) (sym is)
+    (sym (ap (λ (seen : Option CentreTrail). unwrap_or (option_map (λ (seen : CentreTrail). seen.entries) seen) []) (slice_get-map seen_of kept place ∙ ap (option_map seen_of) there)))
+
+-- and no entries where there is no centre
+pub trail_none : (kept : List KeptCentre) (place centre : ℕ) → centre ≡ suc place → slice_get kept place ≡ None → [] ≡ trail_at (all_seen kept) centre
+trail_none kept place centre is none = subst (λ i. [] ≡ trail_at (all_seen kept) i) (sym is)
+    (sym (ap (λ (seen : Option CentreTrail). unwrap_or (option_map (λ (seen : CentreTrail). seen.entries) seen) []) (slice_get-map seen_of kept place ∙ ap (option_map seen_of) none)))
+
 -- ---- one centre answers
 
 -- an element that was put at a place is not at another one

@@ -1,14 +1,14 @@
 // A door to the centres on one thread.
 ghost use Rattle.std.specs.Prelude.{◌≡◌, ◌≤◌, ◌<◌, ◌+◌, ◌^◌, ℕ, true, IfOk, IfSome, OnOk, OnErr, [], ◌∷◌, ◌++◌, length, take, All};
 ghost use Rattle.hist_lock.specs.History.{entry};
-ghost use Rattle.dc_talk.specs.Answers.{answer};
+ghost use Rattle.dc_talk.specs.Answers.{answer, History};
 ghost use Rattle.dc_talk.specs.Doors.{IsBehind, HasAsked, HasNotAsked, belongs};
 ghost use Rattle.dc_host.specs.Centres.{seen_of, all_seen, IsKeptCentre};
-ghost use Rattle.dc_host.specs.KeptDoors.{centre_at, shown_of, place_of, lengths_of, begun, HasAnswered};
+ghost use Rattle.dc_host.specs.KeptDoors.{centre_at, trail_at, shown_of, place_of, lengths_of, begun, HasAnswered};
 
 use dc_centre::Centre;
 use dc_talk::{Ask, Door, Say, Settings};
-use hist_lock::Kept;
+use hist_lock::{Entry, Kept};
 use ids_core::{MOST_CENTRES, NoMemory};
 use list_core::List;
 use std::marker::Model;
@@ -68,6 +68,26 @@ impl KeptDoor {
     {
         self.actor = actor;
         self.since = lengths(&self.kept);
+    }
+
+    /// A law: each trail is a history of the one-thread centre with its settings. It does nothing.
+    pub fn histories(&self)
+        ensures { All (λ centre. History centre.settings centre.entries) self.now.centres }
+    {
+        let _kept = &self.kept;
+    }
+
+    /// The entries of a centre's trail, and none for a number that is no centre's. It takes no memory.
+    pub fn entries(&self, centre: u8) -> &[Entry<Ask, Say>]
+        ensures { result.now ≡ trail_at self.now.centres centre }
+    {
+        if centre == 0 {
+            return &[];
+        }
+        match self.kept.get(usize::from(centre) - 1) {
+            Some(one) => one.trail.as_slice(),
+            None => &[],
+        }
     }
 
     /// The centres in order, each with its trail, for which it stands. It takes no memory.

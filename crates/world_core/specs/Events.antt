@@ -17,8 +17,10 @@ use Rattle.script_text.specs.declared.script.Script.{Script}
 use Rattle.script_text.specs.declared.steps.Section.{Section}
 use Rattle.script_text.specs.declared.steps.ClientStep.{ClientStep}
 use Rattle.script_text.specs.declared.steps.OperatorStep.{OperatorStep}
-use Rattle.script_text.specs.Deeds.{StepDeeds, after_all, armed_after}
-use Rattle.script_text.specs.Orders.{OperatorDeeds}
+use Rattle.script_text.specs.declared.steps.Step.{Step}
+use Rattle.script_text.specs.declared.steps.Step.TheVariants.{Client as ClientTakes, Operator as OperatorTakes}
+use Rattle.script_text.specs.Rows.{section_of}
+use Rattle.script_text.specs.Deeds.{StepDeeds, OperatorDeeds, after_all, armed_after}
 use Rattle.client_stub.specs.Playing.{StubView}
 use Rattle.run_book.specs.Scripted.{client_steps, operator_steps}
 use Rattle.run_book.specs.Happenings.{ClientDoes}
@@ -76,7 +78,7 @@ pub record TakesStep (turn : Turn) (step : ClientStep) (old new : WorldView) : T
 -- the operator takes a step in its turn
 pub record TakesOrder (turn : Turn) (step : OperatorStep) (old new : WorldView) : Type 0 where
   pub deeds : List Deed
-  pub such : OperatorDeeds old.script.n step deeds
+  pub such : OperatorDeeds step deeds
   pub stubs : new.stubs ≡ old.stubs
   pub acts : Acts turn deeds old new
 
@@ -97,3 +99,16 @@ Plays (Client client section step) old new played = Goes (step_named (client_ste
 Plays (Operator section step) old new played = Goes (step_named operator_steps old.script section step) (TakesOrder (record { actor = 1; section = section; step = step })) old new played
 Plays (Again client note centre) old new played = Goes (if_centre old centre (commit_named old client note)) (λ tx. AsksOnce (client + 1) centre (Commit tx)) old new played
 Plays (Carry from entry index to) old new played = Goes (if_centre old to (record_named old from entry index)) (λ item. AsksOnce 1 to (Deliver item)) old new played
+
+-- ---- a section of one step
+
+-- the step of a section is taken, as its only one
+abbrev pub TakesOne : ℕ → Step → WorldView → WorldView → Type 0
+TakesOne section (ClientTakes client step) old new = TakesStep (record { actor = client + 1; section = section; step = 1 }) step old new
+TakesOne section (OperatorTakes step) old new = TakesOrder (record { actor = 1; section = section; step = 1 }) step old new
+
+-- a section of one step is played as the section of a number
+pub record PlaysLine (number : ℕ) (section : Section) (old new : WorldView) : Type 0 where
+  pub step : Step
+  pub one : section ≡ section_of step
+  pub takes : TakesOne number step old new

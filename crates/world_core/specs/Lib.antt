@@ -1,3 +1,4 @@
 pub mod Worlds
+pub mod Tables
 pub mod Events
 pub mod Runs

@@ -5,9 +5,10 @@
 mod event;
 mod finding;
 mod playing;
-mod serial;
+mod sections;
+mod table;
 mod world;
 
 pub use event::{Event, Played};
-pub use serial::serial;
+pub use sections::serial;
 pub use world::World;

@@ -1,0 +1,52 @@
+-- What a step through the door leaves of a world's parts.
+use Rattle.std.proofs.Common.{◌≡◌, ◌≤◌, ◌<◌, ℕ, suc, ◌+◌, ◌-◌, List, map, length, get_or, Some, refl, sym, ap, ◌∙◌, subst, arith}
+use Rattle.std.specs.Prelude.{slice_get, slice_set}
+use Rattle.std.proofs.lemmas.Option.{get_or_from_slice_get, slice_get_read}
+use Rattle.dc_talk.specs.Logs.{Logged}
+use Rattle.dc_host.specs.declared.kept_door.KeptPlace.{KeptPlace}
+use Rattle.dc_host.specs.Centres.{CentreTrail}
+use Rattle.dc_host.specs.KeptDoors.{KeptView, shown_of, place_of, begun}
+use Rattle.script_text.specs.declared.steps.ClientStep.{ClientStep}
+use Rattle.client_stub.specs.Playing.{StubView, IsLinkBehind, Takes, beside}
+use Rattle.run_book.specs.Parts.{idle_log}
+use Rattle.world_core.specs.declared.table.Table.{Table}
+use Rattle.world_core.specs.Worlds.{Turn, log_at}
+use Rattle.world_core.specs.Tables.{AreHistories, log_in, HasStepped}
+
+-- the log that was found at a place is the one of the actor behind it
+pub log_found : (logs : List Logged) (place : ℕ) (log : Logged) → place < length logs → log ≡ get_or logs place log → log_at logs (place + 1) ≡ log
+log_found logs place log within is =
+    let next : suc place ≡ place + 1 = omega arith in
+    subst (λ a. log_at logs a ≡ log) next (get_or_from_slice_get logs place log (idle_log 0) (slice_get_read logs (length logs) place log refl within is))
+
+-- the settings stay where the place of the door does
+settings_kept : (actor : ℕ) (old : List CentreTrail) (door new : KeptView) → door ≡ begun actor old → place_of new ≡ place_of door → map (λ (centre : CentreTrail). centre.settings) new.centres ≡ map (λ (centre : CentreTrail). centre.settings) old
+settings_kept actor old door new begins same = ap (λ (place : KeptPlace). place.settings) same ∙ ap (λ (door : KeptView). map (λ (centre : CentreTrail). centre.settings) door.centres) begins
+
+-- a client's link is behind the door as its turn begins
+pub linked_then : (client : ℕ) (stubs : List StubView) (old door : KeptView) (stub : StubView) → ((stub : StubView) → slice_get stubs (client - 1) ≡ Some stub → IsLinkBehind (shown_of old) stub.client) → door ≡ begun (client + 1) old.centres → client ≤ length stubs → 1 ≤ client → stub ≡ get_or stubs (client - 1) stub → IsLinkBehind (shown_of door) stub.client
+linked_then client stubs old door stub linked begins within low is =
+    subst (λ (door : KeptView). IsLinkBehind (shown_of door) stub.client) (sym begins)
+    (linked stub (slice_get_read stubs (length stubs) (client - 1) stub refl (omega (arith, within, low)) is))
+
+-- a client's step in its turn
+pub step_left : (client section number : ℕ) (step : ClientStep) (old new : Table) (door : KeptView) (stub later : StubView) (found before log : Logged) → (1 ≤ client) × (client ≤ length old.stubs.items) → client < length old.logs.items → door ≡ begun (client + 1) old.door.centres → stub ≡ get_or old.stubs.items (client - 1) stub → found ≡ get_or old.logs.items client found → before ≡ record found { section = section; step = number } → place_of new.door ≡ place_of door → Takes step (beside stub (shown_of door) before) (beside later (shown_of new.door) log) → new.stubs.items ≡ slice_set old.stubs.items (client - 1) later → new.logs.items ≡ slice_set old.logs.items client log → AreHistories new.door.centres → HasStepped (record { actor = client + 1; section = section; step = number }) step old new
+step_left client section number step old new door stub later found before log range inside begins stub_is found_is before_is same takes stubs logs histories =
+    let turn : Turn = record { actor = client + 1; section = section; step = number } in
+    let place : client - 1 ≡ turn.actor - 2 = omega arith in
+    let own : client ≡ turn.actor - 1 = omega arith in
+    let log_is : before ≡ log_in turn (log_at old.logs.items turn.actor) = before_is ∙ ap (log_in turn) (sym (log_found old.logs.items client found inside found_is)) in
+    record {
+      stub = stub;
+      there = subst (λ k. slice_get old.stubs.items k ≡ Some stub) place (slice_get_read old.stubs.items (length old.stubs.items) (client - 1) stub refl (omega (arith, range)) stub_is);
+      later = later;
+      log = log;
+      takes = subst (λ (first : Logged). Takes step (beside stub (shown_of (begun turn.actor old.door.centres)) first) (beside later (shown_of new.door) log)) log_is
+          (subst (λ (door : KeptView). Takes step (beside stub (shown_of door) before) (beside later (shown_of new.door) log)) begins takes);
+      stubs = subst (λ k. new.stubs.items ≡ slice_set old.stubs.items k later) place stubs;
+      turn_is = record {
+        logs = subst (λ k. new.logs.items ≡ slice_set old.logs.items k log) own logs;
+        settings = settings_kept turn.actor old.door.centres door new.door begins same;
+        histories = histories;
+      };
+    }

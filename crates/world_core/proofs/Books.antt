@@ -1,0 +1,82 @@
+-- The book of a world.
+use Rattle.std.proofs.Common.{◌≡◌, ◌≤◌, ℕ, zero, suc, ◌+◌, ◌*◌, List, [], map, length, Option, refl, sym, ap, ◌∙◌, subst, arith}
+use Rattle.std.specs.Prelude.{slice_get, Result, Ok, Err, IfOk}
+use Rattle.std.specs.Option.{option_map, unwrap_or}
+use Rattle.std.proofs.lemmas.Option.{slice_get-map, unwrap_or-slice_get}
+use Rattle.std.proofs.lemmas.List.{length-map}
+use Rattle.dc_talk.specs.Entries.{Entry}
+use Rattle.dc_talk.specs.Logs.{Logged}
+use Rattle.dc_host.specs.Centres.{CentreTrail}
+use Rattle.dc_host.specs.KeptDoors.{trail_at}
+use Rattle.script_text.specs.declared.script.Script.{Script}
+use Rattle.run_book.specs.declared.book.Book.{Book}
+use Rattle.run_book.specs.Setups.{setup_of}
+use Rattle.run_book.specs.Parts.{trail_of, log_of}
+use Rattle.run_book.specs.Happenings.{Happened, InRange, IsBookOf}
+use Rattle.run_book.specs.Played.{HavePlayed}
+use Rattle.run_book.proofs.Happenings.Fits.{fits}
+use Rattle.run_book.proofs.Happenings.Timely.{timely}
+use Rattle.run_book.proofs.Happenings.Playing.{scripted}
+use Rattle.world_core.specs.Worlds.{WorldView, IsWorld, log_at}
+use Rattle.world_core.specs.Runs.{IsInRange, IsSound, IsWorldBook, HasPlayed, IsRunOf}
+use Rattle.world_core.proofs.Worlds.{centre_count}
+
+-- a trail by its number, in the book and at its centre
+trails_match : (cs : List CentreTrail) (b : Book) (i : ℕ) → b.trails ≡ map (λ (centre : CentreTrail). centre.entries) cs → trail_of b i ≡ trail_at cs i
+trails_match cs b zero are = refl
+trails_match cs b (suc place) are =
+    sym (unwrap_or-slice_get b.trails place [])
+    ∙ (ap (λ (trails : List (List Entry)). unwrap_or (slice_get trails place) []) are
+    ∙ ap (λ (o : Option (List Entry)). unwrap_or o []) (slice_get-map (λ (centre : CentreTrail). centre.entries) cs place))
+
+-- a log by its number
+logs_match : (logs : List Logged) (b : Book) (a : ℕ) → b.logs ≡ logs → log_of b a ≡ log_at logs a
+logs_match logs b zero are = refl
+logs_match logs b (suc place) are = ap (λ logs. log_at logs (suc place)) are
+
+-- the numbers of the run are in range
+in_range : (script : Script) → IsInRange script → InRange script.n script.k (setup_of script)
+in_range script range = record {
+  n_range = range.header.n;
+  k_range = range.header.k;
+  clients_range = range.header.clients;
+  limit_range = range.limit;
+  capacity_range = range.cache.0;
+}
+
+module _ (w : WorldView) (b : Book) (n : b.n ≡ w.script.n) (k : b.k ≡ w.script.k) (trails : b.trails ≡ map (λ (centre : CentreTrail). centre.entries) w.centres) (logs : b.logs ≡ w.logs) where
+  -- the book is the one of what happened
+  pub book_of : (all : List Happened) → IsWorld w all → IsBookOf b w.script.n w.script.k w.script.clients all
+  book_of all world = record {
+    n_is = n;
+    k_is = k;
+    trail_count = ap (λ (trails : List (List Entry)). length trails) trails ∙ (length-map w.centres (λ (centre : CentreTrail). centre.entries) ∙ centre_count w all world);
+    log_count = ap (λ (logs : List Logged). length logs) logs ∙ world.log_count;
+    trails = λ i low high. trails_match w.centres b i trails ∙ world.trails i;
+    actors = λ a low high. ap (λ (log : Logged). log.actor) (logs_match w.logs b a logs) ∙ world.actors a low (omega (arith, high, world.log_count));
+    notes = λ a low high. ap (λ (log : Logged). log.notes) (logs_match w.logs b a logs) ∙ world.notes a;
+  }
+
+  -- it fits and is timely
+  pub world_book : IsSound w → IsWorldBook w b
+  world_book sound =
+      let is = book_of sound.all sound.world in
+      record {
+        n = n;
+        k = k;
+        trails = trails;
+        logs = logs;
+        fits = fits b w.script.n w.script.k (setup_of w.script) sound.all (in_range w.script sound.range) is sound.world.together;
+        timely = timely b w.script.n w.script.k (setup_of w.script) sound.all is sound.world.together;
+      }
+
+-- the book of a world that has played all sections of its script is a run of the script
+pub run_of : {E : Type 0} (script : Script) (w : WorldView) (r : Result Book E) → w.script ≡ script → HasPlayed script.sections w → IfOk r (IsWorldBook w) → IfOk r (IsRunOf script)
+run_of script w (Err e) same played is = tt
+run_of script w (Ok b) same played is = subst (λ script. IsRunOf script b) same (record {
+  n = is.n;
+  k = is.k;
+  fits = is.fits;
+  steps = scripted w.script b w.script.n w.script.k played.all played.come (book_of w b is.n is.k is.trails is.logs played.all played.world) played.world.together (subst (λ script. HavePlayed w.script.n (setup_of w.script) script.sections played.all played.come) (sym same) played.played);
+  timely = is.timely;
+})

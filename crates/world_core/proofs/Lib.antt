@@ -1,0 +1,7 @@
+pub mod Numbered
+pub mod Acting
+pub mod Worlds
+pub mod Turns
+pub mod Books
+pub mod Lines
+pub mod Naming

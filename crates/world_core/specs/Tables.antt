@@ -1,0 +1,73 @@
+-- The parts of a world, and what a step leaves of them.
+use Rattle.std.specs.Prelude.{◌≡◌, ◌<◌, ℕ, ◌+◌, ◌-◌, ◌*◌, Bool, map, length, List, All, Some, None, slice_get, slice_set}
+use Rattle.std.specs.List.{range_with_len}
+use Rattle.dc_talk.specs.Answers.{History}
+use Rattle.dc_talk.specs.Clients.{new_client}
+use Rattle.dc_talk.specs.Logs.{Logged}
+use Rattle.dc_host.specs.Centres.{CentreTrail, new_centres}
+use Rattle.dc_host.specs.KeptDoors.{shown_of, begun}
+use Rattle.script_text.specs.declared.script.Script.{Script}
+use Rattle.script_text.specs.declared.steps.ClientStep.{ClientStep}
+use Rattle.script_text.specs.declared.steps.OperatorStep.{OperatorStep}
+use Rattle.client_stub.specs.Playing.{StubView, Takes, Operates, acting, beside}
+use Rattle.run_book.specs.Parts.{idle_log}
+use Rattle.world_core.specs.declared.table.Table.{Table}
+use Rattle.world_core.specs.Worlds.{WorldView, Turn, log_at}
+
+-- what a world of these parts is seen as
+abbrev pub seen_of : Script → Bool → Table → WorldView
+seen_of script spent table = record { script = script; centres = table.door.centres; stubs = table.stubs.items; logs = table.logs.items; spent = spent }
+
+-- ---- at first
+
+-- a client at first, with no fault armed
+abbrev pub new_stub : ℕ → ℕ → ℕ → StubView
+new_stub n cache client = record { client = new_client n client cache; armed = None }
+
+-- the clients at first, in order
+abbrev pub new_stubs : ℕ → ℕ → ℕ → List StubView
+new_stubs n cache clients = map (new_stub n cache) (range_with_len 1 clients)
+
+-- so many empty logs, in order
+abbrev pub new_logs : ℕ → List Logged
+new_logs actors = map idle_log (range_with_len 1 actors)
+
+-- the parts of a script's world at first
+pub record IsNew (script : Script) (table : Table) : Type 0 where
+  pub centres : table.door.centres ≡ new_centres script.n script.k script.limit
+  pub stubs : table.stubs.items ≡ new_stubs script.n script.cache script.clients
+  pub logs : table.logs.items ≡ new_logs (1 + script.clients + 4 * script.n)
+
+-- ---- a step
+
+-- each trail is a history of its centre
+abbrev pub AreHistories : List CentreTrail → Type 0
+AreHistories centres = All (λ centre. History centre.settings centre.entries) centres
+
+-- an actor's log as its turn begins
+abbrev pub log_in : Turn → Logged → Logged
+log_in turn log = record log { section = turn.section; step = turn.step }
+
+-- a turn in which the actor's log became another: no other log changed, no setting of a centre did, and each trail is
+-- a history of its centre
+pub record IsTurn (turn : Turn) (log : Logged) (old new : Table) : Type 0 where
+  pub logs : new.logs.items ≡ slice_set old.logs.items (turn.actor - 1) log
+  pub settings : map (λ centre. centre.settings) new.door.centres ≡ map (λ centre. centre.settings) old.door.centres
+  pub histories : AreHistories new.door.centres
+
+-- a client took a step through the door in its turn
+pub record HasStepped (turn : Turn) (step : ClientStep) (old new : Table) : Type 0 where
+  pub stub : StubView
+  pub there : slice_get old.stubs.items (turn.actor - 2) ≡ Some stub
+  pub later : StubView
+  pub log : Logged
+  pub takes : Takes step (beside stub (shown_of (begun turn.actor old.door.centres)) (log_in turn (log_at old.logs.items turn.actor))) (beside later (shown_of new.door) log)
+  pub stubs : new.stubs.items ≡ slice_set old.stubs.items (turn.actor - 2) later
+  pub turn_is : IsTurn turn log old new
+
+-- the operator took a step through the door in its turn
+pub record HasOperated (turn : Turn) (step : OperatorStep) (old new : Table) : Type 0 where
+  pub log : Logged
+  pub operates : Operates step (acting (shown_of (begun turn.actor old.door.centres)) (log_in turn (log_at old.logs.items turn.actor))) (acting (shown_of new.door) log)
+  pub stubs : new.stubs ≡ old.stubs
+  pub turn_is : IsTurn turn log old new

@@ -1,0 +1,116 @@
+// The parts of a world, and the steps that change them.
+ghost use Rattle.std.specs.Prelude.{◌≡◌, ◌≤◌, ◌<◌, ℕ, ◌+◌, ◌-◌, ◌*◌, length, Some, IfOk, OnOk, slice_get};
+ghost use Rattle.ids_core.specs.declared.limits.TheConstants.{MOST_CENTRES, MOST_CLIENTS};
+ghost use Rattle.script_text.specs.Steps.{IsStep, IsOperatorStep};
+ghost use Rattle.client_stub.specs.Playing.{StubView, IsLinkBehind};
+ghost use Rattle.dc_host.specs.KeptDoors.{shown_of};
+ghost use Rattle.world_core.specs.Runs.{IsInRange};
+ghost use Rattle.world_core.specs.Tables.{new_stubs, new_logs, IsNew, HasStepped, HasOperated};
+
+use client_session::Session;
+use client_stub::{Stub, operate};
+use dc_host::{KeptDoor, centres_of};
+use dc_talk::Log;
+use ids_core::NoMemory;
+use script_text::{ClientStep, OperatorStep, Script};
+use std::alloc::Global;
+
+/// The centres behind their door, the clients in order, and the logs of all actors.
+#[derive(Drop)]
+pub(crate) struct Table {
+    pub(crate) door: KeptDoor,
+    pub(crate) stubs: Vec<Stub>,
+    pub(crate) logs: Vec<Log>,
+}
+
+// So many clients among `n` centres at first, each with a cache for so many entries.
+fn stubs_of(alloc: Global, n: u8, cache: usize, clients: u32) -> Result<Vec<Stub>, NoMemory>
+    requires centres { (1 ≤ n) × (n ≤ MOST_CENTRES) }
+    requires cache { 1 ≤ cache }
+    requires clients { clients ≤ MOST_CLIENTS }
+    ensures { IfOk result (λ stubs. stubs.items ≡ new_stubs n cache clients) }
+{
+    let mut stubs = Vec::new(alloc);
+    'clients: for client in 1..clients + 1 {
+        let session = Session::new(alloc, client, n, cache)?;
+        stubs.push(Stub::new(session))?;
+    }
+    Ok(stubs)
+}
+
+// So many empty logs.
+fn logs_of(alloc: Global, actors: u32) -> Result<Vec<Log>, NoMemory>
+    requires { actors ≤ 1 + MOST_CLIENTS + 4 * MOST_CENTRES }
+    ensures { IfOk result (λ logs. logs.items ≡ new_logs actors) }
+{
+    let mut logs = Vec::new(alloc);
+    'actors: for actor in 1..actors + 1 {
+        logs.push(Log::new(alloc, actor))?;
+    }
+    Ok(logs)
+}
+
+impl Table {
+    /// The parts of a script's world at first.
+    pub(crate) fn new(alloc: Global, script: &Script) -> Result<Table, NoMemory>
+        requires { IsInRange script.now }
+        ensures { IfOk result (IsNew script.now) }
+    {
+        let centres = centres_of(alloc, script.n, script.k, script.limit)?;
+        let stubs = stubs_of(alloc, script.n, script.cache as usize, script.clients)?;
+        let logs = logs_of(alloc, 1 + script.clients + 4 * u32::from(script.n))?;
+        Ok(Table {
+            door: KeptDoor::new(centres, 1),
+            stubs,
+            logs,
+        })
+    }
+
+    /// Has a client take a step, which its log has as one of a section. After want of memory a part of the step may
+    /// be left.
+    pub(crate) fn step(
+        &mut self,
+        alloc: Global,
+        client: u32,
+        section: u32,
+        number: u32,
+        step: &ClientStep,
+    ) -> Result<(), NoMemory>
+        requires client { (1 ≤ client) × (client ≤ MOST_CLIENTS) }
+        requires stub { client ≤ length self.old.stubs.items }
+        requires log { client < length self.old.logs.items }
+        requires fits { IsStep (length self.old.door.centres) step.now }
+        requires linked { (stub : StubView) → slice_get self.old.stubs.items (client - 1) ≡ Some stub → IsLinkBehind (shown_of self.old.door) stub.client }
+        ensures { OnOk result (HasStepped (record { actor = client + 1; section = section; step = number }) step.now self.old self.new) }
+    {
+        self.door.set(client + 1);
+        let log = &mut self.logs[client as usize];
+        log.set(section, number);
+        let stub = &mut self.stubs[(client - 1) as usize];
+        stub.step(alloc, &mut self.door, step, log)?;
+        self.door.histories();
+        Ok(())
+    }
+
+    /// Has the operator of `n` centres take a step, which its log has as one of a section. After want of memory a part
+    /// of the step may be left.
+    pub(crate) fn order(
+        &mut self,
+        n: u8,
+        section: u32,
+        number: u32,
+        step: &OperatorStep,
+    ) -> Result<(), NoMemory>
+        requires centres { n ≡ length self.old.door.centres }
+        requires log { 1 ≤ length self.old.logs.items }
+        requires fits { IsOperatorStep n step.now }
+        ensures { OnOk result (HasOperated (record { actor = 1; section = section; step = number }) step.now self.old self.new) }
+    {
+        self.door.set(1);
+        let log = &mut self.logs[0];
+        log.set(section, number);
+        operate(&mut self.door, n, step, log)?;
+        self.door.histories();
+        Ok(())
+    }
+}

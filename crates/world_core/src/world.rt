@@ -1,0 +1,132 @@
+// A world: the system on one thread.
+ghost use Rattle.std.specs.Prelude.{◌≡◌, ◌≤◌, ◌+◌, true, false, [], map, IfOk, OnOk, OnErr, IsErr};
+ghost use Rattle.dc_host.specs.Centres.{all_seen};
+ghost use Rattle.script_text.specs.Steps.{IsStep, IsOperatorStep};
+ghost use Rattle.world_core.specs.Worlds.{IsWorld};
+ghost use Rattle.world_core.specs.Tables.{new_stubs};
+ghost use Rattle.world_core.specs.Events.{TakesStep, TakesOrder};
+ghost use Rattle.world_core.specs.Runs.{IsInRange, IsWorldBook};
+
+use crate::table::Table;
+use dc_centre::Centre;
+use hist_lock::Kept;
+use ids_core::NoMemory;
+use run_book::{Book, Logs, Trails};
+use script_text::{ClientStep, OperatorStep, Script};
+use std::alloc::Global;
+use std::marker::Model;
+
+/// The system that a script sets up, on one thread: its centres with their trails, its clients, and the logs of all
+/// actors. Contracts see what happened in it by these, and whether the world is spent: it is after want of memory in an
+/// event, which may have left a part of it, and then it plays no more and gives no book.
+#[derive(Drop)]
+pub struct World<'a> {
+    pub(crate) script: &'a Script,
+    pub(crate) table: Table,
+    pub(crate) spent: bool,
+}
+
+impl<'a> Model for World<'a> {
+    ghost use Rattle.std.specs.Prelude.{◌≡◌, false};
+    ghost use Rattle.world_core.specs.Worlds.{WorldView};
+    ghost use Rattle.world_core.specs.Tables.{seen_of};
+    ghost use Rattle.world_core.specs.Runs.{IsSound};
+    ghost use Rattle.tx_core.specs.States.{state_codes};
+
+    ghost Value = { WorldView };
+
+    ghost coded = { Prim.hlevel state_codes };
+
+    ghost view = { λ w. seen_of w.script.now w.spent w.table };
+
+    ghost invariant = { λ w. w.spent ≡ false → IsSound (seen_of w.script.now w.spent w.table) };
+}
+
+// The trails of centres that are kept with them.
+fn trails_of(alloc: Global, kept: Vec<Kept<Centre>>) -> Result<Trails, NoMemory>
+    ensures { IfOk result (λ trails. trails ≡ map (λ centre. centre.entries) (all_seen kept.items)) }
+{
+    let mut trails = Trails::new(alloc);
+    'kept: for one in kept {
+        trails.push(one.trail)?;
+    }
+    Ok(trails)
+}
+
+impl<'a> World<'a> {
+    /// The system of a script whose numbers are in range, in which nothing happened. An `Err` is want of memory.
+    pub fn new(alloc: Global, script: &'a Script) -> Result<World<'a>, NoMemory>
+        requires { IsInRange script.now }
+        ensures script { IfOk result (λ world. world.script ≡ script.now) }
+        ensures fresh { IfOk result (λ world. world.spent ≡ false) }
+        ensures empty { IfOk result (λ world. IsWorld world []) }
+        ensures stubs { IfOk result (λ world. world.stubs ≡ new_stubs script.now.n script.now.cache script.now.clients) }
+    {
+        let table = Table::new(alloc, script)?;
+        Ok(World {
+            script,
+            table,
+            spent: false,
+        })
+    }
+
+    /// Has a client take a step as one of a section. After an `Err`, want of memory, the world is spent.
+    pub(crate) fn take(
+        &mut self,
+        alloc: Global,
+        client: u32,
+        section: u32,
+        number: u32,
+        step: &ClientStep,
+    ) -> Result<(), NoMemory>
+        requires fresh { self.old.spent ≡ false }
+        requires client { (1 ≤ client) × (client ≤ self.old.script.clients) }
+        requires fits { IsStep self.old.script.n step.now }
+        ensures takes { OnOk result (TakesStep (record { actor = client + 1; section = section; step = number }) step.now self.old self.new) }
+        ensures script { self.new.script ≡ self.old.script }
+        ensures spent { OnErr result (self.new.spent ≡ true) }
+    {
+        self.spent = true;
+        self.table.step(alloc, client, section, number, step)?;
+        self.spent = false;
+        Ok(())
+    }
+
+    /// Has the operator take a step as one of a section. After an `Err`, want of memory, the world is spent.
+    pub(crate) fn order(
+        &mut self,
+        section: u32,
+        number: u32,
+        step: &OperatorStep,
+    ) -> Result<(), NoMemory>
+        requires fresh { self.old.spent ≡ false }
+        requires fits { IsOperatorStep self.old.script.n step.now }
+        ensures takes { OnOk result (TakesOrder (record { actor = 1; section = section; step = number }) step.now self.old self.new) }
+        ensures script { self.new.script ≡ self.old.script }
+        ensures spent { OnErr result (self.new.spent ≡ true) }
+    {
+        self.spent = true;
+        self.table.order(self.script.n, section, number, step)?;
+        self.spent = false;
+        Ok(())
+    }
+
+    /// The book of all that happened. An `Err` is want of memory; a spent world always answers it.
+    pub fn finish(self, alloc: Global) -> Result<Book, NoMemory>
+        ensures book { IfOk result (IsWorldBook self.entry) }
+        ensures spent { self.entry.spent ≡ true → IsErr result }
+    {
+        if self.spent {
+            return Err(NoMemory);
+        }
+        let World { script, table, .. } = self;
+        let Table { door, logs, .. } = table;
+        let trails = trails_of(alloc, door.part())?;
+        Ok(Book {
+            n: script.n,
+            k: script.k,
+            trails,
+            logs: Logs::from_vec(logs),
+        })
+    }
+}
