@@ -1,5 +1,5 @@
 -- The trails of the centres, where one of them answers.
-use Rattle.std.proofs.Common.{◌≡◌, ◌≢◌, ◌≤◌, ◌<◌, ℕ, zero, suc, ◌+◌, ◌^◌, true, List, [], ◌∷◌, ◌++◌, length, get_or, set, drop, Some, Result, Ok, Err, refl, sym, ap, ◌∙◌, subst, arith}
+use Rattle.std.proofs.Common.{◌≡◌, ◌≢◌, ◌≤◌, ◌<◌, ℕ, zero, suc, ◌+◌, ◌^◌, true, List, [], ◌∷◌, ◌++◌, length, get_or, set, drop, Some, None, Result, Ok, Err, refl, sym, ap, ◌∙◌, subst, arith}
 use Rattle.std.specs.Prelude.{IfOk, OnOk, OnErr, slice_get, All}
 use Rattle.std.specs.Option.{option_map}
 use Rattle.std.proofs.Math.Seq.{drop-length, map-set_same}
@@ -43,12 +43,12 @@ is_begun kept since number each all = record {
 -- the trail of a centre that was found
 pub trail_found : (kept : List KeptCentre) (place centre : ℕ) (one : KeptCentre) → centre ≡ suc place → slice_get kept place ≡ Some one → one.trail.entries ≡ trail_at (all_seen kept) centre
 trail_found kept place centre one is there = subst (λ i. one.trail.entries ≡ trail_at (all_seen kept) i) (sym is)
-    (sym (ap (λ (seen : Option CentreTrail). unwrap_or (option_map (λ (seen : CentreTrail). seen.entries) seen) []) (slice_get-map seen_of kept place ∙ ap (option_map seen_of) there)))
+    (sym (ap entries_of (slice_get-map seen_of kept place ∙ ap (option_map seen_of) there)))
 
 -- and no entries where there is no centre
 pub trail_none : (kept : List KeptCentre) (place centre : ℕ) → centre ≡ suc place → slice_get kept place ≡ None → [] ≡ trail_at (all_seen kept) centre
 trail_none kept place centre is none = subst (λ i. [] ≡ trail_at (all_seen kept) i) (sym is)
-    (sym (ap (λ (seen : Option CentreTrail). unwrap_or (option_map (λ (seen : CentreTrail). seen.entries) seen) []) (slice_get-map seen_of kept place ∙ ap (option_map seen_of) none)))
+    (sym (ap entries_of (slice_get-map seen_of kept place ∙ ap (option_map seen_of) none)))
 
 -- ---- one centre answers
 

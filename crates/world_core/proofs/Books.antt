@@ -1,5 +1,5 @@
 -- The book of a world.
-use Rattle.std.proofs.Common.{◌≡◌, ◌≤◌, ℕ, zero, suc, ◌+◌, ◌*◌, List, [], map, length, Option, refl, sym, ap, ◌∙◌, subst, arith}
+use Rattle.std.proofs.Common.{◌≡◌, ◌≤◌, ℕ, zero, suc, ◌+◌, ◌*◌, List, [], map, length, Option, Some, None, refl, sym, ap, ◌∙◌, subst, arith}
 use Rattle.std.specs.Prelude.{slice_get, Result, Ok, Err, IfOk}
 use Rattle.std.specs.Option.{option_map, unwrap_or}
 use Rattle.std.proofs.lemmas.Option.{slice_get-map, unwrap_or-slice_get}
@@ -7,7 +7,7 @@ use Rattle.std.proofs.lemmas.List.{length-map}
 use Rattle.dc_talk.specs.Entries.{Entry}
 use Rattle.dc_talk.specs.Logs.{Logged}
 use Rattle.dc_host.specs.Centres.{CentreTrail}
-use Rattle.dc_host.specs.KeptDoors.{trail_at}
+use Rattle.dc_host.specs.KeptDoors.{entries_of, trail_at}
 use Rattle.script_text.specs.declared.script.Script.{Script}
 use Rattle.run_book.specs.declared.book.Book.{Book}
 use Rattle.run_book.specs.Setups.{setup_of}
@@ -27,7 +27,12 @@ trails_match cs b zero are = refl
 trails_match cs b (suc place) are =
     sym (unwrap_or-slice_get b.trails place [])
     ∙ (ap (λ (trails : List (List Entry)). unwrap_or (slice_get trails place) []) are
-    ∙ ap (λ (o : Option (List Entry)). unwrap_or o []) (slice_get-map (λ (centre : CentreTrail). centre.entries) cs place))
+    ∙ (ap (λ (o : Option (List Entry)). unwrap_or o []) (slice_get-map (λ (centre : CentreTrail). centre.entries) cs place)
+    ∙ in_either (slice_get cs place)))
+  where
+    in_either : (o : Option CentreTrail) → unwrap_or (option_map (λ (centre : CentreTrail). centre.entries) o) [] ≡ entries_of o
+    in_either None = refl
+    in_either (Some centre) = refl
 
 -- a log by its number
 logs_match : (logs : List Logged) (b : Book) (a : ℕ) → b.logs ≡ logs → log_of b a ≡ log_at logs a

@@ -18,6 +18,7 @@ use Rattle.dc_talk.specs.declared.log.Deed.TheVariants.{Did, Asked, Told}
 use Rattle.dc_talk.specs.declared.log.Note.{Note}
 use Rattle.dc_talk.specs.Entries.{Entry}
 use Rattle.dc_talk.specs.Logs.{Logged, marked, noted, entries_made}
+use Rattle.dc_talk.specs.Acting.{IsAskBehind, noted_all}
 use Rattle.dc_talk.specs.Doors.{DoorView, IsBehind, HasDone}
 use Rattle.dc_talk.specs.Clients.{Client, new_client}
 use Rattle.dc_talk.specs.Rule.{after, client_after}
@@ -26,13 +27,16 @@ use Rattle.dc_host.specs.KeptDoors.{shown_of, begun, trail_at}
 use Rattle.script_text.specs.declared.script.Script.{Script}
 use Rattle.script_text.specs.declared.steps.ClientStep.{ClientStep}
 use Rattle.script_text.specs.declared.steps.OperatorStep.{OperatorStep}
-use Rattle.script_text.specs.Deeds.{Progress, StepDeeds, OperatorDeeds, after_all, armed_after}
-use Rattle.client_stub.specs.Playing.{StubView, AllowsAll, IsAskBehind, IsLinkBehind, noted_all}
+use Rattle.script_text.specs.Steps.{IsOperatorStep}
+use Rattle.script_text.specs.Deeds.{Progress, StepDeeds, after_all, armed_after}
+use Rattle.script_text.specs.Orders.{OperatorDeeds}
+use Rattle.client_stub.specs.Playing.{StubView, AllowsAll, IsLinkBehind}
 use Rattle.run_book.specs.Setups.{Setup, setup_of, settings_among}
 use Rattle.run_book.specs.Happenings.{Happened, notes_by, trails_in, happening, GoesToOneOf, IsLinkWithin, ClientDoes, CarrierDoes, IsCarrier, AreTogether}
 use Rattle.run_book.proofs.Happenings.Entries.{own_then, other_then, deeds_marked}
 use Rattle.run_book.proofs.Happenings.More.{client_then, carrier_then, operator_carries}
-use Rattle.run_book.proofs.Happenings.Reach.{link_within, order_does}
+use Rattle.run_book.proofs.Happenings.OperatorSteps.{order_does}
+use Rattle.run_book.proofs.Happenings.Reach.{link_within}
 use Rattle.world_core.specs.declared.table.Table.{Table}
 use Rattle.world_core.specs.Worlds.{WorldView, Turn, IsWorld, Acts, log_at, stub_at, progress_at, notes_in, log_after}
 use Rattle.world_core.specs.Tables.{AreHistories, IsTurn, HasStepped, HasOperated, log_in, seen_of}
@@ -200,23 +204,25 @@ module _ (script : Script) (section number : ℕ) (step : OperatorStep) (old new
   }
 
   -- it takes its step
-  pub order_taken : (spent : Bool) → spent ≡ false → TakesOrder its step (seen_of script spent old) (seen_of script false new)
-  order_taken spent fresh = record {
-    deeds = ordered;
-    such = h.operates.such;
-    stubs = ap (λ stubs. stubs.items) h.stubs;
-    acts = record {
-      script = refl;
-      spent = sym fresh;
-      logs = operator_acted.logs;
-      settings = operator_acted.settings;
-      trails = operator_acted.trails;
-      goes_on = λ all w. world_then its ordered script spent old new operator_acted all w false
-          (λ client stub is. w.stubs client stub (subst (λ stubs. stub_at stubs client ≡ Some stub) (ap (λ stubs. stubs.items) h.stubs) is)
-          ∙ ap (client_after script.n client script.cache) (sym (other_then 1 (client + 1) all (notes_in its ordered) (λ same. omega (arith, same, (stub_got new.stubs.items client stub is).0)))))
-          (carrier_then script.n script.k (setup_of script) 1 all (notes_in its ordered) (operator_carries script.n script.clients) w.together
-          (histories_then its ordered script spent old new operator_acted all w)
-          (behind_go (shown_of (begun 1 old.door.centres)) script.n its ordered (centre_count (seen_of script spent old) all w) h.operates.leaves.behind)
-          (order_does step 1 section number ordered (trails_in all) h.operates.such));
-    };
-  }
+  pub order_taken : length old.door.centres ≡ script.n → IsOperatorStep script.n step → (spent : Bool) → spent ≡ false → TakesOrder its step (seen_of script spent old) (seen_of script false new)
+  order_taken count fits spent fresh =
+    let such : OperatorDeeds script.n step ordered = subst (λ n. OperatorDeeds n step ordered) count h.operates.such in
+    record {
+      deeds = ordered;
+      such = such;
+      stubs = ap (λ stubs. stubs.items) h.stubs;
+      acts = record {
+        script = refl;
+        spent = sym fresh;
+        logs = operator_acted.logs;
+        settings = operator_acted.settings;
+        trails = operator_acted.trails;
+        goes_on = λ all w. world_then its ordered script spent old new operator_acted all w false
+            (λ client stub is. w.stubs client stub (subst (λ stubs. stub_at stubs client ≡ Some stub) (ap (λ stubs. stubs.items) h.stubs) is)
+            ∙ ap (client_after script.n client script.cache) (sym (other_then 1 (client + 1) all (notes_in its ordered) (λ same. omega (arith, same, (stub_got new.stubs.items client stub is).0)))))
+            (carrier_then script.n script.k (setup_of script) 1 all (notes_in its ordered) (operator_carries script.n script.clients) w.together
+            (histories_then its ordered script spent old new operator_acted all w)
+            (behind_go (shown_of (begun 1 old.door.centres)) script.n its ordered (centre_count (seen_of script spent old) all w) h.operates.leaves.behind)
+            (order_does script.n script.k (setup_of script) all step section number ordered w.together (histories_then its ordered script spent old new operator_acted all w) fits such));
+      };
+    }

@@ -19,7 +19,7 @@ use Rattle.dc_talk.specs.Answers.{History}
 use Rattle.dc_talk.specs.Clients.{Client}
 use Rattle.dc_talk.specs.Rule.{client_after}
 use Rattle.dc_host.specs.Centres.{CentreTrail, new_centre, new_centres}
-use Rattle.dc_host.specs.KeptDoors.{centre_at, trail_at}
+use Rattle.dc_host.specs.KeptDoors.{centre_at, entries_of, trail_at}
 use Rattle.script_text.specs.declared.script.Script.{Script}
 use Rattle.client_stub.specs.Playing.{StubView}
 use Rattle.run_book.specs.Setups.{Setup, setup_of, settings_among}
@@ -62,9 +62,9 @@ log_else logs a (suc place) log low differs = get_or-set_other logs (a - 1) plac
 -- the trails of new centres are empty
 new_trails : (n k limit i : ℕ) → trail_at (new_centres n k limit) i ≡ []
 new_trails n k limit zero = refl
-new_trails n k limit (suc i) = ap (λ (o : Option CentreTrail). unwrap_or (option_map (λ (centre : CentreTrail). centre.entries) o) []) (slice_get-map (new_centre n k limit) (centres n) i) ∙ none (slice_get (centres n) i)
+new_trails n k limit (suc i) = ap entries_of (slice_get-map (new_centre n k limit) (centres n) i) ∙ none (slice_get (centres n) i)
   where
-    none : (o : Option ℕ) → unwrap_or (option_map (λ (centre : CentreTrail). centre.entries) (option_map (new_centre n k limit) o)) [] ≡ []
+    none : (o : Option ℕ) → entries_of (option_map (new_centre n k limit) o) ≡ []
     none None = refl
     none (Some me) = refl
 
@@ -129,7 +129,7 @@ histories_are n k setup cs all settings trails kept (suc place) low high =
     let mine : slice_get (map (λ (centre : CentreTrail). centre.settings) cs) place ≡ Some one.0.settings = slice_get-map (λ (centre : CentreTrail). centre.settings) cs place ∙ ap (option_map (λ (centre : CentreTrail). centre.settings)) one.1 in
     let due : slice_get (map (settings_among n k setup) (centres n)) place ≡ Some (settings_among n k setup (suc place)) = get_below (settings_among n k setup) n place (omega (arith, high)) ∙ ap (λ i. Some (settings_among n k setup i)) next in
     let same : one.0.settings ≡ settings_among n k setup (suc place) = same_Some one.0.settings (settings_among n k setup (suc place)) (sym mine ∙ (ap (λ (list : List Settings). slice_get list place) settings ∙ due)) in
-    let trail : one.0.entries ≡ trail_in (suc place) all = sym (ap (λ (o : Option CentreTrail). unwrap_or (option_map (λ (centre : CentreTrail). centre.entries) o) []) one.1) ∙ trails (suc place) in
+    let trail : one.0.entries ≡ trail_in (suc place) all = sym (ap entries_of one.1) ∙ trails (suc place) in
     let history : History one.0.settings one.0.entries = all_get (λ (centre : CentreTrail). History centre.settings centre.entries) cs place one.0 kept one.1 in
     subst (λ s. History s (trail_in (suc place) all)) same (subst (λ es. History one.0.settings es) trail history)
 

@@ -20,7 +20,8 @@ use Rattle.script_text.specs.declared.steps.OperatorStep.{OperatorStep}
 use Rattle.script_text.specs.declared.steps.Step.{Step}
 use Rattle.script_text.specs.declared.steps.Step.TheVariants.{Client as ClientTakes, Operator as OperatorTakes}
 use Rattle.script_text.specs.Rows.{section_of}
-use Rattle.script_text.specs.Deeds.{StepDeeds, OperatorDeeds, after_all, armed_after}
+use Rattle.script_text.specs.Deeds.{StepDeeds, after_all, armed_after}
+use Rattle.script_text.specs.Orders.{OperatorDeeds}
 use Rattle.client_stub.specs.Playing.{StubView}
 use Rattle.run_book.specs.Scripted.{client_steps, operator_steps}
 use Rattle.run_book.specs.Happenings.{ClientDoes}
@@ -78,7 +79,7 @@ pub record TakesStep (turn : Turn) (step : ClientStep) (old new : WorldView) : T
 -- the operator takes a step in its turn
 pub record TakesOrder (turn : Turn) (step : OperatorStep) (old new : WorldView) : Type 0 where
   pub deeds : List Deed
-  pub such : OperatorDeeds step deeds
+  pub such : OperatorDeeds old.script.n step deeds
   pub stubs : new.stubs ≡ old.stubs
   pub acts : Acts turn deeds old new
 

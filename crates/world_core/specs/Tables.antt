@@ -4,12 +4,13 @@ use Rattle.std.specs.List.{range_with_len}
 use Rattle.dc_talk.specs.Answers.{History}
 use Rattle.dc_talk.specs.Clients.{new_client}
 use Rattle.dc_talk.specs.Logs.{Logged}
+use Rattle.dc_talk.specs.Acting.{acting}
 use Rattle.dc_host.specs.Centres.{CentreTrail, new_centres}
 use Rattle.dc_host.specs.KeptDoors.{shown_of, begun}
 use Rattle.script_text.specs.declared.script.Script.{Script}
 use Rattle.script_text.specs.declared.steps.ClientStep.{ClientStep}
 use Rattle.script_text.specs.declared.steps.OperatorStep.{OperatorStep}
-use Rattle.client_stub.specs.Playing.{StubView, Takes, Operates, acting, beside}
+use Rattle.client_stub.specs.Playing.{StubView, Takes, Operates, beside}
 use Rattle.run_book.specs.Parts.{idle_log}
 use Rattle.world_core.specs.declared.table.Table.{Table}
 use Rattle.world_core.specs.Worlds.{WorldView, Turn, log_at}
@@ -68,6 +69,6 @@ pub record HasStepped (turn : Turn) (step : ClientStep) (old new : Table) : Type
 -- the operator took a step through the door in its turn
 pub record HasOperated (turn : Turn) (step : OperatorStep) (old new : Table) : Type 0 where
   pub log : Logged
-  pub operates : Operates step (acting (shown_of (begun turn.actor old.door.centres)) (log_in turn (log_at old.logs.items turn.actor))) (acting (shown_of new.door) log)
+  pub operates : Operates (length old.door.centres) step (acting (shown_of (begun turn.actor old.door.centres)) (log_in turn (log_at old.logs.items turn.actor))) (acting (shown_of new.door) log)
   pub stubs : new.stubs ≡ old.stubs
   pub turn_is : IsTurn turn log old new

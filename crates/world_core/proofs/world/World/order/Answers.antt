@@ -22,7 +22,8 @@ took c =
     let fresh : inside.spent ≡ false = ap (λ (w : WorldView). w.spent) c.self.view_is ∙ c.requires.fresh in
     let sound : IsSound (seen_of inside.script.now inside.spent inside.table) = c.self.invariant fresh in
     let within : 1 ≤ length inside.table.logs.items = omega (arith, sound.world.log_count) in
-    order_taken inside.script.now c.args.section c.args.number c.args.step.now inside.table c.order.new.self c.in_ok-order.ensures within inside.spent fresh
+    let fits : IsOperatorStep inside.script.now.n c.args.step.now = subst (λ (w : WorldView). IsOperatorStep w.script.n c.args.step.now) (sym c.self.view_is) c.requires.fits in
+    order_taken inside.script.now c.args.section c.args.number c.args.step.now inside.table c.order.new.self c.in_ok-order.ensures within (centre_count (seen_of inside.script.now inside.spent inside.table) sound.all sound.world) fits inside.spent fresh
 
 pub invariant_of-self-2 : goal.invariant_of-self-2
 invariant_of-self-2 c =
