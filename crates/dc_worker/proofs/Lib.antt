@@ -5,3 +5,5 @@ pub mod Sending
 pub mod Telling
 pub mod Turns
 pub mod Passing
+pub mod Alike
+pub mod Repeating

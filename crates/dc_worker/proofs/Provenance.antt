@@ -97,7 +97,7 @@ delivers_carry before to (item ∷ items) last (deed ∷ deeds) end sent (say, a
 after_send_carries : (before : List Deed) (r : Route) (last : Option ShipEnd) (after most : ℕ) (say : Say) (deeds : List Deed) (end : Option ShipEnd) → AfterSend r last say deeds end → CarriesAll (before ++ Asked r.from (Send after most) (Unheard say) ∷ []) deeds
 after_send_carries before r last after most (Records list) deeds end is =
     delivers_carry (before ++ Asked r.from (Send after most) (Unheard (Records list)) ∷ []) r.to list last deeds end
-        (λ item among. record { centre = r.from; after = after; most = most; list = list; answer = brought before r.from (Send after most) (Records list); among = among }) is
+    (λ item among. record { centre = r.from; after = after; most = most; list = list; answer = brought before r.from (Send after most) (Records list); among = among }) is
 after_send_carries before r last after most say deeds end is = subst (CarriesAll (before ++ Asked r.from (Send after most) (Unheard say) ∷ [])) (sym is.0) tt
 
 pub sends_carry : (before : List Deed) (r : Route) (last : Option ShipEnd) (after most : ℕ) (deeds : List Deed) (end : Option ShipEnd) → Sends r last (Send after most) deeds end → CarriesAll before deeds

@@ -1,7 +1,6 @@
 -- What is done over routes in turn.
-use Rattle.std.proofs.Common.{◌≡◌, ◌≢◌, ℕ, suc, ◌+◌, ◌==◌, Bool, true, false, not, cond, List, [], ◌∷◌, ◌++◌, map, filter, refl, sym, ap, ◌∙◌, subst, arith}
+use Rattle.std.proofs.Common.{◌≡◌, ◌≢◌, ℕ, suc, ◌+◌, ◌==◌, not, cond, List, [], ◌∷◌, ◌++◌, map, filter, sym, ap, ◌∙◌, subst, arith}
 use Rattle.std.specs.Prelude.{flat_map}
-use Rattle.std.specs.List.{range_with_len}
 use Rattle.std.proofs.lemmas.Bool.{eq-eqb, ne_eqb}
 use Rattle.std.proofs.lemmas.List.{append-nil, append_assoc, map-append}
 use Rattle.std.proofs.lemmas.List.Elements.{filter-append}
@@ -76,7 +75,7 @@ pub over_next : (round : Round) (k from to : ℕ) (a b c : Acting) → to ≡ k 
 over_next round k from to a b c next other before does =
     subst (λ all. CarriesSuch (InTurn (Does round) all) a c) (sym (routes_to_other k from to next other))
     (carries_such_then (InTurn (Does round) (routes_from k from)) (Does round (route from to)) (InTurn (Does round) (routes_from k from ++ route from to ∷ [])) a b c
-        (λ ds es first later. turns_then (Does round) (routes_from k from) (route from to ∷ []) ds es first (turns_one (Does round) (route from to) es later)) before does)
+    (λ ds es first later. turns_then (Does round) (routes_from k from) (route from to ∷ []) ds es first (turns_one (Does round) (route from to) es later)) before does)
 
 -- a round over the routes to the first centres is one over those to the first centres and to itself
 pub over_self : (round : Round) (k from to : ℕ) (a b : Acting) → to ≡ k + 1 → from ≡ to → CarriesSuch (InTurn (Does round) (routes_from k from)) a b → CarriesSuch (InTurn (Does round) (routes_from to from)) a b
@@ -100,4 +99,4 @@ pub over_more : (round : Round) (n k from : ℕ) (a b c : Acting) → from ≡ k
 over_more round n k from a b c next before does =
     subst (λ all. CarriesSuch (InTurn (Does round) all) a c) (sym (routes_of_more n k from next))
     (carries_such_then (InTurn (Does round) (routes_of n k)) (InTurn (Does round) (routes_from n from)) (InTurn (Does round) (routes_of n k ++ routes_from n from)) a b c
-        (λ ds es first later. turns_then (Does round) (routes_of n k) (routes_from n from) ds es first later) before does)
+    (λ ds es first later. turns_then (Does round) (routes_of n k) (routes_from n from) ds es first later) before does)

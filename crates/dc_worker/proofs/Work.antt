@@ -1,5 +1,5 @@
 -- What asks add to a log and to what a door shows, one after another.
-use Rattle.std.proofs.Common.{◌≡◌, ◌≢◌, ◌<◌, ◌^◌, ℕ, ◌==◌, Bool, true, false, length, List, [], ◌∷◌, ◌++◌, Some, Result, Ok, Err, IfOk, OnErr, refl, sym, ap, ◌∙◌, subst}
+use Rattle.std.proofs.Common.{◌≡◌, ◌≢◌, ◌<◌, ◌^◌, ℕ, ◌==◌, Bool, true, false, length, List, [], ◌∷◌, ◌++◌, Result, Ok, Err, IfOk, OnErr, refl, sym, ap, ◌∙◌, subst}
 use Rattle.std.proofs.lemmas.Bool.{eqb-true}
 use Rattle.std.proofs.lemmas.List.{append-nil}
 use Rattle.dc_talk.specs.declared.ask.Ask.{Ask}
@@ -12,7 +12,7 @@ use Rattle.dc_talk.specs.Logs.{noted, entry_for, entries_made}
 use Rattle.dc_talk.specs.Doors.{IsBehind, HasAsked}
 use Rattle.dc_talk.specs.Acting.{Acting, IsCutShort}
 use Rattle.dc_talk.proofs.Doors.{made_other, made_then}
-use Rattle.dc_talk.proofs.Acting.{behind_later, leaves_none, leaves_ask, leaves_then, cut_after, cut_behind}
+use Rattle.dc_talk.proofs.Acting.{behind_later, leaves_none, leaves_ask, leaves_then, cut_after}
 use Rattle.dc_worker.specs.Work.{Adds}
 
 -- no deeds

@@ -16,12 +16,7 @@ use tx_core::Record;
 
 /// Delivers a record to a centre behind the door. Answers what the centre said. An `Err` is want of memory:
 /// the record may have been delivered, and nothing is noted.
-pub fn deliver<D: Door>(
-    door: &mut D,
-    to: u8,
-    item: Record,
-    log: &mut Log,
-) -> Result<Say, NoMemory>
+pub fn deliver<D: Door>(door: &mut D, to: u8, item: Record, log: &mut Log) -> Result<Say, NoMemory>
     requires { IsBehind (D.shown door.old) to }
     ensures place { D.place door.new ≡ D.place door.old }
     ensures asks { IfOk result (λ say. Adds (acting (D.shown door.old) log.old) (acting (D.shown door.new) log.new) (Asked to (Deliver item) (Unheard say) ∷ [])) }

@@ -2,7 +2,6 @@ use Rattle.std.proofs.Common.{rules, ◌≡◌, [], ◌∷◌, refl, sym, subst}
 use Rattle.dc_talk.specs.declared.say.Say.{Say}
 use Rattle.dc_talk.specs.declared.log.Fate.TheVariants.{Unheard}
 use Rattle.dc_talk.specs.declared.log.Deed.TheVariants.{Asked}
-use Rattle.dc_talk.specs.Doors.{MayHaveAsked}
 use Rattle.dc_talk.specs.Acting.{acting, IsCutShort}
 use Rattle.dc_talk.proofs.Acting.{cut_quiet, cut_unasked}
 use Rattle.dc_talk.proofs.Doors.{done_ask, may_done}

@@ -13,10 +13,10 @@ returns-in-Items-clause-ships g c =
     let e = acting (g.D.Door.shown c.deliver_all.new.door) c.deliver_all.new.log in
     let r = route c.args.from c.args.to in
     ok_turn c.deliver_all.result
-        (λ end. AddsSuch (λ deeds. Delivers c.args.to c.in-Items.items None deeds end) b e)
-        (λ end. CarriesSuch (λ deeds. Ships r deeds end) a e)
-        (λ end delivered. ships_items a b e r c.in_ok-items.field-0 c.in-Items.items end c.in_ok-items.ensures.sends c.in-Items.is delivered)
-        c.deliver_all.ensures.delivers
+    (λ end. AddsSuch (λ deeds. Delivers c.args.to c.in-Items.items None deeds end) b e)
+    (λ end. CarriesSuch (λ deeds. Ships r deeds end) a e)
+    (λ end delivered. ships_items a b e r c.in_ok-items.field-0 c.in-Items.items end c.in_ok-items.ensures.sends c.in-Items.is delivered)
+    c.deliver_all.ensures.delivers
 
 pub returns-in-Items-clause-short : goal.returns-in-Items-clause-short
 returns-in-Items-clause-short g c =

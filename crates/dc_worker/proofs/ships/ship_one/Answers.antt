@@ -1,8 +1,6 @@
-use Rattle.std.proofs.Common.{◌≡◌, ◌-◌, List, Option, Some, sym, ◌∙◌}
+use Rattle.std.proofs.Common.{◌-◌, Some, sym, ◌∙◌}
 use Rattle.dc_talk.specs.declared.ask.Ask.TheVariants.{Send}
-use Rattle.dc_talk.specs.declared.line.ShipEnd.{ShipEnd}
 use Rattle.dc_talk.specs.declared.line.ShipEnd.TheVariants.{Absent}
-use Rattle.dc_talk.specs.declared.log.Deed.{Deed}
 use Rattle.dc_talk.specs.Acting.{acting, IsCutShort}
 use Rattle.script_text.specs.Carrying.{route, Delivers, Sends}
 use Rattle.dc_worker.specs.Work.{AddsSuch, CarriesSuch}
@@ -17,10 +15,10 @@ returns-in-Items-clause-ships g c =
     let e = acting (g.D.Door.shown c.deliver_all.new.door) c.deliver_all.new.log in
     let r = route c.args.from c.args.to in
     ok_turn c.deliver_all.result
-        (λ end. AddsSuch (λ deeds. Delivers c.args.to c.in-Items.items (Some (Absent c.args.seq)) deeds end) b e)
-        (λ end. CarriesSuch (λ deeds. Sends r (Some (Absent c.args.seq)) (Send (c.args.seq - 1) 1) deeds end) a e)
-        (λ end delivered. sends_items a b e r (Some (Absent c.args.seq)) (c.args.seq - 1) 1 c.in_ok-say.say c.in-Items.items end c.in_ok-say.ensures.asks c.in-Items.ensures delivered)
-        c.deliver_all.ensures.delivers
+    (λ end. AddsSuch (λ deeds. Delivers c.args.to c.in-Items.items (Some (Absent c.args.seq)) deeds end) b e)
+    (λ end. CarriesSuch (λ deeds. Sends r (Some (Absent c.args.seq)) (Send (c.args.seq - 1) 1) deeds end) a e)
+    (λ end delivered. sends_items a b e r (Some (Absent c.args.seq)) (c.args.seq - 1) 1 c.in_ok-say.say c.in-Items.items end c.in_ok-say.ensures.asks c.in-Items.ensures delivered)
+    c.deliver_all.ensures.delivers
 
 pub returns-in-Items-clause-short : goal.returns-in-Items-clause-short
 returns-in-Items-clause-short g c =
