@@ -1,5 +1,5 @@
 -- What deeds leave in a log and at a door, one after another, and early ends behind them.
-use Rattle.std.proofs.Common.{◌≡◌, ◌≤◌, ℕ, map, List, [], ◌∷◌, ◌++◌, Some, refl, sym, ap, ◌∙◌, subst}
+use Rattle.std.proofs.Common.{◌≡◌, ◌≤◌, ℕ, map, List, [], ◌∷◌, ◌++◌, Some, None, refl, sym, ap, ◌∙◌, subst}
 use Rattle.std.specs.Prelude.{All}
 use Rattle.std.proofs.lemmas.List.{append-nil, append_assoc, map-append}
 use Rattle.std.proofs.lemmas.List.Elements.{All-nil, All-cons, All-head, All-tail, All-append}
@@ -9,10 +9,10 @@ use Rattle.dc_talk.specs.declared.log.Fate.{Fate}
 use Rattle.dc_talk.specs.declared.log.Deed.{Deed}
 use Rattle.dc_talk.specs.declared.log.Deed.TheVariants.{Did, Asked, Told}
 use Rattle.dc_talk.specs.declared.log.Note.{Note}
-use Rattle.dc_talk.specs.Logs.{Logged, marked, noted, answered, entry_for}
+use Rattle.dc_talk.specs.Logs.{Logged, marked, noted, answered, exchanged_in, entry_for}
 use Rattle.dc_talk.specs.Doors.{DoorView, IsBehind, IsSameDoor, HasAsked, HasNotAsked, HasDone, MayHaveAsked}
 use Rattle.dc_talk.specs.Acting.{Acting, noted_all, IsAskBehind, Leaves, IsCutShort}
-use Rattle.dc_talk.proofs.Doors.{done_none, done_ask, done_then, may_not, may_done, may_then}
+use Rattle.dc_talk.proofs.Doors.{done_none, done_quiet, done_ask, done_then, may_not, may_done, may_then}
 
 -- ---- logs
 
@@ -52,6 +52,14 @@ leaves_ask a b i ask fate say got behind asked log = record {
   log = log;
   door = done_ask a.door b.door i ask fate say got asked;
   behind = All-cons (IsAskBehind a.door) (Asked i ask fate) [] behind (All-nil (IsAskBehind a.door));
+}
+
+-- one deed that exchanged nothing with any centre, with its note
+pub leaves_quiet : (a b : Acting) (deed : Deed) → ((i : ℕ) → exchanged_in i deed ≡ None) → IsAskBehind a.door deed → b.door ≡ a.door → b.log ≡ noted a.log deed → Leaves a b (deed ∷ [])
+leaves_quiet a b deed quiet behind door log = record {
+  log = log;
+  door = subst (λ (door : DoorView). HasDone a.door door (deed ∷ [])) (sym door) (done_quiet a.door deed quiet);
+  behind = All-cons (IsAskBehind a.door) deed [] behind (All-nil (IsAskBehind a.door));
 }
 
 -- deeds after deeds

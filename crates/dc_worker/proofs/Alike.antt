@@ -19,12 +19,7 @@ use Rattle.dc_talk.specs.Trails.{grown, applied, taught_in, taught, told, switch
 use Rattle.dc_talk.specs.Answers.{fits, send_answer, deliver_answer, tells, answer}
 use Rattle.dc_talk.proofs.Vectors.{same_vector-true}
 use Rattle.script_text.specs.Carrying.{is_news}
-
--- after both trails the centre has applied the same, was told the same of the others, and is stopped or is not
-pub record IsAlike (s : Settings) (x y : List Entry) : Type 0 where
-  pub lists : applied s.n x ≡ applied s.n y
-  pub rows : (j : ℕ) → j ≢ s.me → told s.n j x ≡ told s.n j y
-  pub switch : stopped x ≡ stopped y
+use Rattle.dc_worker.specs.Settled.{IsAlike}
 
 pub alike_self : (s : Settings) (x : List Entry) → IsAlike s x x
 alike_self s x = record { lists = refl; rows = λ j other. refl; switch = refl }

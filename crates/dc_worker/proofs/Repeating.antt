@@ -28,8 +28,8 @@ use Rattle.dc_talk.specs.Logs.{entry_for, entries_made}
 use Rattle.dc_talk.specs.Answers.{answer, History}
 use Rattle.dc_talk.proofs.Doors.{made_one, made_other, made_then}
 use Rattle.script_text.specs.Carrying.{Route, route, routes, is_there, delivery_end, Delivers, AfterSend, Sends, AfterReport, Ships, AfterTold, Tells, InTurn, no_turn, next_turn, Passes, is_news}
-use Rattle.dc_worker.specs.Settled.{Centres, AreNumbered, behind_deeds, PassesAmong}
-use Rattle.dc_worker.proofs.Alike.{IsAlike, alike_self, alike_then, IsCarried, alike_answer, alike_more}
+use Rattle.dc_worker.specs.Settled.{Centres, AreNumbered, behind_deeds, PassesAmong, IsAlike}
+use Rattle.dc_worker.proofs.Alike.{alike_self, alike_then, IsCarried, alike_answer, alike_more}
 
 -- ---- one run
 
@@ -283,7 +283,7 @@ run_begins : (c : Centres) (actor : ℕ) (ds : List Deed) → Runs c (behind_dee
 run_begins c actor ds = record { now = c.trails; whole = λ i. ap (λ all. c.trails i ++ entries_made actor i all) (sym (append-nil ds)); alike = λ i. alike_self (c.settings i) (c.trails i) }
 
 -- a pass without news leaves each centre as it was
-passed_alike : (c : Centres) (actor : ℕ) (ds : List Deed) → AreNumbered c → PassesAmong c actor ds → list_any is_news ds ≡ false → (i : ℕ) → IsAlike (c.settings i) (c.trails i ++ entries_made actor i ds) (c.trails i)
+pub passed_alike : (c : Centres) (actor : ℕ) (ds : List Deed) → AreNumbered c → PassesAmong c actor ds → list_any is_news ds ≡ false → (i : ℕ) → IsAlike (c.settings i) (c.trails i ++ entries_made actor i ds) (c.trails i)
 passed_alike c actor ds numbered pass quiet i =
     let well : EndsWell c (behind_deeds c actor ds) = record { numbered = numbered; histories = pass.histories } in
     let b : Both = record { first = behind_deeds c actor ds; later = behind_deeds c actor ds; one = actor; two = actor } in

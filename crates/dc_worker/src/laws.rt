@@ -7,7 +7,7 @@ ghost use Rattle.dc_talk.specs.declared.line.ShipEnd.{ShipEnd};
 ghost use Rattle.dc_talk.specs.declared.log.Deed.{Deed};
 ghost use Rattle.script_text.specs.Carrying.{Route, Sends, Ships, Tells, Settles, is_news};
 ghost use Rattle.dc_worker.specs.Provenance.{CarriesAll};
-ghost use Rattle.dc_worker.specs.Settled.{Centres, AreNumbered, PassesAmong, behind_deeds};
+ghost use Rattle.dc_worker.specs.Settled.{AreNumbered, Centres, IsAlike, PassesAmong, behind_deeds};
 
 /// What the deeds of a carrier carry, an earlier one of them brought: a record that is delivered was in a centre's
 /// answer to a send, and a vector that is taught in the answer of its centre to a report. That stays so with more
@@ -21,9 +21,10 @@ pub fn law_carried()
     ensures both { (before ds es : List Deed) → CarriesAll before ds → CarriesAll (before ++ ds) es → CarriesAll before (ds ++ es) }
 {}
 
-/// Once an actor made a pass alone among centres, and nothing in it was news, nothing is news in a pass that any
-/// actor makes alone behind it: it is the same pass again.
+/// Where an actor makes a pass alone among centres, and nothing in it is news, each centre is left as it was, and
+/// nothing is news in a pass that any actor makes alone behind it: it is the same pass again.
 pub fn law_settled()
+    ensures kept { (c : Centres) (actor : ℕ) (deeds : List Deed) → AreNumbered c → PassesAmong c actor deeds → list_any is_news deeds ≡ false → (i : ℕ) → IsAlike (c.settings i) ((behind_deeds c actor deeds).trails i) (c.trails i) }
     ensures same { (c : Centres) (actor again : ℕ) (first later : List Deed) → AreNumbered c → PassesAmong c actor first → list_any is_news first ≡ false → PassesAmong (behind_deeds c actor first) again later → later ≡ first }
     ensures quiet { (c : Centres) (actor again : ℕ) (first later : List Deed) → AreNumbered c → PassesAmong c actor first → list_any is_news first ≡ false → PassesAmong (behind_deeds c actor first) again later → list_any is_news later ≡ false }
 {}
