@@ -1,5 +1,5 @@
 -- What deeds leave in a log and at a door, one after another, and early ends behind them.
-use Rattle.std.proofs.Common.{◌≡◌, ◌≤◌, ℕ, map, List, [], ◌∷◌, ◌++◌, Some, refl, sym, ap, ◌∙◌, subst}
+use Rattle.std.proofs.Common.{◌≡◌, ◌≤◌, ℕ, map, List, [], ◌∷◌, ◌++◌, Some, None, refl, sym, ap, ◌∙◌, subst}
 use Rattle.std.specs.Prelude.{All}
 use Rattle.std.proofs.lemmas.List.{append-nil, append_assoc, map-append}
 use Rattle.std.proofs.lemmas.List.Elements.{All-nil, All-cons, All-head, All-tail, All-append}
@@ -11,7 +11,7 @@ use Rattle.dc_talk.specs.declared.log.Deed.TheVariants.{Did, Asked, Told}
 use Rattle.dc_talk.specs.declared.log.Note.{Note}
 use Rattle.dc_talk.specs.declared.line.Line.{Line}
 use Rattle.dc_talk.specs.Entries.{Entry}
-use Rattle.dc_talk.specs.Logs.{Logged, marked, noted, answered, entry_for}
+use Rattle.dc_talk.specs.Logs.{Logged, marked, noted, answered, exchanged_in, entry_for}
 use Rattle.dc_talk.specs.Doors.{DoorView, IsBehind, IsSameDoor, HasAsked, HasNotAsked, HasDone, MayHaveAsked}
 use Rattle.dc_talk.specs.Acting.{Acting, acting, noted_all, IsAskBehind, Leaves, IsCutShort}
 use Rattle.dc_talk.proofs.Doors.{done_none, done_quiet, done_ask, done_then, may_none, may_not, may_asked, may_done, may_then}
@@ -62,6 +62,14 @@ leaves_line door log later line is = record {
   log = is;
   door = done_quiet door (Told line) (λ i. refl);
   behind = All-cons (IsAskBehind door) (Told line) [] tt (All-nil (IsAskBehind door));
+}
+
+-- one deed that exchanged nothing with any centre, with its note
+pub leaves_quiet : (a b : Acting) (deed : Deed) → ((i : ℕ) → exchanged_in i deed ≡ None) → IsAskBehind a.door deed → b.door ≡ a.door → b.log ≡ noted a.log deed → Leaves a b (deed ∷ [])
+leaves_quiet a b deed quiet behind door log = record {
+  log = log;
+  door = subst (λ (door : DoorView). HasDone a.door door (deed ∷ [])) (sym door) (done_quiet a.door deed quiet);
+  behind = All-cons (IsAskBehind a.door) deed [] behind (All-nil (IsAskBehind a.door));
 }
 
 -- deeds after deeds

@@ -1,3 +1,4 @@
+pub mod Vectors
 pub mod Belonging
 pub mod ListDoors
 pub mod Answers

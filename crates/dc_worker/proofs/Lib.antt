@@ -4,3 +4,5 @@ pub mod Sending
 pub mod Telling
 pub mod Turns
 pub mod Passing
+pub mod Alike
+pub mod Repeating

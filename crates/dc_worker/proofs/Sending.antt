@@ -1,8 +1,7 @@
 -- Sends with the deliveries behind them.
-use Rattle.std.proofs.Common.{◌≡◌, ℕ, List, [], ◌∷◌, ◌++◌, Option, Some, None, refl, sym, ap, ◌∙◌, subst}
+use Rattle.std.proofs.Common.{◌≡◌, ℕ, List, [], ◌∷◌, ◌++◌, Option, None, refl, sym, ap, subst}
 use Rattle.vv_core.specs.Vectors.{at}
 use Rattle.tx_core.specs.declared.tx.Record.{Record}
-use Rattle.dc_talk.specs.declared.ask.Ask.{Ask}
 use Rattle.dc_talk.specs.declared.ask.Ask.TheVariants.{Send, Report}
 use Rattle.dc_talk.specs.declared.ask.TheConstants.{MOST_SENT}
 use Rattle.dc_talk.specs.declared.say.Say.{Say}
@@ -12,7 +11,7 @@ use Rattle.dc_talk.specs.declared.log.Deed.{Deed}
 use Rattle.dc_talk.specs.declared.log.Deed.TheVariants.{Asked}
 use Rattle.dc_talk.specs.declared.line.ShipEnd.{ShipEnd}
 use Rattle.dc_talk.specs.Acting.{Acting}
-use Rattle.script_text.specs.Carrying.{Route, send_end, stopped_end, Delivers, AfterSend, Sends, AfterReport, Ships}
+use Rattle.script_text.specs.Carrying.{Route, stopped_end, Delivers, AfterSend, Sends, AfterReport, Ships}
 use Rattle.dc_worker.specs.declared.sends.Sent.{Sent}
 use Rattle.dc_worker.specs.declared.sends.Sent.TheVariants.{Items, Ended}
 use Rattle.dc_worker.specs.Work.{Adds, AddsSuch, CarriesSuch}

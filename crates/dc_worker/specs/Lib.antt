@@ -1,3 +1,4 @@
 pub mod Work
 pub mod Sends
 pub mod Rounds
+pub mod Settled

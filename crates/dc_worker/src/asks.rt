@@ -12,7 +12,7 @@ use dc_talk::{Ask, Deed, Door, Fate, Log, Say};
 use ids_core::NoMemory;
 
 /// Has a centre behind the door answer an ask, and notes both as heard by no session. Answers what the centre
-/// said. An `Err` is want of memory: the centre may have been asked, and nothing is noted.
+/// said. An `Err` is want of memory: the centre may have been asked.
 pub fn ask_unheard<D: Door>(
     door: &mut D,
     centre: u8,

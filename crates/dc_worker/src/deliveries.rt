@@ -14,8 +14,8 @@ use dc_talk::{Ask, Door, Log, Records, Say, ShipEnd};
 use ids_core::NoMemory;
 use tx_core::Record;
 
-/// Delivers a record to a centre behind the door. Answers what the centre said. An `Err` is want of memory:
-/// the record may have been delivered, and nothing is noted.
+/// Delivers a record to a centre behind the door, and notes the answer. Answers what the centre said. An `Err` is
+/// want of memory: the record may have been delivered.
 pub fn deliver<D: Door>(door: &mut D, to: u8, item: Record, log: &mut Log) -> Result<Say, NoMemory>
     requires { IsBehind (D.shown door.old) to }
     ensures place { D.place door.new ≡ D.place door.old }
@@ -27,7 +27,7 @@ pub fn deliver<D: Door>(door: &mut D, to: u8, item: Record, log: &mut Log) -> Re
 
 /// Delivers records to a centre behind the door, in order, until one is not there: until a delivery is answered
 /// neither `Applied` nor `Old`. Answers how the last one ended, and `last` where there is none. An `Err` is want
-/// of memory: some records may have been delivered, with notes of all or of all but one.
+/// of memory: some records may have been delivered.
 pub fn deliver_all<D: Door>(
     door: &mut D,
     to: u8,

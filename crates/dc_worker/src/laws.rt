@@ -1,11 +1,13 @@
 // The laws of what is carried. Each is a function with nothing to do, whose contract is the law.
-ghost use Rattle.std.specs.Prelude.{ℕ, List, [], ◌++◌, Option};
+ghost use Rattle.std.specs.Prelude.{◌≡◌, ℕ, false, List, [], ◌++◌, Option};
+ghost use Rattle.std.specs.List.{list_any};
 ghost use Rattle.dc_talk.specs.declared.ask.Ask.TheVariants.{Send};
 ghost use Rattle.dc_talk.specs.declared.line.Line.{Line};
 ghost use Rattle.dc_talk.specs.declared.line.ShipEnd.{ShipEnd};
 ghost use Rattle.dc_talk.specs.declared.log.Deed.{Deed};
-ghost use Rattle.script_text.specs.Carrying.{Route, Sends, Ships, Tells, Settles};
+ghost use Rattle.script_text.specs.Carrying.{Route, Sends, Ships, Tells, Settles, is_news};
 ghost use Rattle.script_text.specs.Provenance.{CarriesAll};
+ghost use Rattle.dc_worker.specs.Settled.{AreNumbered, Centres, IsAlike, PassesAmong, behind_deeds};
 
 /// What the deeds of a carrier carry, an earlier one of them brought: a record that is delivered was in a centre's
 /// answer to a send, and a vector that is taught in the answer of its centre to a report. That stays so with more
@@ -17,4 +19,12 @@ pub fn law_carried()
     ensures settles { (n : ℕ) (deeds : List Deed) → Settles n deeds → CarriesAll [] deeds }
     ensures more { (front before deeds : List Deed) → CarriesAll before deeds → CarriesAll (front ++ before) deeds }
     ensures both { (before ds es : List Deed) → CarriesAll before ds → CarriesAll (before ++ ds) es → CarriesAll before (ds ++ es) }
+{}
+
+/// Where an actor makes a pass alone among centres, and nothing in it is news, each centre is left as it was, and
+/// nothing is news in a pass that any actor makes alone behind it: it is the same pass again.
+pub fn law_settled()
+    ensures kept { (c : Centres) (actor : ℕ) (deeds : List Deed) → AreNumbered c → PassesAmong c actor deeds → list_any is_news deeds ≡ false → (i : ℕ) → IsAlike (c.settings i) ((behind_deeds c actor deeds).trails i) (c.trails i) }
+    ensures same { (c : Centres) (actor again : ℕ) (first later : List Deed) → AreNumbered c → PassesAmong c actor first → list_any is_news first ≡ false → PassesAmong (behind_deeds c actor first) again later → later ≡ first }
+    ensures quiet { (c : Centres) (actor again : ℕ) (first later : List Deed) → AreNumbered c → PassesAmong c actor first → list_any is_news first ≡ false → PassesAmong (behind_deeds c actor first) again later → list_any is_news later ≡ false }
 {}

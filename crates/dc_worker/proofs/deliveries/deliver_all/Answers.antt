@@ -1,13 +1,8 @@
 use Rattle.std.proofs.lemmas.List.{nil_from_length}
-use Rattle.std.proofs.Common.{rules, arith, ◌≡◌, List, [], ◌∷◌, Option, refl, ◌∙◌}
-use Rattle.tx_core.specs.declared.tx.Record.{Record}
-use Rattle.dc_talk.specs.declared.log.Deed.{Deed}
-use Rattle.dc_talk.specs.declared.line.ShipEnd.{ShipEnd}
+use Rattle.std.proofs.Common.{rules, arith, ◌≡◌, [], refl, ◌∙◌}
 use Rattle.dc_talk.specs.Acting.{acting, IsCutShort}
-use Rattle.script_text.specs.Carrying.{Delivers}
-use Rattle.dc_worker.specs.Work.{AddsSuch}
 use Rattle.dc_worker.proofs.Work.{cut_then}
-use Rattle.dc_worker.proofs.Delivering.{DeliversOn, delivers_on_none, delivers_on_more, delivers_on_last, delivers_on_all}
+use Rattle.dc_worker.proofs.Delivering.{delivers_on_none, delivers_on_more, delivers_on_last, delivers_on_all}
 use Rattle.dc_worker.proofs.deliveries.deliver_all.Goals as goal
 
 pub items-init : goal.items-init

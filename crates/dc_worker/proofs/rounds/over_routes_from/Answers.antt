@@ -1,4 +1,4 @@
-use Rattle.std.proofs.Common.{rules, ◌≡◌, refl, ◌∙◌}
+use Rattle.std.proofs.Common.{rules, refl, ◌∙◌}
 use Rattle.dc_talk.specs.Acting.{acting, IsCutShort}
 use Rattle.dc_worker.specs.Rounds.{Does}
 use Rattle.dc_worker.proofs.Work.{cut_then}

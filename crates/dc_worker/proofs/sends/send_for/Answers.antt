@@ -1,4 +1,4 @@
-use Rattle.std.proofs.Common.{rules, ◌≡◌, [], ◌∷◌}
+use Rattle.std.proofs.Common.{rules}
 use Rattle.dc_talk.specs.Acting.{acting, IsCutShort}
 use Rattle.script_text.specs.Carrying.{route}
 use Rattle.dc_worker.proofs.Work.{cut_then}

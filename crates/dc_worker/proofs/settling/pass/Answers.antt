@@ -1,7 +1,6 @@
 use Rattle.std.proofs.Common.{rules, List, length, ap}
 use Rattle.dc_talk.specs.declared.log.Note.{Note}
 use Rattle.dc_talk.specs.Acting.{acting, IsCutShort}
-use Rattle.script_text.specs.Carrying.{Passes, is_news}
 use Rattle.dc_worker.proofs.Work.{cut_then}
 use Rattle.dc_worker.proofs.Passing.{pass_of_both}
 use Rattle.dc_worker.proofs.settling.pass.Goals as goal

@@ -1,8 +1,6 @@
-use Rattle.std.proofs.Common.{◌≡◌, ◌-◌, List, Option, Some, sym, ◌∙◌}
+use Rattle.std.proofs.Common.{◌-◌, Some, sym, ◌∙◌}
 use Rattle.dc_talk.specs.declared.ask.Ask.TheVariants.{Send}
-use Rattle.dc_talk.specs.declared.line.ShipEnd.{ShipEnd}
 use Rattle.dc_talk.specs.declared.line.ShipEnd.TheVariants.{Absent}
-use Rattle.dc_talk.specs.declared.log.Deed.{Deed}
 use Rattle.dc_talk.specs.Acting.{acting, IsCutShort}
 use Rattle.script_text.specs.Carrying.{route, Delivers, Sends}
 use Rattle.dc_worker.specs.Work.{AddsSuch, CarriesSuch}
