@@ -1,17 +1,27 @@
 -- What a step through the door leaves of a world's parts.
-use Rattle.std.proofs.Common.{◌≡◌, ◌≤◌, ◌<◌, ℕ, suc, ◌+◌, ◌-◌, List, map, length, get_or, Some, refl, sym, ap, ◌∙◌, subst, arith}
+use Rattle.std.proofs.Common.{◌≡◌, ◌≤◌, ◌<◌, ℕ, suc, ◌+◌, ◌-◌, List, [], ◌∷◌, map, length, get_or, Some, refl, sym, ap, ◌∙◌, subst, arith}
 use Rattle.std.specs.Prelude.{slice_get, slice_set}
 use Rattle.std.proofs.lemmas.Option.{get_or_from_slice_get, slice_get_read}
-use Rattle.dc_talk.specs.Logs.{Logged}
+use Rattle.std.proofs.lemmas.List.Elements.{All-nil, All-cons}
+use Rattle.hist_lock.specs.History.{entry}
+use Rattle.dc_talk.specs.declared.ask.Ask.{Ask}
+use Rattle.dc_talk.specs.declared.say.Say.{Say}
+use Rattle.dc_talk.specs.declared.log.Fate.TheVariants.{Unheard}
+use Rattle.dc_talk.specs.declared.log.Deed.{Deed}
+use Rattle.dc_talk.specs.declared.log.Deed.TheVariants.{Asked}
+use Rattle.dc_talk.specs.Doors.{IsBehind, HasAsked, HasDone}
+use Rattle.dc_talk.specs.Logs.{Logged, noted}
+use Rattle.dc_talk.proofs.Doors.{done_ask}
 use Rattle.dc_host.specs.declared.kept_door.KeptPlace.{KeptPlace}
 use Rattle.dc_host.specs.Centres.{CentreTrail}
 use Rattle.dc_host.specs.KeptDoors.{KeptView, shown_of, place_of, begun}
 use Rattle.script_text.specs.declared.steps.ClientStep.{ClientStep}
+use Rattle.dc_talk.specs.Acting.{IsAskBehind}
 use Rattle.client_stub.specs.Playing.{StubView, IsLinkBehind, Takes, beside}
 use Rattle.run_book.specs.Parts.{idle_log}
 use Rattle.world_core.specs.declared.table.Table.{Table}
 use Rattle.world_core.specs.Worlds.{Turn, log_at}
-use Rattle.world_core.specs.Tables.{AreHistories, log_in, HasStepped}
+use Rattle.world_core.specs.Tables.{AreHistories, log_in, outside, HasStepped, HasAskedOnce}
 
 -- the log that was found at a place is the one of the actor behind it
 pub log_found : (logs : List Logged) (place : ℕ) (log : Logged) → place < length logs → log ≡ get_or logs place log → log_at logs (place + 1) ≡ log
@@ -49,4 +59,23 @@ step_left client section number step old new door stub later found before log ra
         settings = settings_kept turn.actor old.door.centres door new.door begins same;
         histories = histories;
       };
+    }
+
+-- an ask outside of the script
+pub ask_left : (actor centre : ℕ) (ask : Ask) (say : Say) (old new : Table) (door : KeptView) (found before log : Logged) → (1 ≤ actor) × (actor ≤ length old.logs.items) → IsBehind (shown_of (begun actor old.door.centres)) centre → door ≡ begun actor old.door.centres → found ≡ get_or old.logs.items (actor - 1) found → before ≡ record found { section = 0; step = 0 } → place_of new.door ≡ place_of door → HasAsked (shown_of door) (shown_of new.door) centre (entry door.actor ask say) → log ≡ noted before (Asked centre ask (Unheard say)) → new.stubs ≡ old.stubs → new.logs.items ≡ slice_set old.logs.items (actor - 1) log → AreHistories new.door.centres → HasAskedOnce actor centre ask old new
+ask_left actor centre ask say old new door found before log range behind begins found_is before_is same has log_is stubs logs histories =
+    let deed : Deed = Asked centre ask (Unheard say) in
+    let own : actor - 1 + 1 ≡ actor = omega (arith, range.0) in
+    let at : log_at old.logs.items actor ≡ found = subst (λ a. log_at old.logs.items a ≡ found) own (log_found old.logs.items (actor - 1) found (omega (arith, range.0, range.1)) found_is) in
+    let first : before ≡ log_in (outside actor) (log_at old.logs.items actor) = before_is ∙ ap (log_in (outside actor)) (sym at) in
+    record {
+      say = say;
+      log = log;
+      leaves = record {
+        log = log_is ∙ ap (λ log. noted log deed) first;
+        door = subst (λ (door : KeptView). HasDone (shown_of door) (shown_of new.door) (deed ∷ [])) begins (done_ask (shown_of door) (shown_of new.door) centre ask (Unheard say) say refl has);
+        behind = All-cons (IsAskBehind (shown_of (begun actor old.door.centres))) deed [] behind (All-nil (IsAskBehind (shown_of (begun actor old.door.centres))));
+      };
+      stubs = stubs;
+      turn_is = record { logs = logs; settings = settings_kept actor old.door.centres door new.door begins same; histories = histories };
     }

@@ -5,3 +5,4 @@ pub mod Turns
 pub mod Books
 pub mod Lines
 pub mod Naming
+pub mod Outside

@@ -1,12 +1,11 @@
 -- A script's sections, played one after another.
-use Rattle.std.proofs.Common.{◌≡◌, ◌≢◌, ◌≤◌, ◌<◌, ℕ, ◌+◌, ◌-◌, Bool, true, false, cond, ⊎_elim, List, [], ◌∷◌, ◌++◌, map, length, take, get_or, Some, None, refl, sym, ap, ◌∙◌, subst, arith}
+use Rattle.std.proofs.Common.{◌≡◌, ◌≢◌, ◌≤◌, ◌<◌, ℕ, ◌+◌, ◌-◌, cond, ⊎_elim, List, [], ◌∷◌, ◌++◌, map, length, take, get_or, Some, None, refl, sym, ap, ◌∙◌, subst, arith}
 use Rattle.std.specs.Prelude.{◌==◌, slice_get, slice_set, fold, All}
 use Rattle.std.proofs.lemmas.Bool.{cases_eq, eq-eqb, ne_eqb}
 use Rattle.std.proofs.lemmas.Option.{same_Some, slice_get_within}
 use Rattle.std.proofs.lemmas.List.{take_more, length-take-le}
 use Rattle.std.proofs.lemmas.List.Folds.{fold-map}
 use Rattle.std.proofs.lemmas.List.FromFn.{length-map-range_with_len}
-use Rattle.std.proofs.Math.ListN.{length-set}
 use Rattle.dc_talk.specs.declared.log.Deed.{Deed}
 use Rattle.dc_talk.specs.declared.log.Note.{Note}
 use Rattle.dc_talk.specs.Logs.{marked}
@@ -24,13 +23,13 @@ use Rattle.script_text.specs.Scripts.{header_of}
 use Rattle.script_text.specs.Deeds.{Progress, StepDeeds, after_all, armed_after, stepped}
 use Rattle.client_stub.specs.Playing.{StubView}
 use Rattle.run_book.specs.Setups.{Setup, setup_of}
-use Rattle.run_book.specs.Happenings.{Happened, notes_by, happening, ClientDoes, AreHistories}
+use Rattle.run_book.specs.Happenings.{Happened, happening, ClientDoes, AreHistories}
 use Rattle.run_book.specs.Scripted.{new_progress}
 use Rattle.run_book.specs.Played.{HavePlayed}
 use Rattle.run_book.proofs.Happenings.Entries.{own_then, other_then, deeds_marked}
 use Rattle.run_book.proofs.Happenings.Playing.{none_played}
 use Rattle.run_book.proofs.Happenings.Steps.{next_notes, client_takes, operator_takes}
-use Rattle.world_core.specs.Worlds.{WorldView, Turn, IsWorld, Acts, log_at, stub_at, progress_at, notes_in}
+use Rattle.world_core.specs.Worlds.{WorldView, Turn, IsWorld, log_at, stub_at, progress_at, notes_in}
 use Rattle.world_core.specs.Tables.{new_stub, new_stubs}
 use Rattle.world_core.specs.Events.{TakesStep, TakesOrder, TakesOne, PlaysLine}
 use Rattle.world_core.specs.Runs.{HasPlayed}

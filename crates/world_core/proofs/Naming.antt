@@ -17,7 +17,7 @@ use Rattle.script_text.specs.declared.steps.Section.{Section}
 use Rattle.script_text.specs.declared.steps.Step.{Step}
 use Rattle.script_text.specs.declared.steps.Step.TheVariants.{Client, Operator}
 use Rattle.script_text.specs.Steps.{IsCount, IsStep, IsOperatorStep, IsStepOf}
-use Rattle.script_text.specs.Rows.{section_of, IsLine}
+use Rattle.script_text.specs.Rows.{IsLine}
 use Rattle.script_text.specs.Scripts.{header_of}
 use Rattle.run_book.specs.Scripted.{client_step, operator_step, client_steps, operator_steps}
 use Rattle.world_core.specs.Events.{numbered, step_named}
@@ -70,12 +70,12 @@ module _ {X Y : Type 0} (f : X → Option Y) (xs : List X) (place left : ℕ) (x
 -- ---- steps of a script
 
 -- what comes of something that is there
-record Comes {X Y : Type 0} (f : X → Option Y) (o : Option X) (y : Y) : Type 0 where
+pub record Comes {X Y : Type 0} (f : X → Option Y) (o : Option X) (y : Y) : Type 0 where
   pub from : X
   pub there : o ≡ Some from
   pub gives : f from ≡ Some y
 
-comes : {X Y : Type 0} (f : X → Option Y) (o : Option X) (y : Y) → option_and_then f o ≡ Some y → Comes f o y
+pub comes : {X Y : Type 0} (f : X → Option Y) (o : Option X) (y : Y) → option_and_then f o ≡ Some y → Comes f o y
 comes f None y is = absurd (none-some y is)
 comes f (Some x) y is = record { from = x; there = refl; gives = is }
 

@@ -1,22 +1,18 @@
 -- A turn of a client or of the operator in a world.
-use Rattle.std.proofs.Common.{◌≡◌, ◌≢◌, ◌≤◌, ◌<◌, ℕ, zero, suc, ◌+◌, ◌-◌, ◌*◌, Bool, false, true, ⊎_elim, List, [], ◌∷◌, ◌++◌, map, length, Option, Some, None, refl, sym, ap, ◌∙◌, subst, arith}
+use Rattle.std.proofs.Common.{◌≡◌, ◌≢◌, ◌≤◌, ◌<◌, ℕ, suc, ◌+◌, ◌-◌, Bool, false, ⊎_elim, List, [], ◌∷◌, ◌++◌, map, length, Option, Some, None, refl, sym, ap, ◌∙◌, subst, arith}
 use Rattle.std.specs.Prelude.{slice_get, slice_set, All, IfSome}
 use Rattle.std.proofs.lemmas.Bool.{cases_eq}
 use Rattle.std.proofs.lemmas.Option.{same_Some, slice_get_within}
-use Rattle.std.proofs.lemmas.List.{length-map}
-use Rattle.std.proofs.lemmas.List.FromFn.{length-map-range_with_len}
 use Rattle.std.proofs.lemmas.List.Folds.{fold-map}
 use Rattle.std.proofs.lemmas.List.Sums.{fold-append}
 use Rattle.std.proofs.lemmas.List.Elements.{All-weaker}
 use Rattle.std.proofs.Math.ListN.{length-set}
-use Rattle.vv_core.specs.Vectors.{centres}
 use Rattle.dc_talk.specs.declared.ask.Ask.{Ask}
 use Rattle.dc_talk.specs.declared.calls.Connection.{Connection}
-use Rattle.dc_talk.specs.declared.settings.Settings.{Settings}
+use Rattle.dc_talk.specs.declared.log.Fate.TheVariants.{Unheard}
 use Rattle.dc_talk.specs.declared.log.Deed.{Deed}
 use Rattle.dc_talk.specs.declared.log.Deed.TheVariants.{Did, Asked, Told}
 use Rattle.dc_talk.specs.declared.log.Note.{Note}
-use Rattle.dc_talk.specs.Entries.{Entry}
 use Rattle.dc_talk.specs.Logs.{Logged, marked, noted, entries_made}
 use Rattle.dc_talk.specs.Acting.{IsAskBehind, noted_all}
 use Rattle.dc_talk.specs.Doors.{DoorView, IsBehind, HasDone}
@@ -28,19 +24,19 @@ use Rattle.script_text.specs.declared.script.Script.{Script}
 use Rattle.script_text.specs.declared.steps.ClientStep.{ClientStep}
 use Rattle.script_text.specs.declared.steps.OperatorStep.{OperatorStep}
 use Rattle.script_text.specs.Steps.{IsOperatorStep}
-use Rattle.script_text.specs.Deeds.{Progress, StepDeeds, after_all, armed_after}
+use Rattle.script_text.specs.Deeds.{StepDeeds, after_all}
 use Rattle.script_text.specs.Orders.{OperatorDeeds}
 use Rattle.client_stub.specs.Playing.{StubView, AllowsAll, IsLinkBehind}
-use Rattle.run_book.specs.Setups.{Setup, setup_of, settings_among}
-use Rattle.run_book.specs.Happenings.{Happened, notes_by, trails_in, happening, GoesToOneOf, IsLinkWithin, ClientDoes, CarrierDoes, IsCarrier, AreTogether}
+use Rattle.run_book.specs.Setups.{setup_of}
+use Rattle.run_book.specs.Happenings.{Happened, notes_by, happening, GoesToOneOf, IsLinkWithin, ClientDoes, AreTogether}
 use Rattle.run_book.proofs.Happenings.Entries.{own_then, other_then, deeds_marked}
-use Rattle.run_book.proofs.Happenings.More.{client_then, carrier_then, operator_carries}
+use Rattle.run_book.proofs.Happenings.More.{client_then, carrier_then, operator_carries, together_more}
 use Rattle.run_book.proofs.Happenings.OperatorSteps.{order_does}
 use Rattle.run_book.proofs.Happenings.Reach.{link_within}
 use Rattle.world_core.specs.declared.table.Table.{Table}
-use Rattle.world_core.specs.Worlds.{WorldView, Turn, IsWorld, Acts, log_at, stub_at, progress_at, notes_in, log_after}
-use Rattle.world_core.specs.Tables.{AreHistories, IsTurn, HasStepped, HasOperated, log_in, seen_of}
-use Rattle.world_core.specs.Events.{TakesStep, TakesOrder}
+use Rattle.world_core.specs.Worlds.{Turn, IsWorld, Acts, log_at, stub_at, notes_in}
+use Rattle.world_core.specs.Tables.{HasStepped, HasOperated, HasAskedOnce, log_in, outside, seen_of}
+use Rattle.world_core.specs.Events.{TakesStep, TakesOrder, AsksOnce, MayAsk}
 use Rattle.world_core.proofs.Numbered.{set_else, set_here}
 use Rattle.world_core.proofs.Worlds.{centre_count, HasActed, more, world_then, histories_then, stub_named, stub_got}
 
@@ -226,3 +222,54 @@ module _ (script : Script) (section number : ℕ) (step : OperatorStep) (old new
             (order_does script.n script.k (setup_of script) all step section number ordered w.together (histories_then its ordered script spent old new operator_acted all w) fits such));
       };
     }
+
+-- ---- an ask outside of the script
+
+module _ (script : Script) (actor centre : ℕ) (ask : Ask) (old new : Table) (h : HasAskedOnce actor centre ask old new) (range : (1 ≤ actor) × (actor ≤ length old.logs.items)) where
+  -- its only deed
+  abbrev asked : List Deed
+  asked = Asked centre ask (Unheard h.say) ∷ []
+
+  asker_acted : HasActed (outside actor) asked old new
+  asker_acted = record {
+    range = range;
+    logs = h.turn_is.logs ∙ ap (slice_set old.logs.items (actor - 1)) h.leaves.log;
+    settings = h.turn_is.settings;
+    trails = trails_made actor old.door.centres (shown_of new.door) asked h.leaves.door;
+    kept = h.turn_is.histories;
+    stub_count = ap (λ stubs. length stubs.items) h.stubs;
+  }
+
+  -- what a client becomes by an ask that no session hears
+  unheard : (client : ℕ) (all : List Happened) → client_after script.n client script.cache (notes_by (client + 1) all) ≡ client_after script.n client script.cache (notes_by (client + 1) (all ++ happening actor (notes_in (outside actor) asked)))
+  unheard client all = ⊎_elim own other (cases_eq actor (client + 1))
+    where
+      by_note : Client → Note → Client
+      by_note s note = after s note.deed
+
+      own : actor ≡ client + 1 → client_after script.n client script.cache (notes_by (client + 1) all) ≡ client_after script.n client script.cache (notes_by (client + 1) (all ++ happening actor (notes_in (outside actor) asked)))
+      own same =
+          let mine : notes_by (client + 1) (all ++ happening actor (notes_in (outside actor) asked)) ≡ notes_by (client + 1) all ++ notes_in (outside actor) asked = subst (λ a. notes_by a (all ++ happening actor (notes_in (outside actor) asked)) ≡ notes_by a all ++ notes_in (outside actor) asked) same (own_then actor all (notes_in (outside actor) asked)) in
+          client_on script.n client script.cache (outside actor) (notes_by (client + 1) all) (client_after script.n client script.cache (notes_by (client + 1) all)) asked refl
+          ∙ ap (client_after script.n client script.cache) (sym mine)
+
+      other : actor ≢ client + 1 → client_after script.n client script.cache (notes_by (client + 1) all) ≡ client_after script.n client script.cache (notes_by (client + 1) (all ++ happening actor (notes_in (outside actor) asked)))
+      other differs = ap (client_after script.n client script.cache) (sym (other_then actor (client + 1) all (notes_in (outside actor) asked) differs))
+
+  -- the world goes on, where it may ask so
+  pub ask_made : (spent : Bool) → spent ≡ false → MayAsk actor centre ask (seen_of script spent old) → AsksOnce actor centre ask (seen_of script spent old) (seen_of script false new)
+  ask_made spent fresh may = record {
+    say = h.say;
+    stubs = ap (λ stubs. stubs.items) h.stubs;
+    acts = record {
+      script = refl;
+      spent = sym fresh;
+      logs = asker_acted.logs;
+      settings = asker_acted.settings;
+      trails = asker_acted.trails;
+      goes_on = λ all w. world_then (outside actor) asked script spent old new asker_acted all w false
+          (λ client stub is. w.stubs client stub (subst (λ stubs. stub_at stubs client ≡ Some stub) (ap (λ stubs. stubs.items) h.stubs) is) ∙ unheard client all)
+          (together_more script.n script.k (setup_of script) all (record { actor = actor; note = marked 0 0 (Asked centre ask (Unheard h.say)) }) w.together
+          (histories_then (outside actor) asked script spent old new asker_acted all w) (may all w h.say));
+    };
+  }

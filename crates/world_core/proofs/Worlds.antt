@@ -1,6 +1,6 @@
 -- Worlds at first, and worlds in which an actor did more.
-use Rattle.std.proofs.Common.{◌≡◌, ◌≢◌, ◌≤◌, ◌<◌, ℕ, zero, suc, ◌+◌, ◌-◌, ◌*◌, Bool, ⊎_elim, List, [], ◌∷◌, ◌++◌, map, length, get_or, Option, Some, None, refl, sym, ap, ◌∙◌, subst, arith}
-use Rattle.std.specs.Prelude.{slice_get, slice_set, slice_index_or, All}
+use Rattle.std.proofs.Common.{◌≡◌, ◌≢◌, ◌≤◌, ◌<◌, ℕ, zero, suc, ◌+◌, ◌-◌, ◌*◌, Bool, ⊎_elim, List, [], ◌∷◌, ◌++◌, map, length, Option, Some, None, refl, sym, ap, ◌∙◌, subst, arith}
+use Rattle.std.specs.Prelude.{slice_get, slice_set, slice_index_or}
 use Rattle.std.specs.Option.{option_map, unwrap_or}
 use Rattle.std.specs.List.{range_with_len}
 use Rattle.std.proofs.lemmas.Bool.{cases_eq}
@@ -12,11 +12,8 @@ use Rattle.list_core.proofs.Gets.{get_within, all_get}
 use Rattle.vv_core.specs.Vectors.{centres}
 use Rattle.dc_talk.specs.declared.settings.Settings.{Settings}
 use Rattle.dc_talk.specs.declared.log.Deed.{Deed}
-use Rattle.dc_talk.specs.declared.log.Note.{Note}
-use Rattle.dc_talk.specs.Entries.{Entry}
 use Rattle.dc_talk.specs.Logs.{Logged, entries_made}
 use Rattle.dc_talk.specs.Answers.{History}
-use Rattle.dc_talk.specs.Clients.{Client}
 use Rattle.dc_talk.specs.Rule.{client_after}
 use Rattle.dc_host.specs.Centres.{CentreTrail, new_centre, new_centres}
 use Rattle.dc_host.specs.KeptDoors.{centre_at, entries_of, trail_at}
@@ -31,7 +28,8 @@ use Rattle.run_book.proofs.Happenings.More.{together_none}
 use Rattle.world_core.specs.declared.table.Table.{Table}
 use Rattle.world_core.specs.Worlds.{WorldView, Turn, IsWorld, Acts, log_at, stub_at, notes_in, log_after}
 use Rattle.world_core.specs.Tables.{AreHistories as AreKept, IsNew, new_stub, new_stubs, new_logs, seen_of}
-use Rattle.world_core.proofs.Numbered.{get_below, set_else, set_here}
+use Rattle.world_core.specs.Runs.{IsInRange, IsSound}
+use Rattle.world_core.proofs.Numbered.{get_below}
 
 -- ---- logs and clients by number
 
@@ -203,3 +201,11 @@ module _ (turn : Turn) (deeds : List Deed) (script : Script) (spent : Bool) (old
     notes = log_then;
     together = together;
   }
+
+-- a sound world is sound after an actor's turn
+pub goes_sound : (turn : Turn) (deeds : List Deed) (old new : WorldView) → IsSound old → Acts turn deeds old new → IsSound new
+goes_sound turn deeds old new sound acts = record {
+  range = subst IsInRange (sym acts.script) sound.range;
+  all = sound.all ++ happening turn.actor (notes_in turn deeds);
+  world = acts.goes_on sound.all sound.world;
+}

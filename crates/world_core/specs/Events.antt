@@ -1,5 +1,5 @@
 -- What may happen in a world, and what each event leaves.
-use Rattle.std.specs.Prelude.{◌≡◌, ◌≤◌, ℕ, ◌+◌, ◌-◌, ◌&&◌, nat_le, List, [], ◌∷◌, Option, Some, None, slice_get, slice_set}
+use Rattle.std.specs.Prelude.{◌≡◌, ℕ, ◌+◌, ◌-◌, ◌&&◌, nat_le, List, [], ◌∷◌, Option, Some, None, slice_get, slice_set}
 use Rattle.std.specs.Option.{option_and_then}
 use Rattle.list_core.specs.Choices.{when}
 use Rattle.tx_core.specs.declared.tx.Tx.{Tx}
@@ -24,12 +24,13 @@ use Rattle.script_text.specs.Deeds.{StepDeeds, after_all, armed_after}
 use Rattle.script_text.specs.Orders.{OperatorDeeds}
 use Rattle.client_stub.specs.Playing.{StubView}
 use Rattle.run_book.specs.Scripted.{client_steps, operator_steps}
-use Rattle.run_book.specs.Happenings.{ClientDoes}
+use Rattle.run_book.specs.Setups.{setup_of}
+use Rattle.run_book.specs.Happenings.{Happened, Happens, ClientDoes}
 use Rattle.world_core.specs.declared.event.Event.{Event}
 use Rattle.world_core.specs.declared.event.Event.TheVariants.{Client, Operator, Again, Carry}
 use Rattle.world_core.specs.declared.event.Played.{Played}
 use Rattle.world_core.specs.declared.event.Played.TheVariants.{Done, NoSuch}
-use Rattle.world_core.specs.Worlds.{WorldView, Turn, Acts, log_at, stub_at, progress_at, notes_in}
+use Rattle.world_core.specs.Worlds.{WorldView, IsWorld, Turn, Acts, log_at, stub_at, progress_at, notes_in}
 
 -- ---- what is named
 
@@ -100,6 +101,10 @@ Plays (Client client section step) old new played = Goes (step_named (client_ste
 Plays (Operator section step) old new played = Goes (step_named operator_steps old.script section step) (TakesOrder (record { actor = 1; section = section; step = step })) old new played
 Plays (Again client note centre) old new played = Goes (if_centre old centre (commit_named old client note)) (λ tx. AsksOnce (client + 1) centre (Commit tx)) old new played
 Plays (Carry from entry index to) old new played = Goes (if_centre old to (record_named old from entry index)) (λ item. AsksOnce 1 to (Deliver item)) old new played
+
+-- an actor may ask so next, and no session hears the answer
+abbrev pub MayAsk : ℕ → ℕ → Ask → WorldView → Type 0
+MayAsk actor centre ask w = (all : List Happened) → IsWorld w all → (say : Say) → Happens w.script.n (setup_of w.script) all (record { actor = actor; note = marked 0 0 (Asked centre ask (Unheard say)) })
 
 -- ---- a section of one step
 

@@ -1,10 +1,14 @@
 -- The parts of a world, and what a step leaves of them.
-use Rattle.std.specs.Prelude.{◌≡◌, ◌<◌, ℕ, ◌+◌, ◌-◌, ◌*◌, Bool, map, length, List, All, Some, None, slice_get, slice_set}
+use Rattle.std.specs.Prelude.{◌≡◌, ℕ, ◌+◌, ◌-◌, ◌*◌, Bool, map, length, List, [], ◌∷◌, All, Some, None, slice_get, slice_set}
 use Rattle.std.specs.List.{range_with_len}
+use Rattle.dc_talk.specs.declared.ask.Ask.{Ask}
+use Rattle.dc_talk.specs.declared.say.Say.{Say}
+use Rattle.dc_talk.specs.declared.log.Fate.TheVariants.{Unheard}
+use Rattle.dc_talk.specs.declared.log.Deed.TheVariants.{Asked}
 use Rattle.dc_talk.specs.Answers.{History}
 use Rattle.dc_talk.specs.Clients.{new_client}
 use Rattle.dc_talk.specs.Logs.{Logged}
-use Rattle.dc_talk.specs.Acting.{acting}
+use Rattle.dc_talk.specs.Acting.{Leaves, acting}
 use Rattle.dc_host.specs.Centres.{CentreTrail, new_centres}
 use Rattle.dc_host.specs.KeptDoors.{shown_of, begun}
 use Rattle.script_text.specs.declared.script.Script.{Script}
@@ -72,3 +76,15 @@ pub record HasOperated (turn : Turn) (step : OperatorStep) (old new : Table) : T
   pub operates : Operates (length old.door.centres) step (acting (shown_of (begun turn.actor old.door.centres)) (log_in turn (log_at old.logs.items turn.actor))) (acting (shown_of new.door) log)
   pub stubs : new.stubs ≡ old.stubs
   pub turn_is : IsTurn turn log old new
+
+-- the turn of an actor outside of the script
+abbrev pub outside : ℕ → Turn
+outside actor = record { actor = actor; section = 0; step = 0 }
+
+-- an actor asked a centre through the door, outside of the script, and no session heard the answer
+pub record HasAskedOnce (actor centre : ℕ) (ask : Ask) (old new : Table) : Type 0 where
+  pub say : Say
+  pub log : Logged
+  pub leaves : Leaves (acting (shown_of (begun actor old.door.centres)) (log_in (outside actor) (log_at old.logs.items actor))) (acting (shown_of new.door) log) (Asked centre ask (Unheard say) ∷ [])
+  pub stubs : new.stubs ≡ old.stubs
+  pub turn_is : IsTurn (outside actor) log old new

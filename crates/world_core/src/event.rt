@@ -11,9 +11,16 @@ pub enum Event {
         step: u32,
     },
     /// The operator takes its step of this number in a section.
-    Operator { section: u32, step: u32 },
+    Operator {
+        section: u32,
+        step: u32,
+    },
     /// The commit ask at a place of the client's log comes again, late, to a centre. Its answer is not heard.
-    Again { client: u32, note: u64, centre: u8 },
+    Again {
+        client: u32,
+        note: u64,
+        centre: u8,
+    },
     /// A record of an answer to a send, at a place of the trail of `from` and at an index of the answer's records, is
     /// delivered to a centre by the operator.
     Carry {

@@ -1,9 +1,17 @@
 // What events name.
-ghost use Rattle.std.specs.Prelude.{◌≡◌, Some, None, IfSome, IfNone};
+ghost use Rattle.std.specs.Prelude.{◌≡◌, ◌+◌, Some, None, IfSome, IfNone, IfOk, slice_get};
 ghost use Rattle.std.specs.List.{filter_map};
+ghost use Rattle.std.specs.Option.{option_map, option_and_then};
+ghost use Rattle.dc_talk.specs.declared.ask.Ask.TheVariants.{Commit, Deliver};
 ghost use Rattle.run_book.specs.Scripted.{client_step, operator_step, client_steps, operator_steps};
-ghost use Rattle.world_core.specs.Events.{numbered, step_named};
+ghost use Rattle.dc_host.specs.KeptDoors.{trail_at};
+ghost use Rattle.world_core.specs.Worlds.{log_at};
+ghost use Rattle.world_core.specs.Events.{numbered, step_named, commit_of, commit_named, records_of, record_named, if_centre};
 
+use crate::world::World;
+use dc_talk::{Ask, Deed, Log, Note, Say};
+use hist_lock::Entry;
+use ids_core::NoMemory;
 use script_text::{ClientStep, OperatorStep, Script, Section, Step};
 
 // What a client does in a step, where the step is the client's.
@@ -98,5 +106,89 @@ pub(crate) fn operator_step_named(
     match section_named(script, section) {
         Some(found) => operator_step_in(found.steps.as_slice(), number),
         None => None,
+    }
+}
+
+// The note at a place of a client's log.
+fn note_at(logs: &[Log], client: u32, place: u64) -> Option<&Note>
+    ensures some { IfSome result (λ note. slice_get (log_at logs.now (client + 1)).notes place ≡ Some note.now) }
+    ensures none { IfNone result (slice_get (log_at logs.now (client + 1)).notes place ≡ None) }
+{
+    match logs.get(client as usize) {
+        Some(log) => log.as_slice().get(place as usize),
+        None => None,
+    }
+}
+
+// The commit ask of a note again.
+fn commit_again(note: &Note) -> Result<Option<Ask>, NoMemory>
+    ensures { IfOk result (λ found. found ≡ option_map Commit (commit_of note.now.deed)) }
+{
+    match &note.deed {
+        Deed::Asked {
+            ask: Ask::Commit { tx },
+            ..
+        } => Ok(Some(Ask::Commit { tx: tx.copy()? })),
+        _ => Ok(None),
+    }
+}
+
+// The delivery of a record of an answer.
+fn record_again(entry: &Entry<Ask, Say>, index: u32) -> Result<Option<Ask>, NoMemory>
+    ensures { IfOk result (λ found. found ≡ option_map Deliver (option_and_then (λ list. slice_get list index) (records_of entry.now.say))) }
+{
+    match &entry.say {
+        Say::Records { list } => match list.as_slice().get(index as usize) {
+            Some(item) => Ok(Some(Ask::Deliver { item: item.copy()? })),
+            None => Ok(None),
+        },
+        _ => Ok(None),
+    }
+}
+
+impl<'a> World<'a> {
+    /// The ask of a late copy of a commit ask to a centre, where both are there.
+    pub(crate) fn late_ask(
+        &self,
+        client: u32,
+        note: u64,
+        centre: u8,
+    ) -> Result<Option<Ask>, NoMemory>
+        ensures { IfOk result (λ found. found ≡ option_map Commit (if_centre self.now centre (commit_named self.now client note))) }
+    {
+        if centre == 0 || centre > self.script.n {
+            return Ok(None);
+        }
+        match note_at(&self.table.logs, client, note) {
+            Some(found) => commit_again(found),
+            None => Ok(None),
+        }
+    }
+
+    // The entry at a place of a centre's trail.
+    fn entry_at(&self, from: u8, place: u64) -> Option<&Entry<Ask, Say>>
+        ensures some { IfSome result (λ entry. slice_get (trail_at self.now.centres from) place ≡ Some entry.now) }
+        ensures none { IfNone result (slice_get (trail_at self.now.centres from) place ≡ None) }
+    {
+        self.table.door.entries(from).get(place as usize)
+    }
+
+    /// The ask of a delivery of a record to a centre, where both are there.
+    pub(crate) fn carry_ask(
+        &self,
+        from: u8,
+        entry: u64,
+        index: u32,
+        to: u8,
+    ) -> Result<Option<Ask>, NoMemory>
+        ensures { IfOk result (λ found. found ≡ option_map Deliver (if_centre self.now to (record_named self.now from entry index))) }
+    {
+        if to == 0 || to > self.script.n {
+            return Ok(None);
+        }
+        match self.entry_at(from, entry) {
+            Some(found) => record_again(found, index),
+            None => Ok(None),
+        }
     }
 }

@@ -46,4 +46,76 @@ impl<'a> World<'a> {
             None => Ok(Played::NoSuch),
         }
     }
+
+    // The commit ask at a place of a client's log comes again to a centre.
+    fn play_again(&mut self, client: u32, note: u64, centre: u8) -> Result<Played, NoMemory>
+        requires { self.old.spent ≡ false }
+        ensures plays { IfOk result (Plays (Event.Again client note centre) self.old self.new) }
+        ensures script { self.new.script ≡ self.old.script }
+        ensures spent { OnErr result (self.new.spent ≡ true) }
+    {
+        match self.late_ask(client, note, centre) {
+            Ok(Some(ask)) => {
+                self.ask_once(client + 1, centre, ask)?;
+                Ok(Played::Done)
+            }
+            Ok(None) => Ok(Played::NoSuch),
+            Err(_) => {
+                self.spent = true;
+                Err(NoMemory)
+            }
+        }
+    }
+
+    // A record of an answer is delivered to a centre by the operator.
+    fn play_carry(&mut self, from: u8, entry: u64, index: u32, to: u8) -> Result<Played, NoMemory>
+        requires { self.old.spent ≡ false }
+        ensures plays { IfOk result (Plays (Event.Carry from entry index to) self.old self.new) }
+        ensures script { self.new.script ≡ self.old.script }
+        ensures spent { OnErr result (self.new.spent ≡ true) }
+    {
+        match self.carry_ask(from, entry, index, to) {
+            Ok(Some(ask)) => {
+                self.ask_once(1, to, ask)?;
+                Ok(Played::Done)
+            }
+            Ok(None) => Ok(Played::NoSuch),
+            Err(_) => {
+                self.spent = true;
+                Err(NoMemory)
+            }
+        }
+    }
+
+    /// Plays an event: what it does is done, or nothing where what it names is not there. An `Err` is want of memory.
+    /// The world is spent then: it may have a part of the event, and every later event and `finish` answer `Err`.
+    pub fn play(&mut self, alloc: Global, event: &Event) -> Result<Played, NoMemory>
+        ensures plays { IfOk result (Plays event.now self.old self.new) }
+        ensures script { self.new.script ≡ self.old.script }
+        ensures spent { OnErr result (self.new.spent ≡ true) }
+        ensures refuses { self.old.spent ≡ true → IsErr result }
+    {
+        if self.spent {
+            return Err(NoMemory);
+        }
+        match *event {
+            Event::Client {
+                client,
+                section,
+                step,
+            } => self.play_client(alloc, client, section, step),
+            Event::Operator { section, step } => self.play_operator(section, step),
+            Event::Again {
+                client,
+                note,
+                centre,
+            } => self.play_again(client, note, centre),
+            Event::Carry {
+                from,
+                entry,
+                index,
+                to,
+            } => self.play_carry(from, entry, index, to),
+        }
+    }
 }

@@ -13,12 +13,7 @@ use script_text::{Script, Section, Step};
 use std::alloc::Global;
 
 // Has the step's actor take it, as the only one of the section of a number.
-fn take_one(
-    alloc: Global,
-    world: &mut World<'_>,
-    number: u32,
-    step: &Step,
-) -> Result<(), NoMemory>
+fn take_one(alloc: Global, world: &mut World<'_>, number: u32, step: &Step) -> Result<(), NoMemory>
     requires fresh { world.old.spent ≡ false }
     requires step { IsStepOf (header_of world.old.script) step.now }
     ensures takes { OnOk result (TakesOne number step.now world.old world.new) }

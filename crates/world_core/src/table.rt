@@ -5,12 +5,12 @@ ghost use Rattle.script_text.specs.Steps.{IsStep, IsOperatorStep};
 ghost use Rattle.client_stub.specs.Playing.{StubView, IsLinkBehind};
 ghost use Rattle.dc_host.specs.KeptDoors.{shown_of};
 ghost use Rattle.world_core.specs.Runs.{IsInRange};
-ghost use Rattle.world_core.specs.Tables.{new_stubs, new_logs, IsNew, HasStepped, HasOperated};
+ghost use Rattle.world_core.specs.Tables.{new_stubs, new_logs, IsNew, HasStepped, HasOperated, HasAskedOnce};
 
 use client_session::Session;
 use client_stub::{Stub, operate};
 use dc_host::{KeptDoor, centres_of};
-use dc_talk::Log;
+use dc_talk::{Ask, Deed, Door, Fate, Log};
 use ids_core::NoMemory;
 use script_text::{ClientStep, OperatorStep, Script};
 use std::alloc::Global;
@@ -110,6 +110,26 @@ impl Table {
         let log = &mut self.logs[0];
         log.set(section, number);
         operate(&mut self.door, n, step, log)?;
+        self.door.histories();
+        Ok(())
+    }
+
+    /// Has an actor ask a centre, outside of the script, so that no session hears the answer. After want of memory the
+    /// ask may have been made without a note.
+    pub(crate) fn ask(&mut self, actor: u32, centre: u8, ask: Ask) -> Result<(), NoMemory>
+        requires actor { (1 ≤ actor) × (actor ≤ length self.old.logs.items) }
+        requires centre { (1 ≤ centre) × (centre ≤ length self.old.door.centres) }
+        ensures { OnOk result (HasAskedOnce actor centre ask self.old self.new) }
+    {
+        self.door.set(actor);
+        let say = self.door.ask(centre, &ask)?;
+        let log = &mut self.logs[(actor - 1) as usize];
+        log.set(0, 0);
+        log.push(Deed::Asked {
+            centre,
+            ask,
+            fate: Fate::Unheard(say),
+        })?;
         self.door.histories();
         Ok(())
     }

@@ -1,14 +1,15 @@
 // A world: the system on one thread.
-ghost use Rattle.std.specs.Prelude.{◌≡◌, ◌≤◌, ◌+◌, true, false, [], map, IfOk, OnOk, OnErr, IsErr};
+ghost use Rattle.std.specs.Prelude.{◌≡◌, ◌≤◌, ◌+◌, true, false, [], map, length, IfOk, OnOk, OnErr, IsErr};
 ghost use Rattle.dc_host.specs.Centres.{all_seen};
 ghost use Rattle.script_text.specs.Steps.{IsStep, IsOperatorStep};
 ghost use Rattle.world_core.specs.Worlds.{IsWorld};
 ghost use Rattle.world_core.specs.Tables.{new_stubs};
-ghost use Rattle.world_core.specs.Events.{TakesStep, TakesOrder};
+ghost use Rattle.world_core.specs.Events.{TakesStep, TakesOrder, AsksOnce, MayAsk};
 ghost use Rattle.world_core.specs.Runs.{IsInRange, IsWorldBook};
 
 use crate::table::Table;
 use dc_centre::Centre;
+use dc_talk::Ask;
 use hist_lock::Kept;
 use ids_core::NoMemory;
 use run_book::{Book, Logs, Trails};
@@ -107,6 +108,23 @@ impl<'a> World<'a> {
     {
         self.spent = true;
         self.table.order(self.script.n, section, number, step)?;
+        self.spent = false;
+        Ok(())
+    }
+
+    /// Has an actor ask a centre, outside of the script, so that no session hears the answer. After an `Err`, want of
+    /// memory, the world is spent.
+    pub(crate) fn ask_once(&mut self, actor: u32, centre: u8, ask: Ask) -> Result<(), NoMemory>
+        requires fresh { self.old.spent ≡ false }
+        requires actor { (1 ≤ actor) × (actor ≤ length self.old.logs) }
+        requires centre { (1 ≤ centre) × (centre ≤ self.old.script.n) }
+        requires may { MayAsk actor centre ask self.old }
+        ensures asks { OnOk result (AsksOnce actor centre ask self.old self.new) }
+        ensures script { self.new.script ≡ self.old.script }
+        ensures spent { OnErr result (self.new.spent ≡ true) }
+    {
+        self.spent = true;
+        self.table.ask(actor, centre, ask)?;
         self.spent = false;
         Ok(())
     }

@@ -1,4 +1,4 @@
-use Rattle.std.proofs.Common.{◌≡◌, ◌<◌, ◌+◌, ◌-◌, Option, Some, None, length, sym, subst, drop, rules, arith}
+use Rattle.std.proofs.Common.{◌≡◌, ◌<◌, ◌+◌, ◌-◌, Option, Some, None, length, subst, drop, rules, arith}
 use Rattle.std.specs.List.{filter_map}
 use Rattle.script_text.specs.declared.steps.ClientStep.{ClientStep}
 use Rattle.run_book.specs.Scripted.{client_step}
@@ -12,7 +12,7 @@ steps-preserved c =
     let whole : Option ClientStep = numbered (filter_map (client_step c.args.client) c.args.steps.now) c.args.number in
     let within : c.steps.step-index < length c.args.steps.now = omega arith in
     elim c.match-client_step.branch [
-      in-Some+else-left-eq1 w ↦
+      | in-Some+else-left-eq1 w ↦
           let some : client_step c.args.client c.step-item.result ≡ Some w.in-Some.does = cc in
           let left : c.steps.left - 1 ≡ c.match-client_step.left = omega arith in
           subst (λ left. whole ≡ numbered (filter_map (client_step c.args.client) (drop (c.steps.step-index + 1) c.args.steps.now)) left) left

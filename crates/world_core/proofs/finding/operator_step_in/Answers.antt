@@ -1,4 +1,4 @@
-use Rattle.std.proofs.Common.{◌≡◌, ◌<◌, ◌+◌, ◌-◌, Option, Some, None, length, sym, subst, drop, rules, arith}
+use Rattle.std.proofs.Common.{◌≡◌, ◌<◌, ◌+◌, ◌-◌, Option, Some, None, length, subst, drop, rules, arith}
 use Rattle.std.specs.List.{filter_map}
 use Rattle.script_text.specs.declared.steps.OperatorStep.{OperatorStep}
 use Rattle.run_book.specs.Scripted.{operator_step}
@@ -12,7 +12,7 @@ steps-preserved c =
     let whole : Option OperatorStep = numbered (filter_map operator_step c.args.steps.now) c.args.number in
     let within : c.steps.step-index < length c.args.steps.now = omega arith in
     elim c.match-operator_step.branch [
-      in-Some+else-left-eq1 w ↦
+      | in-Some+else-left-eq1 w ↦
           let some : operator_step c.step-item.result ≡ Some w.in-Some.does = cc in
           let left : c.steps.left - 1 ≡ c.match-operator_step.left = omega arith in
           subst (λ left. whole ≡ numbered (filter_map operator_step (drop (c.steps.step-index + 1) c.args.steps.now)) left) left

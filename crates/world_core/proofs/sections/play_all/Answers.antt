@@ -1,4 +1,4 @@
-use Rattle.std.proofs.Common.{◌≡◌, ◌+◌, refl, sym, ap, ◌∙◌, subst, arith}
+use Rattle.std.proofs.Common.{◌≡◌, ◌+◌, refl, sym, ◌∙◌, subst, arith}
 use Rattle.script_text.specs.declared.script.Script.{Script}
 use Rattle.world_core.specs.Tables.{new_stubs}
 use Rattle.world_core.proofs.Lines.{played_none, line_at, line_fresh, next_played}

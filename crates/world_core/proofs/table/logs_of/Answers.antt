@@ -1,4 +1,4 @@
-use Rattle.std.proofs.Common.{ap, ◌∙◌}
+use Rattle.std.proofs.Common.{◌∙◌}
 use Rattle.run_book.specs.Parts.{idle_log}
 use Rattle.world_core.proofs.Numbered.{more_below}
 use Rattle.world_core.proofs.table.logs_of.Goals as goal

@@ -1,4 +1,4 @@
-use Rattle.std.proofs.Common.{◌≡◌, List, map, refl, ap, ◌∙◌, subst}
+use Rattle.std.proofs.Common.{map, refl, ap, ◌∙◌, subst}
 use Rattle.dc_host.specs.Centres.{CentreTrail}
 use Rattle.world_core.specs.Worlds.{WorldView}
 use Rattle.world_core.specs.Tables.{seen_of}

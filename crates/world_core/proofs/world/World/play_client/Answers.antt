@@ -1,4 +1,4 @@
-use Rattle.std.proofs.Common.{◌≡◌, ap, ◌∙◌, subst}
+use Rattle.std.proofs.Common.{ap, ◌∙◌, subst}
 use Rattle.script_text.specs.Steps.{IsCount, IsStep}
 use Rattle.world_core.specs.Worlds.{WorldView}
 use Rattle.world_core.specs.Tables.{seen_of}

@@ -4,10 +4,9 @@ use Rattle.world_core.specs.Worlds.{WorldView}
 use Rattle.world_core.specs.Tables.{seen_of}
 use Rattle.world_core.specs.Events.{TakesStep}
 use Rattle.world_core.specs.Runs.{IsSound}
-use Rattle.world_core.proofs.Worlds.{centre_count}
+use Rattle.world_core.proofs.Worlds.{centre_count, goes_sound}
 use Rattle.world_core.proofs.Turns.{links_behind, step_taken}
 use Rattle.world_core.proofs.world.World.take.Goals as goal
-use Rattle.world_core.proofs.world.World.take.Goals.{After-self-2-1}
 
 pub step-requires-clause-fits : goal.step-requires-clause-fits
 step-requires-clause-fits c =
@@ -21,20 +20,22 @@ step-requires-clause-linked c =
     let sound : IsSound (seen_of inside.script.now inside.spent inside.table) = c.self.invariant (ap (λ (w : WorldView). w.spent) c.self.view_is ∙ c.requires.fresh) in
     links_behind inside.script.now inside.spent inside.table sound.all sound.world (c.args.client - 1)
 
--- the step, in the world as it was
-took : (c : After-self-2-1) → TakesStep (record { actor = c.args.client + 1; section = c.args.section; step = c.args.number }) c.args.step.now (seen_of c.self.inside.script.now c.self.inside.spent c.self.inside.table) (seen_of c.self.inside.script.now false c.step.new.self)
-took c =
+pub invariant_of-self-2 : goal.invariant_of-self-2
+invariant_of-self-2 c =
     let inside = c.self.inside in
     let fresh : inside.spent ≡ false = ap (λ (w : WorldView). w.spent) c.self.view_is ∙ c.requires.fresh in
     let sound : IsSound (seen_of inside.script.now inside.spent inside.table) = c.self.invariant fresh in
     let high : c.args.client ≤ inside.script.now.clients = subst (λ (w : WorldView). c.args.client ≤ w.script.clients) (sym c.self.view_is) c.requires.client.1 in
     let within : c.args.client < length inside.table.logs.items = omega (arith, sound.world.log_count, high) in
-    step_taken inside.script.now c.args.client c.args.section c.args.number c.args.step.now inside.table c.step.new.self c.in_ok-step.ensures (c.requires.client.0, within) high inside.spent fresh
-
-pub invariant_of-self-2 : goal.invariant_of-self-2
-invariant_of-self-2 c =
-    let sound = c.self.invariant (ap (λ (w : WorldView). w.spent) c.self.view_is ∙ c.requires.fresh) in
-    λ fresh. let world = (took c).acts.goes_on sound.all sound.world in record { range = sound.range; all = _; world = world }
+    let taken = step_taken inside.script.now c.args.client c.args.section c.args.number c.args.step.now inside.table c.step.new.self c.in_ok-step.ensures (c.requires.client.0, within) high inside.spent fresh in
+    λ same. goes_sound _ _ _ _ sound taken.acts
 
 pub returns-clause-takes : goal.returns-clause-takes
-returns-clause-takes c = subst (λ (old : WorldView). TakesStep (record { actor = c.args.client + 1; section = c.args.section; step = c.args.number }) c.args.step.now old (seen_of c.self.inside.script.now false c.step.new.self)) c.self.view_is (took c)
+returns-clause-takes c =
+    let inside = c.self.inside in
+    let fresh : inside.spent ≡ false = ap (λ (w : WorldView). w.spent) c.self.view_is ∙ c.requires.fresh in
+    let sound : IsSound (seen_of inside.script.now inside.spent inside.table) = c.self.invariant fresh in
+    let high : c.args.client ≤ inside.script.now.clients = subst (λ (w : WorldView). c.args.client ≤ w.script.clients) (sym c.self.view_is) c.requires.client.1 in
+    let within : c.args.client < length inside.table.logs.items = omega (arith, sound.world.log_count, high) in
+    let taken = step_taken inside.script.now c.args.client c.args.section c.args.number c.args.step.now inside.table c.step.new.self c.in_ok-step.ensures (c.requires.client.0, within) high inside.spent fresh in
+    subst (λ (old : WorldView). TakesStep (record { actor = c.args.client + 1; section = c.args.section; step = c.args.number }) c.args.step.now old (seen_of inside.script.now false c.step.new.self)) c.self.view_is taken
