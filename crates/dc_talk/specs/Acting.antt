@@ -1,5 +1,5 @@
 -- A door to the centres beside the log of the actor that asks through it, and how both grow by its deeds.
-use Rattle.std.specs.Prelude.{◌≡◌, ℕ, map, List, ◌++◌, All}
+use Rattle.std.specs.Prelude.{◌≡◌, map, List, ◌++◌, All}
 use Rattle.dc_talk.specs.declared.log.Deed.{Deed}
 use Rattle.dc_talk.specs.declared.log.Deed.TheVariants.{Asked}
 use Rattle.dc_talk.specs.declared.log.Note.{Note}
