@@ -1,24 +1,18 @@
 -- How a client, its log and what a door shows grow, deed by deed.
-use Rattle.std.proofs.Common.{◌≡◌, ◌≤◌, ℕ, List, [], ◌∷◌, ◌++◌, Option, Some, None, Result, Ok, Err, refl, sym, ap, ◌∙◌, subst, append_assoc, map}
-use Rattle.std.specs.Prelude.{All, IfSome, OnErr}
-use Rattle.std.proofs.lemmas.List.{map-append, append-nil}
+use Rattle.std.proofs.Common.{◌≡◌, List, [], ◌∷◌, ◌++◌, Option, Some, None, Result, Ok, Err, refl, sym, ap, ◌∙◌, subst}
+use Rattle.std.specs.Prelude.{IfSome, OnErr}
 use Rattle.std.proofs.lemmas.List.Elements.{All-nil, All-cons, All-append}
 use Rattle.std.proofs.lemmas.List.Sums.{fold-append}
-use Rattle.list_core.proofs.Members.{All-In, In-All}
-use Rattle.dc_talk.specs.declared.ask.Ask.{Ask}
-use Rattle.dc_talk.specs.declared.say.Say.{Say}
 use Rattle.dc_talk.specs.declared.calls.Connection.{Connection}
 use Rattle.dc_talk.specs.declared.calls.Call.{Call}
 use Rattle.dc_talk.specs.declared.calls.Outcome.{Outcome}
-use Rattle.dc_talk.specs.declared.log.Fate.TheVariants.{Unheard}
 use Rattle.dc_talk.specs.declared.log.Deed.{Deed}
-use Rattle.dc_talk.specs.declared.log.Deed.TheVariants.{Did, Asked, Told}
+use Rattle.dc_talk.specs.declared.log.Deed.TheVariants.{Did, Told}
 use Rattle.dc_talk.specs.declared.line.Line.{Line}
-use Rattle.dc_talk.specs.Entries.{Entry}
-use Rattle.dc_talk.specs.Logs.{Logged, entry_for, marked, noted}
+use Rattle.dc_talk.specs.Logs.{Logged, marked, noted}
 use Rattle.dc_talk.specs.Clients.{Client}
 use Rattle.dc_talk.specs.Calls.{Ends}
-use Rattle.dc_talk.specs.Doors.{DoorView, IsSameDoor, IsBehind, HasAsked, MayHaveAsked}
+use Rattle.dc_talk.specs.Doors.{DoorView, IsSameDoor, IsBehind}
 use Rattle.dc_talk.specs.Rule.{after}
 use Rattle.dc_talk.proofs.Doors.{done_none, done_quiet, done_then, may_none}
 use Rattle.dc_talk.proofs.Acting.{noted_none, noted_then, behind_later, all_before, leaves_none, leaves_line, leaves_then, cut_none, cut_after}
