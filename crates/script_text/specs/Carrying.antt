@@ -24,6 +24,7 @@ pub record Route : Type 0 where
   pub from : ℕ
   pub to : ℕ
 
+-- the route from one centre to another
 abbrev pub route : ℕ → ℕ → Route
 route from to = record { from = from; to = to }
 
