@@ -19,7 +19,7 @@ In_from_range first (suc count) k (inl same) = (omega (arith, same), omega (arit
 In_from_range first (suc count) k (inr i) = let r = In_from_range (first + 1) count k i in (omega (arith, r.0), omega (arith, r.1))
 
 -- one number more is the last
-pub range_more : (first count : ℕ) → range_with_len first (suc count) ≡ range_with_len first count ++ (first + count) ∷ []
+range_more : (first count : ℕ) → range_with_len first (suc count) ≡ range_with_len first count ++ (first + count) ∷ []
 range_more first zero = ap (λ n. n ∷ []) (omega arith)
 range_more first (suc count) = ap (λ l. first ∷ l) (range_more (first + 1) count ∙ ap (λ n. range_with_len (first + 1) count ++ n ∷ []) (omega arith))
 
