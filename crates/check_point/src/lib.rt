@@ -2,9 +2,11 @@
 //! Zawirski and others, Middleware 2015).
 #![tactic(auto)]
 
+mod laws;
 mod numbers;
 mod point;
 mod states;
 mod tables;
 
+pub use laws::law_parting;
 pub use point::Point;
