@@ -1,5 +1,6 @@
 -- The first records after one record more.
 use Rattle.std.proofs.Common.{◌≡◌, Bool, true, false, cond, ◌||◌, ◌⊎◌, inl, inr, List, [], ◌∷◌, ◌++◌, refl, ap, ◌∙◌}
+use Rattle.std.proofs.Math.Bool.{or-false}
 use Rattle.std.proofs.lemmas.Bool.{cases_Bool, false≢true}
 use Rattle.ids_core.specs.declared.ids.Dot.{Dot}
 use Rattle.ids_core.specs.Ids.{same_dot}
@@ -21,12 +22,8 @@ or_turned true false c = refl
 or_turned false true c = refl
 or_turned false false c = refl
 
-or_none : (a : Bool) → a ≡ (a || false)
-or_none true = refl
-or_none false = refl
-
 firsts_past_more : (seen : List Dot) (A : List Record) (r : Record) → firsts_past seen (A ++ r ∷ []) ≡ firsts_past seen A ++ cond (has r.tx.dot seen || has r.tx.dot (dots_of A)) [] (r ∷ [])
-firsts_past_more seen [] r = ap (λ b. cond b [] (r ∷ [])) (or_none (has r.tx.dot seen))
+firsts_past_more seen [] r = ap (λ b. cond b [] (r ∷ [])) (sym (or-false (has r.tx.dot seen)))
 firsts_past_more seen (q ∷ A) r = go (firsts_past_more seen A r) (firsts_past_more (q.tx.dot ∷ seen) A r) (cases_Bool (has q.tx.dot seen))
   where
     Grows : List Dot → List Record → Bool → Type 0
