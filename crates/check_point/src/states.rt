@@ -1,5 +1,5 @@
 // The states that transactions change.
-ghost use Rattle.std.specs.Prelude.{◌≡◌, cond, All, length, flat_map, IfOk, OnOk};
+ghost use Rattle.std.specs.Prelude.{◌≡◌, cond, All, flat_map, IfOk, OnOk};
 ghost use Rattle.ids_core.specs.Ids.{same_object};
 ghost use Rattle.ids_core.specs.declared.object.ObjectId.{ObjectId};
 ghost use Rattle.tx_core.specs.States.{step, fold_of};
