@@ -44,7 +44,7 @@ both_ways {X} test (x ∷ xs) = go (test x) (both_ways test xs)
 -- ---- one record more
 
 -- what is inside a vector is of a record
-inside_known : (A : List Record) (w : List ℕ) (d : Dot) → has d (dots_of A) ≡ false → has d (inside A w) ≡ false
+pub inside_known : (A : List Record) (w : List ℕ) (d : Dot) → has d (dots_of A) ≡ false → has d (inside A w) ≡ false
 inside_known A w d new = ⊎_elim (λ t. absurd (false≢true (sym new ∙ there t))) (λ f. f) (cases_Bool (has d (inside A w)))
   where
     there : has d (inside A w) ≡ true → has d (dots_of A) ≡ true
