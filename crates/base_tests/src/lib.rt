@@ -3,6 +3,8 @@
 #![tactic(auto)]
 
 #[cfg(test)]
+mod check_point_tests;
+#[cfg(test)]
 mod dup_guard_tests;
 #[cfg(test)]
 mod ids_core_tests;

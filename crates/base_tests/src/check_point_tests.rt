@@ -1,0 +1,78 @@
+// The states of objects up to a vector.
+ghost use Rattle.std.specs.Prelude.{◌≤◌, length, IfOk};
+ghost use Rattle.ids_core.specs.declared.limits.TheConstants.{MOST_UPDATES};
+
+use check_point::{Point, law_parting};
+use ids_core::{Dot, NoMemory, ObjectId};
+use samples::{counter, inc_tx, pair};
+use std::alloc::Global;
+use std::test::Fail;
+use tx_core::{Tx, Value};
+use vv_core::Vector;
+
+// Folds a transaction, where the vector covers that of the point, and once more where memory was refused,
+// which leaves the point as it was; whether it did.
+fn fold(alloc: Global, point: &mut Point, to: &Vector, tx: Tx) -> Result<bool, NoMemory>
+    requires { length tx.updates ≤ MOST_UPDATES }
+{
+    let from = point.vector();
+    if to.width() != from.width() || !to.covers(&from) {
+        return Ok(false);
+    }
+    let txs = [tx];
+    let folded = point.folded();
+    if point.advance(alloc, to, &txs).is_ok() {
+        return Ok(true);
+    }
+    let is_kept = point.vector() == from && point.folded() == folded;
+    point.advance(alloc, to, &txs)?;
+    Ok(is_kept)
+}
+
+// The transaction of that number of client 7 that adds two deltas to a counter.
+fn tx_of(alloc: Global, number: u64, object: &ObjectId, delta: i64) -> Result<Tx, NoMemory>
+    ensures { IfOk result (λ tx. length tx.updates ≤ MOST_UPDATES) }
+{
+    let dot = Dot { client: 7, number };
+    inc_tx(alloc, dot, 1, pair(0, 0), object, &[delta, 1])
+}
+
+// Folds three transactions on two counters; whether each was folded.
+fn fold_all(
+    alloc: Global,
+    point: &mut Point,
+    a: &ObjectId,
+    b: &ObjectId,
+) -> Result<bool, NoMemory> {
+    let first = fold(alloc, point, &pair(1, 0), tx_of(alloc, 1, a, 4)?)?;
+    let second = fold(alloc, point, &pair(1, 2), tx_of(alloc, 2, b, 6)?)?;
+    let third = fold(alloc, point, &pair(1, 3), tx_of(alloc, 3, a, 1)?)?;
+    Ok(first && second && third)
+}
+
+// Whether the counter has this sum at the point.
+fn has(alloc: Global, point: &Point, object: &ObjectId, sum: i128) -> Result<bool, NoMemory> {
+    let value = point.state(alloc, object)?.value(alloc)?;
+    Ok(matches!(value, Value::Number(number) if number == sum))
+}
+
+// Whether the point has what three transactions of client 7 leave.
+fn is_whole(point: &Point) -> bool {
+    point.vector() == pair(1, 3)
+        && point.number(7) == 3
+        && point.number(6) == 0
+        && point.folded() == 3
+}
+
+#[test]
+fn a_point_adds_up(rt: HostRuntime) -> Result<(), Fail> {
+    law_parting();
+    let alloc = rt.alloc();
+    let (a, b) = (counter("a")?, counter("b")?);
+    let mut point = Point::new(alloc, 2)?;
+    let all = fold_all(alloc, &mut point, &a, &b)?;
+    assert!(rt; all && is_whole(&point));
+    let sums = has(alloc, &point, &a, 7)? && has(alloc, &point, &b, 7)?;
+    assert!(rt; sums);
+    Ok(())
+}

@@ -1,0 +1,5 @@
+pub mod Entries
+pub mod Advancing
+pub mod Distinct
+pub mod Orders
+pub mod Partings

@@ -1,0 +1,12 @@
+//! The states of all objects up to a vector, folded from the transactions within it (the checkpoints of
+//! Zawirski and others, Middleware 2015).
+#![tactic(auto)]
+
+mod laws;
+mod numbers;
+mod point;
+mod states;
+mod tables;
+
+pub use laws::law_parting;
+pub use point::Point;

@@ -1,0 +1,5 @@
+pub mod Dots
+pub mod Inside
+pub mod Splits
+pub mod Firsts
+pub mod Growth

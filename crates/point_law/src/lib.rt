@@ -1,0 +1,7 @@
+//! Why the states that are folded up to a vector, and the transactions that are kept beside them, tell what
+//! the whole list of applied records tells.
+#![tactic(auto)]
+
+mod laws;
+
+pub use laws::{law_split, law_split_steps};
