@@ -1,4 +1,4 @@
-//! Tests of the system on one thread: events at random, with books that are looked at slowly.
+//! Tests of the system on one thread: examples through one door that owns the centres, and events at random.
 #![tactic(auto)]
 
 #[cfg(test)]
@@ -9,6 +9,10 @@ mod conduct;
 mod dice;
 #[cfg(test)]
 mod events;
+#[cfg(test)]
+mod examples;
+#[cfg(test)]
+mod kept_door;
 #[cfg(test)]
 mod same;
 #[cfg(test)]
