@@ -1,0 +1,308 @@
+// Whether a book fits, looked at slowly: by a new centre for each trail, by pairs of entries and notes, by where
+// records and vectors come from, and by the conduct of each client.
+use crate::conduct::follows;
+use crate::same::{is_same_ask, is_same_record, is_same_say, records_in, vector_in};
+use dc_centre::Centre;
+use dc_talk::{Ask, Deed, Fate, Log, Note, Say};
+use hist_lock::{Entry, Trail};
+use ids_core::{MOST_CENTRES, MOST_RECORDS, NoMemory};
+use run_book::Book;
+use script_text::Script;
+use std::alloc::Global;
+use tx_core::Record;
+use vv_core::Vector;
+
+/// What is wrong with a book.
+#[derive(Clone, Copy, Debug, PartialEq, Eq)]
+pub enum Verdict {
+    /// Nothing.
+    Fits,
+    /// There is not a trail for each centre and a log for each actor.
+    Form,
+    /// An answer of a trail is not the one that is due.
+    Answers,
+    /// The entries of a caller are not the asks of its log.
+    Pairs,
+    /// The operator carried what no centre had answered before.
+    Origins,
+    /// A client did what the rule of a session does not allow.
+    Conduct,
+}
+
+/// What is wrong with the book of a script. Where sections were played in order, those of each log are looked at too.
+pub fn verdict_on(
+    alloc: Global,
+    script: &Script,
+    book: &Book,
+    in_order: bool,
+) -> Result<Verdict, NoMemory> {
+    let trails = book.trails.as_slice();
+    let logs = book.logs.as_slice();
+    if !is_in_form(script, trails, logs) {
+        return Ok(Verdict::Form);
+    }
+    if !are_due(alloc, script, trails)? {
+        return Ok(Verdict::Answers);
+    }
+    if !are_paired(alloc, trails, logs)? {
+        return Ok(Verdict::Pairs);
+    }
+    if !have_origins(logs) {
+        return Ok(Verdict::Origins);
+    }
+    if !all_follow(script, logs, in_order) {
+        return Ok(Verdict::Conduct);
+    }
+    Ok(Verdict::Fits)
+}
+
+// Whether there is a trail for each centre and a log for each actor, the callers are actors, and no worker has a
+// note.
+fn is_in_form(script: &Script, trails: &[Trail<Centre>], logs: &[Log]) -> bool {
+    let actors = logs.len();
+    for (place, log) in logs.iter().enumerate() {
+        if log.actor() as usize != place.saturating_add(1) {
+            return false;
+        }
+        if place > script.clients as usize && !log.as_slice().is_empty() {
+            return false;
+        }
+    }
+    for trail in trails {
+        for entry in trail.as_slice() {
+            if entry.caller == 0 || entry.caller as usize > actors {
+                return false;
+            }
+        }
+    }
+    trails.len() == usize::from(script.n)
+}
+
+// Whether each answer of each trail is the one that is due.
+fn are_due(alloc: Global, script: &Script, trails: &[Trail<Centre>]) -> Result<bool, NoMemory> {
+    let mut me: u8 = 0;
+    for trail in trails {
+        me = me.saturating_add(1);
+        if !is_due(alloc, script, me, trail.as_slice())? {
+            return Ok(false);
+        }
+    }
+    Ok(true)
+}
+
+// A new centre of a script, where its numbers are in range.
+fn new_centre(alloc: Global, script: &Script, me: u8) -> Result<Option<Centre>, NoMemory> {
+    let (n, k, limit) = (script.n, script.k, script.limit);
+    if me == 0
+        || me > n
+        || n > MOST_CENTRES
+        || k == 0
+        || k > n
+        || limit == 0
+        || limit > MOST_RECORDS
+    {
+        return Ok(None);
+    }
+    Ok(Some(Centre::new(alloc, me, n, k, limit)?))
+}
+
+// Whether a new centre gives the answers of a trail.
+fn is_due(
+    alloc: Global,
+    script: &Script,
+    me: u8,
+    trail: &[Entry<Ask, Say>],
+) -> Result<bool, NoMemory> {
+    match new_centre(alloc, script, me)? {
+        Some(mut centre) => {
+            for entry in trail {
+                if !answers_so(alloc, &mut centre, entry)? {
+                    return Ok(false);
+                }
+            }
+            Ok(true)
+        }
+        None => Ok(false),
+    }
+}
+
+// Whether a centre answers the ask of an entry as the entry says, in both copies.
+fn answers_so(
+    alloc: Global,
+    centre: &mut Centre,
+    entry: &Entry<Ask, Say>,
+) -> Result<bool, NoMemory> {
+    let (say, copy) = centre.step(alloc, &entry.ask)?;
+    Ok(is_same_say(alloc, &say, &entry.say)? && is_same_say(alloc, &copy, &entry.say)?)
+}
+
+/// The answer to an ask that reached a centre.
+pub fn answer_in(fate: &Fate) -> Option<&Say> {
+    match fate {
+        Fate::AskLost => None,
+        Fate::ReplyLost(say) | Fate::Heard(say) | Fate::Unheard(say) => Some(say),
+    }
+}
+
+// Whether the entries of each caller in each trail are, in order, the asks of its log that reached the centre.
+fn are_paired(alloc: Global, trails: &[Trail<Centre>], logs: &[Log]) -> Result<bool, NoMemory> {
+    for (place, trail) in trails.iter().enumerate() {
+        for log in logs {
+            if !is_paired(alloc, place, trail.as_slice(), log)? {
+                return Ok(false);
+            }
+        }
+    }
+    Ok(true)
+}
+
+// The same of one log and the trail of the centre at a place.
+fn is_paired(
+    alloc: Global,
+    place: usize,
+    trail: &[Entry<Ask, Say>],
+    log: &Log,
+) -> Result<bool, NoMemory> {
+    let caller = log.actor();
+    let mut next = 0;
+    for note in log.as_slice() {
+        if let Some((ask, say)) = exchanged(place, &note.deed) {
+            next = entry_from(trail, caller, next);
+            if !is_entry(alloc, trail.get(next), ask, say)? {
+                return Ok(false);
+            }
+            next = next.saturating_add(1);
+        }
+    }
+    Ok(entry_from(trail, caller, next) >= trail.len())
+}
+
+// The ask and the answer of a deed, where the ask reached the centre at a place.
+fn exchanged(place: usize, deed: &Deed) -> Option<(&Ask, &Say)> {
+    match deed {
+        Deed::Asked { centre, ask, fate } if usize::from(*centre) == place.saturating_add(1) => {
+            match answer_in(fate) {
+                Some(say) => Some((ask, say)),
+                None => None,
+            }
+        }
+        _ => None,
+    }
+}
+
+// The place of the first entry of a caller from a place on, and the trail's length where there is none.
+fn entry_from(trail: &[Entry<Ask, Say>], caller: u32, from: usize) -> usize {
+    for (place, entry) in trail.iter().enumerate().skip(from) {
+        if entry.caller == caller {
+            return place;
+        }
+    }
+    trail.len()
+}
+
+// Whether there is an entry, of that ask with that answer.
+fn is_entry(
+    alloc: Global,
+    entry: Option<&Entry<Ask, Say>>,
+    ask: &Ask,
+    say: &Say,
+) -> Result<bool, NoMemory> {
+    match entry {
+        Some(entry) if is_same_ask(&entry.ask, ask) => is_same_say(alloc, &entry.say, say),
+        _ => Ok(false),
+    }
+}
+
+// Whether all that the operator carried stands in an earlier answer of the centre that it came from. By the pairs
+// that answer stands in the centre's trail.
+fn have_origins(logs: &[Log]) -> bool {
+    match logs.first() {
+        Some(log) => {
+            let notes = log.as_slice();
+            for (place, note) in notes.iter().enumerate() {
+                if !has_origin(notes, place, &note.deed) {
+                    return false;
+                }
+            }
+            true
+        }
+        None => false,
+    }
+}
+
+// Whether the operator may make the deed at a place of its log.
+fn has_origin(notes: &[Note], place: usize, deed: &Deed) -> bool {
+    match deed {
+        Deed::Did { .. } => false,
+        Deed::Told(_) => true,
+        Deed::Asked { ask, .. } => match ask {
+            Ask::Deliver { item } => was_sent(notes, place, item),
+            Ask::Learn { from, vector } => was_reported(notes, place, *from, vector),
+            Ask::Send { .. } | Ask::Report | Ask::Stop | Ask::Start => true,
+            _ => false,
+        },
+    }
+}
+
+// Whether a centre answered before a place of a log with a record that it has stamped.
+fn was_sent(notes: &[Note], place: usize, item: &Record) -> bool {
+    for note in notes.iter().take(place) {
+        if let Some(say) = answer_of(&note.deed, item.stamp.centre) {
+            for record in records_in(say) {
+                if is_same_record(record, item) {
+                    return true;
+                }
+            }
+        }
+    }
+    false
+}
+
+// Whether a centre answered before a place of a log with that vector.
+fn was_reported(notes: &[Note], place: usize, from: u8, vector: &Vector) -> bool {
+    for note in notes.iter().take(place) {
+        if let Some(Say::Vector { vector: told }) = answer_of(&note.deed, from) {
+            if told == vector {
+                return true;
+            }
+        }
+    }
+    false
+}
+
+// What a centre answered by a deed.
+fn answer_of(deed: &Deed, from: u8) -> Option<&Say> {
+    match deed {
+        Deed::Asked { centre, fate, .. } if *centre == from => answer_in(fate),
+        _ => None,
+    }
+}
+
+// Whether each client's log follows the rule of a session. Where sections were played in order, those of no log
+// go down.
+fn all_follow(script: &Script, logs: &[Log], in_order: bool) -> bool {
+    for log in logs {
+        let actor = log.actor();
+        if 2 <= actor && actor - 2 < script.clients && !follows(script.n, log) {
+            return false;
+        }
+        if in_order && !ascends(log.as_slice()) {
+            return false;
+        }
+    }
+    true
+}
+
+// Whether the sections of notes, and the steps in each, never go down. Notes outside of the script have section 0.
+fn ascends(notes: &[Note]) -> bool {
+    let mut last = (0, 0);
+    for note in notes {
+        if note.section != 0 {
+            if (note.section, note.step) < last {
+                return false;
+            }
+            last = (note.section, note.step);
+        }
+    }
+    true
+}

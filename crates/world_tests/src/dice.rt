@@ -1,0 +1,255 @@
+// Events that look random, the same in each run.
+use crate::same::records_in;
+use dc_talk::{Ask, Deed, Note, Say};
+use hist_lock::Entry;
+use run_book::Book;
+use script_text::{Script, Section, Step};
+use world_core::Event;
+
+/// Numbers that look random (Knuth's linear congruential generator).
+#[derive(Drop)]
+pub struct Dice {
+    state: u64,
+}
+
+impl Dice {
+    /// The numbers of a seed.
+    pub fn new(seed: u64) -> Dice {
+        Dice { state: seed }
+    }
+
+    // A number below the count of sides, and 0 where there is none.
+    fn roll(&mut self, sides: u64) -> u64 {
+        self.state = self
+            .state
+            .wrapping_mul(6_364_136_223_846_793_005)
+            .wrapping_add(1_442_695_040_888_963_407);
+        (self.state >> 33) % sides.max(1)
+    }
+
+    // The same of few sides.
+    fn pick(&mut self, sides: u32) -> u32 {
+        u32::try_from(self.roll(u64::from(sides))).unwrap_or(0)
+    }
+
+    // A number from 1 to `n`.
+    fn centre(&mut self, n: u8) -> u8 {
+        self.near(n.saturating_sub(1)).saturating_add(1)
+    }
+
+    // A number from 0 to `n`.
+    fn near(&mut self, n: u8) -> u8 {
+        u8::try_from(self.roll(u64::from(n).saturating_add(1))).unwrap_or(0)
+    }
+}
+
+/// How far the operator and the clients are in a script: the last section of which each took its step. An actor
+/// beyond these has none.
+#[derive(Drop)]
+pub struct Plan {
+    last: [u32; 5],
+}
+
+impl Plan {
+    /// Nobody took a step.
+    pub fn new() -> Plan {
+        Plan { last: [0; 5] }
+    }
+
+    // The next section of an actor, which it then has taken; a number past the sections where there is none.
+    fn next(&mut self, script: &Script, actor: u32) -> u32 {
+        match self.last.get_mut(actor.saturating_sub(1) as usize) {
+            Some(last) => {
+                *last = section_behind(script.sections.as_slice(), actor, *last);
+                *last
+            }
+            None => 0,
+        }
+    }
+}
+
+// The actor of a section's step.
+fn actor_of(section: &Section) -> u32 {
+    match section.steps.as_slice() {
+        [Step::Client { client, .. }] => client.saturating_add(1),
+        _ => 1,
+    }
+}
+
+// The first section of an actor behind a section.
+fn section_behind(sections: &[Section], actor: u32, last: u32) -> u32 {
+    let mut number: u32 = 0;
+    for section in sections {
+        number = number.saturating_add(1);
+        if number > last && actor_of(section) == actor {
+            return number;
+        }
+    }
+    number.saturating_add(1)
+}
+
+// The event by which an actor takes the step of a section.
+fn taking(actor: u32, section: u32, step: u32) -> Event {
+    match actor {
+        0 | 1 => Event::Operator { section, step },
+        _ => {
+            let client = actor.saturating_sub(1);
+            Event::Client {
+                client,
+                section,
+                step,
+            }
+        }
+    }
+}
+
+/// Whether each actor takes its steps in the order of the script, or any step at any time.
+#[derive(Clone, Copy)]
+pub enum Order {
+    Kept,
+    Free,
+}
+
+impl Dice {
+    /// The next event of a run of a script that has this book so far. Most name something that is there.
+    pub fn event(&mut self, plan: &mut Plan, order: Order, script: &Script, book: &Book) -> Event {
+        let found = match self.roll(12) {
+            0 | 1 => self.late(script, book),
+            2 | 3 => self.carry(script, book),
+            4 => Some(self.astray(script, order)),
+            5 | 6 | 7 => self.anywhere(script, order),
+            _ => None,
+        };
+        match found {
+            Some(event) => event,
+            None => self.ahead(plan, script),
+        }
+    }
+
+    // An actor takes the next of its steps.
+    fn ahead(&mut self, plan: &mut Plan, script: &Script) -> Event {
+        let actor = self
+            .pick(script.clients.saturating_add(1))
+            .saturating_add(1);
+        taking(actor, plan.next(script, actor), 1)
+    }
+
+    // The step of some section is taken by its actor, where the order is free.
+    fn anywhere(&mut self, script: &Script, order: Order) -> Option<Event> {
+        let sections = script.sections.as_slice();
+        let place = self.pick(count_of(sections));
+        match (order, sections.get(place as usize)) {
+            (Order::Free, Some(section)) => {
+                Some(taking(actor_of(section), place.saturating_add(1), 1))
+            }
+            _ => None,
+        }
+    }
+
+    // An event that seldom names something that is there. Where the order is kept, no step does.
+    fn astray(&mut self, script: &Script, order: Order) -> Event {
+        let (centre, other) = (self.near(script.n.saturating_add(1)), self.near(script.n));
+        let actor = self.pick(script.clients.saturating_add(3));
+        let section = self.pick(count_of(script.sections.as_slice()).saturating_add(2));
+        let place = self.roll(30);
+        match (self.roll(4), order) {
+            (0, _) => Event::Again {
+                client: actor,
+                note: place,
+                centre,
+            },
+            (1, _) => Event::Carry {
+                from: other,
+                entry: place,
+                index: self.pick(2),
+                to: centre,
+            },
+            (_, Order::Kept) => taking(actor, section, self.pick(2).saturating_mul(2)),
+            (_, Order::Free) => taking(actor, section, self.pick(3)),
+        }
+    }
+
+    // A commit of some client comes again, where it has asked for one.
+    fn late(&mut self, script: &Script, book: &Book) -> Option<Event> {
+        let client = self.pick(script.clients).saturating_add(1);
+        let centre = self.centre(script.n);
+        match book.logs.as_slice().get(client as usize) {
+            Some(log) => {
+                let from = self.roll(log.as_slice().len() as u64);
+                match commit_from(log.as_slice(), from) {
+                    Some(note) => Some(Event::Again {
+                        client,
+                        note,
+                        centre,
+                    }),
+                    None => None,
+                }
+            }
+            None => None,
+        }
+    }
+
+    // A record of an answer of some centre is carried to a centre, where one has answered with records.
+    fn carry(&mut self, script: &Script, book: &Book) -> Option<Event> {
+        let (from, to) = (self.centre(script.n), self.centre(script.n));
+        match book
+            .trails
+            .as_slice()
+            .get(usize::from(from).saturating_sub(1))
+        {
+            Some(trail) => {
+                let start = self.roll(trail.len() as u64);
+                match records_from(trail.as_slice(), start) {
+                    Some((entry, records)) => Some(Event::Carry {
+                        from,
+                        entry,
+                        index: self.pick(records),
+                        to,
+                    }),
+                    None => None,
+                }
+            }
+            None => None,
+        }
+    }
+}
+
+// How many sections there are.
+fn count_of(sections: &[Section]) -> u32 {
+    u32::try_from(sections.len()).unwrap_or(0)
+}
+
+// The place of a commit ask of a log: the first from a place on, or the last before it.
+fn commit_from(notes: &[Note], from: u64) -> Option<u64> {
+    let mut found = None;
+    for (place, note) in notes.iter().enumerate() {
+        if matches!(
+            &note.deed,
+            Deed::Asked {
+                ask: Ask::Commit { .. },
+                ..
+            }
+        ) {
+            found = Some(place as u64);
+            if place as u64 >= from {
+                return found;
+            }
+        }
+    }
+    found
+}
+
+// The place of an answer of a trail that has records, and how many: the first from a place on, or the last before it.
+fn records_from(trail: &[Entry<Ask, Say>], from: u64) -> Option<(u64, u32)> {
+    let mut found = None;
+    for (place, entry) in trail.iter().enumerate() {
+        let records = records_in(&entry.say);
+        if !records.is_empty() {
+            found = Some((place as u64, u32::try_from(records.len()).unwrap_or(1)));
+            if place as u64 >= from {
+                return found;
+            }
+        }
+    }
+    found
+}

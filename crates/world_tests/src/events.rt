@@ -1,0 +1,220 @@
+// Two hundred lists of events, each played in a world, with its book looked at slowly.
+ghost use Rattle.world_core.specs.Runs.{IsInRange};
+
+use crate::checker::{Verdict, verdict_on};
+use crate::dice::{Dice, Order, Plan};
+use crate::scripts::SCRIPTS;
+use ids_core::NoMemory;
+use run_book::Book;
+use script_text::{ClientStep, Input, Script, Step, parse};
+use std::alloc::Global;
+use std::process::Abort;
+use std::test::Fail;
+use world_core::{Event, Played, World};
+
+// How many events a list has, and after how many of them what one adds is looked at.
+const EVENTS: usize = 40;
+
+const LOOK: usize = 5;
+
+/// The book of a list of events, and those of them that were played.
+#[derive(Drop)]
+pub struct Run {
+    pub book: Book,
+    pub done: Vec<Event>,
+}
+
+/// Plays events in a new world of a script.
+pub fn run_of(alloc: Global, script: &Script, events: &[Event]) -> Result<Run, NoMemory>
+    requires { IsInRange script.now }
+{
+    let mut world = World::new(alloc, script)?;
+    let mut done = Vec::new(alloc);
+    for event in events {
+        match world.play(alloc, event)? {
+            Played::Done => done.push(*event)?,
+            Played::NoSuch => {}
+        }
+    }
+    Ok(Run {
+        book: world.finish(alloc)?,
+        done,
+    })
+}
+
+// How many notes the logs of a book have, and how many entries its trails.
+fn sizes(book: &Book) -> (u64, u64) {
+    let (mut notes, mut entries) = (0_u64, 0_u64);
+    for log in book.logs.as_slice() {
+        notes = notes.saturating_add(log.as_slice().len() as u64);
+    }
+    for trail in book.trails.as_slice() {
+        entries = entries.saturating_add(trail.len() as u64);
+    }
+    (notes, entries)
+}
+
+// Whether a step only arms a fault.
+fn is_arming(step: &Step) -> bool {
+    matches!(
+        step,
+        Step::Client {
+            step: ClientStep::Arm { .. },
+            ..
+        }
+    )
+}
+
+// Whether an event is a step that only arms a fault.
+fn is_armed_by(script: &Script, event: &Event) -> bool {
+    match event {
+        Event::Client { section, .. } => {
+            match script
+                .sections
+                .as_slice()
+                .get(section.saturating_sub(1) as usize)
+            {
+                Some(section) => matches!(section.steps.as_slice(), [step] if is_arming(step)),
+                None => false,
+            }
+        }
+        _ => false,
+    }
+}
+
+// Whether a run has as many notes and entries more than the one before an event as the event makes: none where it
+// names nothing or arms a fault, one of each where it is an ask outside of the script, and else a note or more.
+fn is_grown(script: &Script, event: &Event, old: &Run, new: &Run) -> bool {
+    let (before, after) = (sizes(&old.book), sizes(&new.book));
+    if new.done.len() == old.done.len() || is_armed_by(script, event) {
+        return after == before;
+    }
+    match event {
+        Event::Again { .. } | Event::Carry { .. } => {
+            after == (before.0.saturating_add(1), before.1.saturating_add(1))
+        }
+        _ => after.0 > before.0 && after.1 >= before.1,
+    }
+}
+
+// A list of events of a seed over a script, with a look at what some of them add.
+fn list_of(
+    rt: &impl Abort,
+    alloc: Global,
+    script: &Script,
+    order: Order,
+    seed: u64,
+) -> Result<Vec<Event>, NoMemory>
+    requires { IsInRange script.now }
+{
+    let mut dice = Dice::new(seed);
+    let mut plan = Plan::new();
+    let mut events = Vec::new(alloc);
+    let mut run = run_of(alloc, script, &[])?;
+    for place in 0..EVENTS {
+        let event = dice.event(&mut plan, order, script, &run.book);
+        if place % LOOK == 0 {
+            let old = run_of(alloc, script, events.as_slice())?;
+            events.push(event)?;
+            run = run_of(alloc, script, events.as_slice())?;
+            assert!(rt;
+                is_grown(script, &event, &old, &run),
+                "seed {seed}, event {place}"
+            );
+        } else {
+            events.push(event)?;
+        }
+    }
+    Ok(events)
+}
+
+// How many events of each kind there were, and how many of these were played: of clients, of the operator, late
+// copies and carries. And how many notes and entries the books had.
+#[derive(Clone, Copy, Debug)]
+struct Tally {
+    all: [u64; 4],
+    done: [u64; 4],
+    sizes: (u64, u64),
+}
+
+// Counts events by their kinds.
+fn count(counts: &mut [u64; 4], events: &[Event]) {
+    for event in events {
+        let place = match event {
+            Event::Client { .. } => 0,
+            Event::Operator { .. } => 1,
+            Event::Again { .. } => 2,
+            Event::Carry { .. } => 3,
+        };
+        if let Some(number) = counts.get_mut(place) {
+            *number = number.saturating_add(1);
+        }
+    }
+}
+
+// Plays a list of a seed over a script, and looks at its book. The same book comes without the events that name
+// nothing.
+fn look_at(
+    rt: &impl Abort,
+    alloc: Global,
+    script: &Script,
+    seed: u64,
+    tally: &mut Tally,
+) -> Result<(), NoMemory>
+    requires { IsInRange script.now }
+{
+    let (order, in_order) = if seed % 2 == 0 {
+        (Order::Kept, true)
+    } else {
+        (Order::Free, false)
+    };
+    let events = list_of(rt, alloc, script, order, seed)?;
+    let run = run_of(alloc, script, events.as_slice())?;
+    let verdict = verdict_on(alloc, script, &run.book, in_order)?;
+    assert_eq!(rt; verdict, Verdict::Fits, "seed {seed}");
+    let again = run_of(alloc, script, run.done.as_slice())?;
+    assert!(rt;
+        again.done.len() == run.done.len() && sizes(&again.book) == sizes(&run.book),
+        "seed {seed}"
+    );
+    count(&mut tally.all, events.as_slice());
+    count(&mut tally.done, run.done.as_slice());
+    let (notes, entries) = sizes(&run.book);
+    tally.sizes = (
+        tally.sizes.0.saturating_add(notes),
+        tally.sizes.1.saturating_add(entries),
+    );
+    Ok(())
+}
+
+// Whether hundreds of steps and copies were played, and as many named nothing, with carries of both sorts.
+fn are_many(tally: &Tally) -> bool {
+    let [steps, orders, copies, carries] = tally.all;
+    let [steps_done, orders_done, copies_done, carries_done] = tally.done;
+    let missed = (
+        steps.saturating_sub(steps_done),
+        orders.saturating_sub(orders_done),
+        copies.saturating_sub(copies_done),
+        carries.saturating_sub(carries_done),
+    );
+    let is_played = steps_done > 5_000 && orders_done > 1_000 && copies_done > 300;
+    let is_missed = missed.0 > 200 && missed.1 > 600 && missed.2 > 100 && missed.3 > 100;
+    is_played && carries_done > 100 && is_missed && tally.sizes.1 > 10_000
+}
+
+#[test]
+fn the_books_of_two_hundred_lists_of_events_fit(rt: HostRuntime) -> Result<(), Fail> {
+    let mut tally = Tally {
+        all: [0; 4],
+        done: [0; 4],
+        sizes: (0, 0),
+    };
+    for text in SCRIPTS {
+        let script = parse(rt.alloc(), &Input::of(text.to_vec(rt.alloc())?))?;
+        for seed in 1..51 {
+            look_at(&rt, rt.alloc(), &script, seed, &mut tally)?;
+        }
+    }
+    assert!(rt; are_many(&tally), "{tally:?}");
+    Ok(())
+}

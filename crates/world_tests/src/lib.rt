@@ -1,0 +1,21 @@
+//! Tests of the system on one thread: examples through one door that owns the centres, and events at random.
+#![tactic(auto)]
+
+#[cfg(test)]
+mod checker;
+#[cfg(test)]
+mod conduct;
+#[cfg(test)]
+mod dice;
+#[cfg(test)]
+mod events;
+#[cfg(test)]
+mod examples;
+#[cfg(test)]
+mod kept_door;
+#[cfg(test)]
+mod same;
+#[cfg(test)]
+mod scripts;
+#[cfg(test)]
+mod spoilt;

@@ -1,0 +1,216 @@
+// Scripts whose steps are taken as events.
+
+// Two clients that move between two centres, with a small cache; an update is stable at once.
+const MOVES: &[u8] = b"\
+centres 2 k 1
+clients 2
+cache 1
+c1 connect 1
+c2 connect 2
+c1 begin
+c2 begin
+c1 inc c.a 5
+c2 refresh
+c1 read c.a
+c2 add s.a x
+c1 commit
+c2 commit
+c1 push
+c2 twice
+c2 push
+ship 1 2
+c1 refresh
+c2 connect 1
+tell 1 2
+c1 connect 2
+c2 refresh
+c1 begin
+c2 read c.a
+ship 2 1
+c1 add s.a y
+c2 begin
+c1 read s.a
+c2 del s.a x
+c1 commit
+c2 read s.a
+c1 flush
+c2 commit
+tell 2 1
+c1 refresh
+c2 push
+c1 read s.a
+ship 1 2 1
+c2 connect 2
+c1 read c.a
+c2 refresh
+c2 read s.a
+";
+
+// Three clients among three centres, of which two have to know an update; asks and answers are lost.
+const LOSSES: &[u8] = b"\
+centres 3 k 2
+clients 3
+c1 connect 1
+c2 connect 2
+c3 connect 3
+c1 begin
+c2 begin
+c3 begin
+c1 set r.a x
+c2 set r.a y
+c3 put m.a k x
+c1 commit
+c2 commit
+c3 commit
+c1 lose reply
+c2 twice
+c3 lose ask
+c1 push
+c2 push
+c3 push
+ship 1 2
+tell 1 2
+c1 connect 2
+c2 refresh
+c3 flush
+c1 flush
+c2 read r.a
+ship 2 1
+c3 refresh
+c1 begin
+c2 lose reply
+c3 begin
+tell 2 1
+c1 inc c.a 1
+c2 begin
+c3 put m.a k y
+c1 commit
+c2 drop m.a k
+ship 1 3
+c3 read m.a
+c1 push
+c2 commit
+c3 commit
+settle
+c1 again 3 1
+c2 flush
+c3 push
+c1 refresh
+c2 read m.a
+c3 read r.a
+";
+
+// Four clients of two centres that are stopped and started, where each centre stamps three transactions at most.
+const STOPS: &[u8] = b"\
+centres 2 k 2
+clients 4
+limit 3
+c1 connect 1
+c2 connect 1
+c3 connect 2
+c4 connect 2
+c1 begin
+c2 begin
+c3 begin
+c4 begin
+c1 inc c.a 1
+c2 inc c.a 2
+c3 inc c.a 3
+c4 inc c.a 4
+c1 commit
+c2 commit
+c3 commit
+c4 commit
+c1 push
+c2 push
+c3 push
+c4 push
+settle
+c1 refresh
+c2 refresh
+c3 connect 1
+c4 connect 1
+down 1
+c1 read c.a
+c2 begin
+c3 refresh
+c4 refresh
+up 1
+c1 begin
+c2 inc c.b 1
+c3 read c.a
+c4 read c.a
+c1 inc c.a 6
+c2 commit
+c3 begin
+c4 begin
+c1 commit
+c2 push
+c3 abort
+c4 commit
+settle
+c1 push
+c2 refresh
+c3 flush
+c4 push
+";
+
+// Four clients among three centres, all of which have to know an update, with late copies.
+const COPIES: &[u8] = b"\
+centres 3 k 3
+clients 4
+cache 2
+c1 connect 1
+c2 connect 2
+c3 connect 3
+c4 connect 1
+c1 begin
+c2 begin
+c3 begin
+c4 read s.a
+c1 add s.a x
+c2 add s.a x
+c3 inc c.a 7
+c4 begin
+c1 commit
+c2 commit
+c3 commit
+c4 inc c.a 2
+c1 lose reply
+c2 push
+c3 push
+c4 commit
+c1 push
+settle
+c4 push
+c1 connect 2
+c2 again 1 1
+c3 refresh
+c4 connect 3
+c1 push
+c2 refresh
+c3 read c.a
+c4 again 2 1
+ship 2 3
+c1 begin
+c2 begin
+c3 begin
+c4 refresh
+c1 del s.a x
+c2 read s.a
+c3 inc c.a 1
+tell 2 3
+c1 commit
+c2 del s.a x
+c3 commit
+c4 read c.a
+settle
+c1 flush
+c2 commit
+c3 twice
+c2 push
+c3 push
+";
+
+/// The scripts.
+pub const SCRIPTS: [&[u8]; 4] = [MOVES, LOSSES, STOPS, COPIES];
