@@ -81,6 +81,79 @@ impl Play {
     }
 }
 
+// What an ask of a client is answered.
+#[derive(Clone, Copy)]
+enum Answer {
+    // It is welcome.
+    Welcome,
+    // What the centre has, in a vector for both centres.
+    Snap,
+    // The same in a vector for one centre.
+    NarrowSnap,
+    // The state of a counter to which 5 was added.
+    Five,
+    // The state of an empty set.
+    Empty,
+    // What the fetch asks for is kept no more.
+    Pruned,
+    // The stamp of the seventh record of centre 2.
+    Stamped,
+    Known,
+    Full,
+    OutOfOrder,
+    // What the centre lacks.
+    Lacks,
+    Down,
+    Misfit,
+}
+
+// The answer, as a centre gives it.
+fn said(alloc: Global, answer: Answer) -> Result<Say, NoMemory> {
+    let (centre, mine, top) = (1, 0, 1);
+    Ok(match answer {
+        Answer::Welcome => Say::Welcome { through: 0 },
+        Answer::Snap => Say::Snap {
+            vector: pair(4, 0),
+            mine,
+            top,
+        },
+        Answer::NarrowSnap => Say::Snap {
+            vector: single(4),
+            mine,
+            top,
+        },
+        Answer::Five => five(alloc)?,
+        Answer::Empty => Say::Object {
+            state: State::empty(alloc, Sort::Set)?,
+        },
+        Answer::Pruned => Say::Pruned {
+            centre,
+            base: 4,
+            at: 2,
+        },
+        Answer::Stamped => Say::Stamped {
+            stamp: Stamp { centre: 2, seq: 7 },
+        },
+        Answer::Known => Say::Known { through: 1 },
+        Answer::Full => Say::Full { limit: 3 },
+        Answer::OutOfOrder => Say::OutOfOrder { have: 0 },
+        Answer::Lacks => Say::Lacks {
+            centre,
+            need: 3,
+            have: 1,
+        },
+        Answer::Down => Say::Down,
+        Answer::Misfit => Say::Misfit,
+    })
+}
+
+// The state of a counter to which 5 was added.
+fn five(alloc: Global) -> Result<Say, NoMemory> {
+    let mut state = State::empty(alloc, Sort::Counter)?;
+    state.fold(&mark(1, id(2, 1, 0)), &Op::Inc { delta: 5 })?;
+    Ok(Say::Object { state })
+}
+
 // What a client has done before a step.
 #[derive(Clone, Copy)]
 enum Before {
@@ -124,12 +197,12 @@ fn told_under(
     before: Before,
     fault: Option<AskFault>,
     step: &ClientStep,
-    say: Say,
+    answer: Answer,
     want: &str,
 ) -> Result<bool, Fail>
     requires { IsStep MOST_CENTRES step.now }
 {
-    let mut play = begin(alloc, say)?;
+    let mut play = begin(alloc, said(alloc, answer)?)?;
     play.prepare(alloc, before)?;
     play.arm(alloc, fault)?;
     let notes = play.log.as_slice().len();
@@ -142,12 +215,12 @@ fn told(
     alloc: Global,
     before: Before,
     step: &ClientStep,
-    say: Say,
+    answer: Answer,
     want: &str,
 ) -> Result<bool, Fail>
     requires { IsStep MOST_CENTRES step.now }
 {
-    told_under(alloc, before, None, step, say, want)
+    told_under(alloc, before, None, step, answer, want)
 }
 
 // An object of that kind and name.
@@ -159,33 +232,25 @@ fn object(sort: Sort, name: &str) -> Result<ObjectId, Fail>
     Ok(ObjectId { sort, name })
 }
 
-// What centre 2 lacks.
-const LACKS: Say = Say::Lacks {
-    centre: 1,
-    need: 3,
-    have: 1,
-};
-
 #[test]
 fn a_connect_by_its_answer(rt: HostRuntime) -> Result<(), Fail> {
     let (alloc, before) = (rt.alloc(), Before::Connected);
     let step = ClientStep::Connect { centre: 2 };
-    for (say, want) in [
-        (Say::Welcome { through: 0 }, "c1 at 2\n"),
-        (LACKS, "c1 refused 2 lacks 1:3 has 1\n"),
-        (Say::Down, "c1 connect 2 unreachable\n"),
-        (Say::Misfit, "c1 connect 2 misfit\n"),
+    for (answer, want) in [
+        (Answer::Welcome, "c1 at 2\n"),
+        (Answer::Lacks, "c1 refused 2 lacks 1:3 has 1\n"),
+        (Answer::Down, "c1 connect 2 unreachable\n"),
+        (Answer::Misfit, "c1 connect 2 misfit\n"),
     ] {
-        assert!(rt; told(alloc, before, &step, say, want)?, "{want}");
+        assert!(rt; told(alloc, before, &step, answer, want)?, "{want}");
     }
     for (fault, want) in [
         (AskFault::LoseAsk, "c1 connect 2 lost\n"),
         (AskFault::LoseReply, "c1 connect 2 lost\n"),
         (AskFault::Twice, "c1 at 2\n"),
     ] {
-        let say = Say::Welcome { through: 0 };
         assert!(rt;
-            told_under(alloc, before, Some(fault), &step, say, want)?,
+            told_under(alloc, before, Some(fault), &step, Answer::Welcome, want)?,
             "{want}"
         );
     }
@@ -195,81 +260,40 @@ fn a_connect_by_its_answer(rt: HostRuntime) -> Result<(), Fail> {
 #[test]
 fn a_refresh_by_its_answer(rt: HostRuntime) -> Result<(), Fail> {
     let (alloc, before, step) = (rt.alloc(), Before::Connected, ClientStep::Refresh);
-    let (mine, top) = (0, 1);
-    for (say, want) in [
-        (
-            Say::Snap {
-                vector: pair(4, 0),
-                mine,
-                top,
-            },
-            "c1 sees 4,0 own 0\n",
-        ),
-        (
-            Say::Snap {
-                vector: single(4),
-                mine,
-                top,
-            },
-            "c1 refresh ignored\n",
-        ),
-        (LACKS, "c1 refresh lacks 1:3 has 1\n"),
-        (Say::Down, "c1 refresh unreachable\n"),
-        (Say::Misfit, "c1 refresh misfit\n"),
+    for (answer, want) in [
+        (Answer::Snap, "c1 sees 4,0 own 0\n"),
+        (Answer::NarrowSnap, "c1 refresh ignored\n"),
+        (Answer::Lacks, "c1 refresh lacks 1:3 has 1\n"),
+        (Answer::Down, "c1 refresh unreachable\n"),
+        (Answer::Misfit, "c1 refresh misfit\n"),
     ] {
-        assert!(rt; told(alloc, before, &step, say, want)?, "{want}");
+        assert!(rt; told(alloc, before, &step, answer, want)?, "{want}");
     }
     for fault in [AskFault::LoseAsk, AskFault::LoseReply] {
-        let say = Say::Snap {
-            vector: pair(4, 0),
-            mine,
-            top,
-        };
         let want = "c1 refresh lost\n";
-        assert!(rt; told_under(alloc, before, Some(fault), &step, say, want)?);
+        assert!(rt; told_under(alloc, before, Some(fault), &step, Answer::Snap, want)?);
     }
     Ok(())
 }
-
-// The state of a counter to which 5 was added.
-fn five(alloc: Global) -> Result<Say, NoMemory> {
-    let mut state = State::empty(alloc, Sort::Counter)?;
-    state.fold(&mark(1, id(2, 1, 0)), &Op::Inc { delta: 5 })?;
-    Ok(Say::Object { state })
-}
-
-// The state of an empty set.
-fn empty(alloc: Global) -> Result<Say, NoMemory> {
-    Ok(Say::Object {
-        state: State::empty(alloc, Sort::Set)?,
-    })
-}
-
-// That a fetch is answered by what the centre keeps no more.
-const PRUNED: Say = Say::Pruned {
-    centre: 1,
-    base: 4,
-    at: 2,
-};
 
 #[test]
 fn a_read_by_the_answer_to_its_fetch(rt: HostRuntime) -> Result<(), Fail> {
     let (alloc, before) = (rt.alloc(), Before::Connected);
     let object = object(Sort::Counter, "a")?;
     let step = ClientStep::Read { object };
-    for (say, want) in [
-        (five(alloc)?, "c1 read c.a 5\n"),
-        (empty(alloc)?, "c1 read c.a ignored\n"),
-        (PRUNED, "c1 read c.a pruned 1:4 at 2\n"),
-        (LACKS, "c1 read c.a lacks 1:3 has 1\n"),
-        (Say::Down, "c1 read c.a unreachable\n"),
-        (Say::Misfit, "c1 read c.a misfit\n"),
+    for (answer, want) in [
+        (Answer::Five, "c1 read c.a 5\n"),
+        (Answer::Empty, "c1 read c.a ignored\n"),
+        (Answer::Pruned, "c1 read c.a pruned 1:4 at 2\n"),
+        (Answer::Lacks, "c1 read c.a lacks 1:3 has 1\n"),
+        (Answer::Down, "c1 read c.a unreachable\n"),
+        (Answer::Misfit, "c1 read c.a misfit\n"),
     ] {
-        assert!(rt; told(alloc, before, &step, say, want)?, "{want}");
+        assert!(rt; told(alloc, before, &step, answer, want)?, "{want}");
     }
     for fault in [AskFault::LoseAsk, AskFault::LoseReply] {
         let want = "c1 read c.a lost\n";
-        assert!(rt; told_under(alloc, before, Some(fault), &step, five(alloc)?, want)?);
+        assert!(rt; told_under(alloc, before, Some(fault), &step, Answer::Five, want)?);
     }
     Ok(())
 }
@@ -281,41 +305,36 @@ fn a_change_by_the_answer_to_its_fetch(rt: HostRuntime) -> Result<(), Fail> {
     let word = object.name;
     let change = Change::Add { word };
     let step = ClientStep::Change { object, change };
-    for (say, want) in [
-        (empty(alloc)?, ""),
-        (five(alloc)?, "c1 add s.a ignored\n"),
-        (PRUNED, "c1 add s.a pruned 1:4 at 2\n"),
-        (LACKS, "c1 add s.a lacks 1:3 has 1\n"),
-        (Say::Down, "c1 add s.a unreachable\n"),
-        (Say::Misfit, "c1 add s.a misfit\n"),
+    for (answer, want) in [
+        (Answer::Empty, ""),
+        (Answer::Five, "c1 add s.a ignored\n"),
+        (Answer::Pruned, "c1 add s.a pruned 1:4 at 2\n"),
+        (Answer::Lacks, "c1 add s.a lacks 1:3 has 1\n"),
+        (Answer::Down, "c1 add s.a unreachable\n"),
+        (Answer::Misfit, "c1 add s.a misfit\n"),
     ] {
-        assert!(rt; told(alloc, before, &step, say, want)?, "{want}");
+        assert!(rt; told(alloc, before, &step, answer, want)?, "{want}");
     }
     for fault in [AskFault::LoseAsk, AskFault::LoseReply] {
         let want = "c1 add s.a lost\n";
-        assert!(rt; told_under(alloc, before, Some(fault), &step, empty(alloc)?, want)?);
+        assert!(rt; told_under(alloc, before, Some(fault), &step, Answer::Empty, want)?);
     }
     Ok(())
 }
 
-// The stamp of the seventh record of centre 2.
-const STAMPED: Say = Say::Stamped {
-    stamp: Stamp { centre: 2, seq: 7 },
-};
-
 #[test]
 fn a_push_by_its_answer(rt: HostRuntime) -> Result<(), Fail> {
     let (alloc, before, step) = (rt.alloc(), Before::Committed, ClientStep::Push);
-    for (say, want) in [
-        (STAMPED, "c1 push 1 stamp 2:7\n"),
-        (Say::Known { through: 1 }, "c1 push 1 known 1\n"),
-        (Say::Full { limit: 3 }, "c1 push 1 full 3\n"),
-        (Say::OutOfOrder { have: 0 }, "c1 push 1 order 0\n"),
-        (LACKS, "c1 push 1 lacks 1:3 has 1\n"),
-        (Say::Down, "c1 push 1 unreachable\n"),
-        (Say::Misfit, "c1 push 1 misfit\n"),
+    for (answer, want) in [
+        (Answer::Stamped, "c1 push 1 stamp 2:7\n"),
+        (Answer::Known, "c1 push 1 known 1\n"),
+        (Answer::Full, "c1 push 1 full 3\n"),
+        (Answer::OutOfOrder, "c1 push 1 order 0\n"),
+        (Answer::Lacks, "c1 push 1 lacks 1:3 has 1\n"),
+        (Answer::Down, "c1 push 1 unreachable\n"),
+        (Answer::Misfit, "c1 push 1 misfit\n"),
     ] {
-        assert!(rt; told(alloc, before, &step, say, want)?, "{want}");
+        assert!(rt; told(alloc, before, &step, answer, want)?, "{want}");
     }
     for (fault, want) in [
         (AskFault::LoseAsk, "c1 push 1 lost\n"),
@@ -323,7 +342,7 @@ fn a_push_by_its_answer(rt: HostRuntime) -> Result<(), Fail> {
         (AskFault::Twice, "c1 push 1 stamp 2:7\n"),
     ] {
         assert!(rt;
-            told_under(alloc, before, Some(fault), &step, STAMPED, want)?,
+            told_under(alloc, before, Some(fault), &step, Answer::Stamped, want)?,
             "{want}"
         );
     }
@@ -333,16 +352,16 @@ fn a_push_by_its_answer(rt: HostRuntime) -> Result<(), Fail> {
 #[test]
 fn a_flush_by_its_answer(rt: HostRuntime) -> Result<(), Fail> {
     let (alloc, before, step) = (rt.alloc(), Before::Committed, ClientStep::Flush);
-    for (say, want) in [
-        (STAMPED, "c1 flushed 1\n"),
-        (Say::Known { through: 1 }, "c1 flushed 1\n"),
-        (Say::Full { limit: 3 }, "c1 push 1 full 3\n"),
-        (Say::OutOfOrder { have: 0 }, "c1 push 1 order 0\n"),
-        (LACKS, "c1 push 1 lacks 1:3 has 1\n"),
-        (Say::Down, "c1 push 1 unreachable\n"),
-        (Say::Misfit, "c1 push 1 misfit\n"),
+    for (answer, want) in [
+        (Answer::Stamped, "c1 flushed 1\n"),
+        (Answer::Known, "c1 flushed 1\n"),
+        (Answer::Full, "c1 push 1 full 3\n"),
+        (Answer::OutOfOrder, "c1 push 1 order 0\n"),
+        (Answer::Lacks, "c1 push 1 lacks 1:3 has 1\n"),
+        (Answer::Down, "c1 push 1 unreachable\n"),
+        (Answer::Misfit, "c1 push 1 misfit\n"),
     ] {
-        assert!(rt; told(alloc, before, &step, say, want)?, "{want}");
+        assert!(rt; told(alloc, before, &step, answer, want)?, "{want}");
     }
     for (fault, want) in [
         (AskFault::LoseAsk, "c1 push 1 lost\n"),
@@ -350,7 +369,7 @@ fn a_flush_by_its_answer(rt: HostRuntime) -> Result<(), Fail> {
         (AskFault::Twice, "c1 flushed 1\n"),
     ] {
         assert!(rt;
-            told_under(alloc, before, Some(fault), &step, STAMPED, want)?,
+            told_under(alloc, before, Some(fault), &step, Answer::Stamped, want)?,
             "{want}"
         );
     }
@@ -359,12 +378,12 @@ fn a_flush_by_its_answer(rt: HostRuntime) -> Result<(), Fail> {
 
 // Whether a late copy to centre 2 tells this line, where it is answered so, and a fault that is armed then is left for
 // the next ask.
-fn told_late(alloc: Global, say: Say, want: &str) -> Result<bool, Fail> {
+fn told_late(alloc: Global, answer: Answer, want: &str) -> Result<bool, Fail> {
     let again = ClientStep::Again {
         centre: 2,
         number: 1,
     };
-    let mut play = begin(alloc, say)?;
+    let mut play = begin(alloc, said(alloc, answer)?)?;
     play.prepare(alloc, Before::Committed)?;
     play.arm(alloc, Some(AskFault::LoseAsk))?;
     play.take(alloc, &ClientStep::Push)?;
@@ -380,23 +399,23 @@ fn told_late(alloc: Global, say: Say, want: &str) -> Result<bool, Fail> {
 #[test]
 fn a_late_copy_by_its_answer(rt: HostRuntime) -> Result<(), Fail> {
     let alloc = rt.alloc();
-    for (say, want) in [
-        (STAMPED, "c1 again 2 1 stamp 2:7\n"),
-        (Say::Known { through: 1 }, "c1 again 2 1 known 1\n"),
-        (Say::Full { limit: 3 }, "c1 again 2 1 full 3\n"),
-        (Say::OutOfOrder { have: 0 }, "c1 again 2 1 order 0\n"),
-        (LACKS, "c1 again 2 1 lacks 1:3 has 1\n"),
-        (Say::Down, "c1 again 2 1 unreachable\n"),
-        (Say::Misfit, "c1 again 2 1 misfit\n"),
+    for (answer, want) in [
+        (Answer::Stamped, "c1 again 2 1 stamp 2:7\n"),
+        (Answer::Known, "c1 again 2 1 known 1\n"),
+        (Answer::Full, "c1 again 2 1 full 3\n"),
+        (Answer::OutOfOrder, "c1 again 2 1 order 0\n"),
+        (Answer::Lacks, "c1 again 2 1 lacks 1:3 has 1\n"),
+        (Answer::Down, "c1 again 2 1 unreachable\n"),
+        (Answer::Misfit, "c1 again 2 1 misfit\n"),
     ] {
-        assert!(rt; told_late(alloc, say, want)?, "{want}");
+        assert!(rt; told_late(alloc, answer, want)?, "{want}");
     }
     let again = ClientStep::Again {
         centre: 2,
         number: 1,
     };
     let want = "c1 again 2 1 none\n";
-    assert!(rt; told(alloc, Before::Committed, &again, STAMPED, want)?);
+    assert!(rt; told(alloc, Before::Committed, &again, Answer::Stamped, want)?);
     Ok(())
 }
 
@@ -408,7 +427,7 @@ fn pushes(
     second: AskFault,
     want: &str,
 ) -> Result<(bool, usize), Fail> {
-    let mut play = begin(alloc, STAMPED)?;
+    let mut play = begin(alloc, said(alloc, Answer::Stamped)?)?;
     play.prepare(alloc, Before::Committed)?;
     play.arm(alloc, Some(first))?;
     play.arm(alloc, Some(second))?;

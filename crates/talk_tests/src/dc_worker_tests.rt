@@ -14,25 +14,54 @@ use std::test::Fail;
 use tx_core::Record;
 use vv_core::Stamp;
 
-// Whether a step tells this line, where its asks are answered so.
-fn told(
-    alloc: Global,
-    step: &OperatorStep,
-    first: Say,
-    second: Say,
-    third: Say,
-    want: &str,
-) -> Result<bool, Fail>
-    requires { IsOperatorStep MOST_CENTRES step.now }
-{
-    let mut answers = Vec::new(alloc);
-    answers.push(first)?;
-    answers.push(second)?;
-    answers.push(third)?;
-    let mut door = ListDoor::new(alloc, answers);
-    let mut log = Log::new(alloc, 1);
-    operate(&mut door, MOST_CENTRES, step, &mut log)?;
-    Ok(tells(alloc, &log, 0, want)?)
+// What an ask of the operator is answered by a centre.
+#[derive(Clone, Copy)]
+enum Answer {
+    // It has what it is told by, so many records of centre 1 and none of centre 2.
+    Has(u64),
+    // The record of centre 1 with this number, alone.
+    Sent(u64),
+    // No record.
+    Nothing,
+    Trimmed,
+    Applied,
+    Alias,
+    Old(u64),
+    Gap(u64),
+    Waits,
+    Orphan,
+    Fresh,
+    Stale,
+    Down,
+    Misfit,
+}
+
+// The answer, as a centre gives it.
+fn said(alloc: Global, answer: Answer) -> Result<Say, Fail> {
+    Ok(match answer {
+        Answer::Has(first) => Say::Vector {
+            vector: pair(first, 0),
+        },
+        Answer::Sent(seq) => sent(alloc, seq)?,
+        Answer::Nothing => Say::Records {
+            list: Records::new(alloc),
+        },
+        Answer::Trimmed => Say::Trimmed { from: 4 },
+        Answer::Applied => Say::Applied { fresh: true },
+        Answer::Alias => Say::Applied { fresh: false },
+        Answer::Old(have) => Say::Old { have },
+        Answer::Gap(have) => Say::Gap { have },
+        Answer::Waits => Say::Waits {
+            centre: 3,
+            need: 4,
+            have: 2,
+        },
+        Answer::Orphan => Say::Orphan { number: 5, have: 2 },
+        Answer::Fresh => Say::Learned { fresh: true },
+        Answer::Stale => Say::Learned { fresh: false },
+        Answer::Down => Say::Down,
+        Answer::Misfit => Say::Misfit,
+    })
 }
 
 // An answer with one record of centre 1, which has this number.
@@ -51,40 +80,38 @@ fn sent(alloc: Global, seq: u64) -> Result<Say, Fail> {
     Ok(Say::Records { list })
 }
 
-// An answer with no record.
-fn none(alloc: Global) -> Say {
-    Say::Records {
-        list: Records::new(alloc),
+// A door that gives these answers, and behind them those of stopped centres.
+fn door(alloc: Global, answers: [Answer; 3]) -> Result<ListDoor, Fail> {
+    let mut says = Vec::new(alloc);
+    for answer in answers {
+        says.push(said(alloc, answer)?)?;
     }
+    Ok(ListDoor::new(alloc, says))
 }
 
-// An answer with what a centre has.
-fn has(first: u64, second: u64) -> Say {
-    Say::Vector {
-        vector: pair(first, second),
-    }
+// Whether a step tells this line, where its asks are answered so.
+fn told(alloc: Global, step: &OperatorStep, answers: [Answer; 3], want: &str) -> Result<bool, Fail>
+    requires { IsOperatorStep MOST_CENTRES step.now }
+{
+    let mut door = door(alloc, answers)?;
+    let mut log = Log::new(alloc, 1);
+    operate(&mut door, MOST_CENTRES, step, &mut log)?;
+    Ok(tells(alloc, &log, 0, want)?)
 }
-
-// The answer of a centre that does not have what a record depends on.
-const WAITS: Say = Say::Waits {
-    centre: 3,
-    need: 4,
-    have: 2,
-};
 
 #[test]
 fn a_ship_of_one_record_by_the_answer_of_its_origin(rt: HostRuntime) -> Result<(), Fail> {
     let alloc = rt.alloc();
     let (from, to, seq) = (1, 2, 3);
     let step = OperatorStep::ShipOne { from, to, seq };
-    for (say, want) in [
-        (none(alloc), "2 from 1 none 3\n"),
-        (Say::Trimmed { from: 4 }, "2 from 1 trimmed 4\n"),
-        (Say::Down, "2 from 1 down 1\n"),
-        (Say::Misfit, "2 from 1 misfit\n"),
+    for (answer, want) in [
+        (Answer::Nothing, "2 from 1 none 3\n"),
+        (Answer::Trimmed, "2 from 1 trimmed 4\n"),
+        (Answer::Down, "2 from 1 down 1\n"),
+        (Answer::Misfit, "2 from 1 misfit\n"),
     ] {
         assert!(rt;
-            told(alloc, &step, say, Say::Down, Say::Down, want)?,
+            told(alloc, &step, [answer, Answer::Down, Answer::Down], want)?,
             "{want}"
         );
     }
@@ -96,21 +123,18 @@ fn a_ship_of_one_record_by_the_answer_to_it(rt: HostRuntime) -> Result<(), Fail>
     let alloc = rt.alloc();
     let (from, to, seq) = (1, 2, 3);
     let step = OperatorStep::ShipOne { from, to, seq };
-    for (say, want) in [
-        (Say::Applied { fresh: true }, "2 from 1 applied 3\n"),
-        (Say::Applied { fresh: false }, "2 from 1 alias 3\n"),
-        (Say::Old { have: 5 }, "2 from 1 old 5\n"),
-        (Say::Gap { have: 1 }, "2 from 1 gap 1\n"),
-        (WAITS, "2 from 1 waits 3:4 has 2\n"),
-        (
-            Say::Orphan { number: 5, have: 2 },
-            "2 from 1 orphan 5 has 2\n",
-        ),
-        (Say::Down, "2 from 1 down 2\n"),
-        (Say::Misfit, "2 from 1 misfit\n"),
+    for (answer, want) in [
+        (Answer::Applied, "2 from 1 applied 3\n"),
+        (Answer::Alias, "2 from 1 alias 3\n"),
+        (Answer::Old(5), "2 from 1 old 5\n"),
+        (Answer::Gap(1), "2 from 1 gap 1\n"),
+        (Answer::Waits, "2 from 1 waits 3:4 has 2\n"),
+        (Answer::Orphan, "2 from 1 orphan 5 has 2\n"),
+        (Answer::Down, "2 from 1 down 2\n"),
+        (Answer::Misfit, "2 from 1 misfit\n"),
     ] {
         assert!(rt;
-            told(alloc, &step, sent(alloc, 3)?, say, Say::Down, want)?,
+            told(alloc, &step, [Answer::Sent(3), answer, Answer::Down], want)?,
             "{want}"
         );
     }
@@ -121,23 +145,23 @@ fn a_ship_of_one_record_by_the_answer_to_it(rt: HostRuntime) -> Result<(), Fail>
 fn a_ship_by_the_answers_to_its_report_and_its_send(rt: HostRuntime) -> Result<(), Fail> {
     let alloc = rt.alloc();
     let step = OperatorStep::Ship { from: 1, to: 2 };
-    for (say, want) in [
-        (Say::Down, "2 from 1 down 2\n"),
-        (Say::Misfit, "2 from 1 misfit\n"),
+    for (answer, want) in [
+        (Answer::Down, "2 from 1 down 2\n"),
+        (Answer::Misfit, "2 from 1 misfit\n"),
     ] {
         assert!(rt;
-            told(alloc, &step, say, Say::Down, Say::Down, want)?,
+            told(alloc, &step, [answer, Answer::Down, Answer::Down], want)?,
             "{want}"
         );
     }
-    for (say, want) in [
-        (none(alloc), ""),
-        (Say::Trimmed { from: 4 }, "2 from 1 trimmed 4\n"),
-        (Say::Down, "2 from 1 down 1\n"),
-        (Say::Misfit, "2 from 1 misfit\n"),
+    for (answer, want) in [
+        (Answer::Nothing, ""),
+        (Answer::Trimmed, "2 from 1 trimmed 4\n"),
+        (Answer::Down, "2 from 1 down 1\n"),
+        (Answer::Misfit, "2 from 1 misfit\n"),
     ] {
         assert!(rt;
-            told(alloc, &step, has(0, 0), say, Say::Down, want)?,
+            told(alloc, &step, [Answer::Has(0), answer, Answer::Down], want)?,
             "{want}"
         );
     }
@@ -148,21 +172,23 @@ fn a_ship_by_the_answers_to_its_report_and_its_send(rt: HostRuntime) -> Result<(
 fn a_ship_by_the_answer_to_its_record(rt: HostRuntime) -> Result<(), Fail> {
     let alloc = rt.alloc();
     let step = OperatorStep::Ship { from: 1, to: 2 };
-    for (say, want) in [
-        (Say::Applied { fresh: true }, "2 from 1 applied 1\n"),
-        (Say::Applied { fresh: false }, "2 from 1 alias 1\n"),
-        (Say::Old { have: 5 }, "2 from 1 old 5\n"),
-        (Say::Gap { have: 0 }, "2 from 1 gap 0\n"),
-        (WAITS, "2 from 1 waits 3:4 has 2\n"),
-        (
-            Say::Orphan { number: 5, have: 2 },
-            "2 from 1 orphan 5 has 2\n",
-        ),
-        (Say::Down, "2 from 1 down 2\n"),
-        (Say::Misfit, "2 from 1 misfit\n"),
+    for (answer, want) in [
+        (Answer::Applied, "2 from 1 applied 1\n"),
+        (Answer::Alias, "2 from 1 alias 1\n"),
+        (Answer::Old(5), "2 from 1 old 5\n"),
+        (Answer::Gap(0), "2 from 1 gap 0\n"),
+        (Answer::Waits, "2 from 1 waits 3:4 has 2\n"),
+        (Answer::Orphan, "2 from 1 orphan 5 has 2\n"),
+        (Answer::Down, "2 from 1 down 2\n"),
+        (Answer::Misfit, "2 from 1 misfit\n"),
     ] {
         assert!(rt;
-            told(alloc, &step, has(0, 0), sent(alloc, 1)?, say, want)?,
+            told(
+                alloc,
+                &step,
+                [Answer::Has(0), Answer::Sent(1), answer],
+                want
+            )?,
             "{want}"
         );
     }
@@ -173,23 +199,23 @@ fn a_ship_by_the_answer_to_its_record(rt: HostRuntime) -> Result<(), Fail> {
 fn a_tell_by_its_answers(rt: HostRuntime) -> Result<(), Fail> {
     let alloc = rt.alloc();
     let step = OperatorStep::Tell { from: 1, to: 2 };
-    for (say, want) in [
-        (Say::Down, "2 told 1 down 1\n"),
-        (Say::Misfit, "2 told 1 misfit\n"),
+    for (answer, want) in [
+        (Answer::Down, "2 told 1 down 1\n"),
+        (Answer::Misfit, "2 told 1 misfit\n"),
     ] {
         assert!(rt;
-            told(alloc, &step, say, Say::Down, Say::Down, want)?,
+            told(alloc, &step, [answer, Answer::Down, Answer::Down], want)?,
             "{want}"
         );
     }
-    for (say, want) in [
-        (Say::Learned { fresh: true }, ""),
-        (Say::Learned { fresh: false }, ""),
-        (Say::Down, "2 told 1 down 2\n"),
-        (Say::Misfit, "2 told 1 misfit\n"),
+    for (answer, want) in [
+        (Answer::Fresh, ""),
+        (Answer::Stale, ""),
+        (Answer::Down, "2 told 1 down 2\n"),
+        (Answer::Misfit, "2 told 1 misfit\n"),
     ] {
         assert!(rt;
-            told(alloc, &step, has(1, 0), say, Say::Down, want)?,
+            told(alloc, &step, [Answer::Has(1), answer, Answer::Down], want)?,
             "{want}"
         );
     }
@@ -198,12 +224,8 @@ fn a_tell_by_its_answers(rt: HostRuntime) -> Result<(), Fail> {
 
 // How many asks a settling makes among eight centres, of which all are stopped but for these three answers; none where
 // it tells a line.
-fn settled(alloc: Global, first: Say, second: Say, third: Say) -> Result<Option<usize>, Fail> {
-    let mut answers = Vec::new(alloc);
-    answers.push(first)?;
-    answers.push(second)?;
-    answers.push(third)?;
-    let mut door = ListDoor::new(alloc, answers);
+fn settled(alloc: Global, answers: [Answer; 3]) -> Result<Option<usize>, Fail> {
+    let mut door = door(alloc, answers)?;
     let mut log = Log::new(alloc, 1);
     operate(&mut door, MOST_CENTRES, &OperatorStep::Settle, &mut log)?;
     let asks = door.entries().len();
@@ -215,16 +237,9 @@ fn settled(alloc: Global, first: Say, second: Say, third: Say) -> Result<Option<
 #[test]
 fn a_settling_ends_with_the_first_pass_without_news(rt: HostRuntime) -> Result<(), Fail> {
     let alloc = rt.alloc();
-    let asks = settled(alloc, Say::Down, Say::Down, Say::Down)?;
-    assert!(rt; asks == Some(112));
-    let asks = settled(alloc, has(0, 0), sent(alloc, 1)?, Say::Old { have: 1 })?;
-    assert!(rt; asks == Some(114));
-    let asks = settled(
-        alloc,
-        has(0, 0),
-        sent(alloc, 1)?,
-        Say::Applied { fresh: true },
-    )?;
-    assert!(rt; asks == Some(226));
+    let (has, sent) = (Answer::Has(0), Answer::Sent(1));
+    assert!(rt; settled(alloc, [Answer::Down; 3])? == Some(112));
+    assert!(rt; settled(alloc, [has, sent, Answer::Old(1)])? == Some(114));
+    assert!(rt; settled(alloc, [has, sent, Answer::Applied])? == Some(226));
     Ok(())
 }
