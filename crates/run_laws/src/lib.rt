@@ -1,0 +1,6 @@
+//! The laws of runs: a script has one book, and what the program owes for its input is one output.
+#![tactic(auto)]
+
+mod laws;
+
+pub use laws::{law_forks, law_one_book, law_one_output, law_one_script};
