@@ -1,0 +1,48 @@
+#!/bin/sh
+# Times `settle` among 2, 4 and 8 centres, each with 1,000 and then 2,000 records that all others lack,
+# with the built program, and prints the rows of the table in docs/benchmarks.md. Each time is the least
+# of 15 runs of a script with a `settle` at its end, less the least of 15 without. The status is 1
+# where twice as many records take more than 2.3 times as long, or the program gives a wrong end.
+#   bench/settle.sh              times crates/swift_sim/out/swift_sim
+#   SWIFT_SIM=FILE bench/settle.sh      times another program
+set -u
+root=$(cd "$(dirname "$0")/.." && pwd) || exit 1
+program=${SWIFT_SIM:-$root/crates/swift_sim/out/swift_sim}
+. "$root/bench/timing.sh"
+
+# records CENTRES COUNT STEP: a script in which a client of each centre commits so many times, with a
+# newer snapshot after each 500; then STEP, and what client 1 sees after it.
+records() {
+    awk -v centres="$1" -v count="$2" -v step="$3" 'BEGIN {
+        print "centres " centres " k 1\nclients " centres
+        for (i = 1; i <= centres; i++) print "c" i " connect " i
+        for (number = 1; number <= count; number++)
+            for (i = 1; i <= centres; i++) {
+                c = "c" i
+                print c " begin\n" c " inc c.total 1\n" c " commit\n" c " push"
+                if (number % 500 == 0) print c " refresh"
+            }
+        if (step != "") print step
+        print "c1 refresh\nc1 read c.total"
+    }'
+}
+
+# run SCRIPT TOTAL: plays a script, after which client 1 has to read TOTAL.
+run() {
+    timed serial <"$room/$1" && [ "$(tail -n 1 "$room/out")" = "c1 read c.total $2" ]
+}
+
+head_of centres 'records each' 'seconds to settle' 'ratio to the row above'
+for centres in 2 4 8; do
+    before=
+    for count in 1000 2000; do
+        records "$centres" "$count" '' >"$room/apart"
+        records "$centres" "$count" settle >"$room/settled"
+        none=$(least 15 apart "$count") || wrong "$centres" centres, "$count" records
+        all=$(least 15 settled $((centres * count))) || wrong "$centres" centres, "$count" records settled
+        took=$((all - none))
+        row "$centres | $count" "$took" "$before" 2.3
+        before=$took
+    done
+done
+exit "$status"
