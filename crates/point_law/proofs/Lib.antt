@@ -3,3 +3,8 @@ pub mod Inside
 pub mod Splits
 pub mod Firsts
 pub mod Growth
+pub mod Stamps
+pub mod Chains
+pub mod LogSplits
+pub mod LogGrowth
+pub mod StandingFor

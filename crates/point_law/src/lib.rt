@@ -4,4 +4,4 @@
 
 mod laws;
 
-pub use laws::{law_split, law_split_steps};
+pub use laws::{law_split, law_split_steps, law_stand_for, law_stand_for_steps};

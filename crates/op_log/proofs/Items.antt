@@ -1,0 +1,116 @@
+-- Lists of logged transactions whose numbers ascend.
+use Rattle.std.proofs.Common.{◌≡◌, ◌<◌, Bool, true, false, cond, inl, inr, ⊎_elim, List, [], ◌∷◌, ◌++◌, map, refl, sym, ap, ◌∙◌, subst, arith}
+use Rattle.std.specs.Prelude.{◌||◌, filter}
+use Rattle.std.specs.List.{list_any}
+use Rattle.std.proofs.lemmas.Bool.{cases_Bool, false≢true}
+use Rattle.std.proofs.lemmas.List.{append-nil}
+use Rattle.std.proofs.lemmas.Grind.{flat_map-append}
+use Rattle.list_core.specs.Members.{In}
+use Rattle.list_core.proofs.Members.{In_more, In_from_filter, In_from_map}
+use Rattle.ids_core.specs.declared.ids.Dot.{Dot}
+use Rattle.ids_core.specs.declared.object.ObjectId.{ObjectId}
+use Rattle.ids_core.specs.Ids.{same_dot}
+use Rattle.vv_core.specs.declared.stamp.Stamp.{Stamp}
+use Rattle.op_log.specs.declared.logged.Logged.{Logged}
+use Rattle.op_log.specs.Logs.{cells_of, chain_of, with_one, stamped, with_stamp}
+use Rattle.op_log.specs.Tables.{Rises}
+
+-- ---- lists
+
+-- a test that fails of each member finds none
+pub finds_none : {X : Type 0} (p : X → Bool) (xs : List X) → ((x : X) → In x xs → p x ≡ true → ⊥) → list_any p xs ≡ false
+finds_none p [] none = refl
+finds_none p (x ∷ xs) none = ap (λ b. b || list_any p xs) (⊎_elim (λ is. absurd (none x (inl refl) is)) (λ is. is) (cases_Bool (p x))) ∙ finds_none p xs (λ y i. none y (inr i))
+
+-- where a test finds none, it fails of each member
+pub found_none : {X : Type 0} (p : X → Bool) (xs : List X) (x : X) → list_any p xs ≡ false → In x xs → p x ≡ false
+found_none p [] x none i = absurd i
+found_none {X} p (y ∷ xs) x none i = go (p y) refl none i (λ none j. found_none p xs x none j)
+  where
+    go : (b : Bool) → p y ≡ b → (b || list_any p xs) ≡ false → In x (y ∷ xs) → (list_any p xs ≡ false → In x xs → p x ≡ false) → p x ≡ false
+    go true is none j rest = absurd (false≢true (sym none))
+    go false is none (inl same) rest = ap p same ∙ is
+    go false is none (inr j) rest = rest none j
+
+-- where a test finds one, that is a member
+pub found_some : {X : Type 0} (p : X → Bool) (xs : List X) → list_any p xs ≡ true → (x : X) × In x xs × (p x ≡ true)
+found_some p [] some = absurd (false≢true some)
+found_some {X} p (y ∷ xs) some = go (p y) refl some (λ some. found_some p xs some)
+  where
+    go : (b : Bool) → p y ≡ b → (b || list_any p xs) ≡ true → (list_any p xs ≡ true → (x : X) × In x xs × (p x ≡ true)) → (x : X) × In x (y ∷ xs) × (p x ≡ true)
+    go true is some rest = (y, inl refl, is)
+    go false is some rest = let r = rest some in (r.0, inr r.1, r.2)
+
+-- what leaves each member as it is, leaves the list as it is
+pub maps_same : {X : Type 0} (f : X → X) (xs : List X) → ((x : X) → In x xs → f x ≡ x) → map f xs ≡ xs
+maps_same f [] same = refl
+maps_same f (x ∷ xs) same = ap (λ y. y ∷ map f xs) (same x (inl refl)) ∙ ap (λ ys. x ∷ ys) (maps_same f xs (λ y i. same y (inr i)))
+
+-- ---- numbers that ascend
+
+-- members of one number are one
+pub rises_one : (items : List Logged) (x y : Logged) → Rises items → In x items → In y items → x.number ≡ y.number → x ≡ y
+rises_one [] x y rises i j same = absurd i
+rises_one (z ∷ items) x y rises (inl here) (inl there) same = here ∙ sym there
+rises_one (z ∷ items) x y rises (inl here) (inr j) same = absurd (omega (arith, rises.0 y j, ap (λ w. w.number) here, same))
+rises_one (z ∷ items) x y rises (inr i) (inl there) same = absurd (omega (arith, rises.0 x i, ap (λ w. w.number) there, same))
+rises_one (z ∷ items) x y rises (inr i) (inr j) same = rises_one items x y rises.1 i j same
+
+-- one more, whose number is above all others
+pub rises_more : (items : List Logged) (x : Logged) → Rises items → ((y : Logged) → In y items → y.number < x.number) → Rises (items ++ x ∷ [])
+rises_more [] x rises below = (λ y i. absurd i, tt)
+rises_more (z ∷ items) x rises below = (
+  λ y i. ⊎_elim (λ j. rises.0 y j) (λ same. subst (λ w. z.number < w.number) (sym same) (below z (inl refl))) (In_more items x y i),
+  rises_more items x rises.1 (λ y i. below y (inr i)),
+)
+
+-- those that pass a test
+pub rises_filter : (p : Logged → Bool) (items : List Logged) → Rises items → Rises (filter p items)
+rises_filter p [] rises = tt
+rises_filter p (z ∷ items) rises = go (p z) (rises_filter p items rises.1)
+  where
+    go : (b : Bool) → Rises (filter p items) → Rises (cond b (z ∷ filter p items) (filter p items))
+    go true rest = (λ y i. rises.0 y (In_from_filter p items y i).0, rest)
+    go false rest = rest
+
+-- those that were changed, but not their numbers
+pub rises_map : (f : Logged → Logged) (items : List Logged) → ((x : Logged) → (f x).number ≡ x.number) → Rises items → Rises (map f items)
+rises_map f [] same rises = tt
+rises_map f (z ∷ items) same rises = (
+  λ y i. let m = In_from_map f items y i in omega (arith, rises.0 m.0 m.1, same m.0, same z, ap (λ w. w.number) m.2),
+  rises_map f items same rises.1,
+)
+
+-- ---- a stamp more
+
+-- nothing but the stamps changes
+pub stamped_number : (d : Dot) (s : Stamp) (x : Logged) → (stamped d s x).number ≡ x.number
+stamped_number d s x = go (same_dot x.tx.dot d)
+  where
+    go : (b : Bool) → (cond b (with_one s x) x).number ≡ x.number
+    go true = refl
+    go false = refl
+
+pub stamped_tx : (d : Dot) (s : Stamp) (x : Logged) → (stamped d s x).tx ≡ x.tx
+stamped_tx d s x = go (same_dot x.tx.dot d)
+  where
+    go : (b : Bool) → (cond b (with_one s x) x).tx ≡ x.tx
+    go true = refl
+    go false = refl
+
+-- where no transaction has the dot, none changes
+pub stamps_none : (d : Dot) (s : Stamp) (items : List Logged) → ((x : Logged) → In x items → same_dot x.tx.dot d ≡ true → ⊥) → with_stamp d s items ≡ items
+stamps_none d s items none = maps_same (stamped d s) items (λ x i. ap (λ b. cond b (with_one s x) x) (⊎_elim (λ is. absurd (none x i is)) (λ is. is) (cases_Bool (same_dot x.tx.dot d))))
+
+-- the chains stay
+pub chain_of-with_stamp : (o : ObjectId) (d : Dot) (s : Stamp) (items : List Logged) → chain_of o (with_stamp d s items) ≡ chain_of o items
+chain_of-with_stamp o d s [] = refl
+chain_of-with_stamp o d s (x ∷ items) = go (same_dot x.tx.dot d) ∙ ap (λ l. cells_of o x ++ l) (chain_of-with_stamp o d s items)
+  where
+    go : (b : Bool) → cells_of o (cond b (with_one s x) x) ++ chain_of o (with_stamp d s items) ≡ cells_of o x ++ chain_of o (with_stamp d s items)
+    go true = refl
+    go false = refl
+
+-- one more has its operations behind all others
+pub chain_more : (o : ObjectId) (items : List Logged) (x : Logged) → chain_of o (items ++ x ∷ []) ≡ chain_of o items ++ cells_of o x
+chain_more o items x = flat_map-append (cells_of o) items (x ∷ []) ∙ ap (λ l. chain_of o items ++ l) (append-nil (cells_of o x))

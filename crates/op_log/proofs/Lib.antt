@@ -1,0 +1,7 @@
+mod Lines
+mod Ops
+mod Items
+mod Numbers
+mod Keeping
+mod Owns
+mod Sweeping

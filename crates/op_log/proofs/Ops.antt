@@ -1,0 +1,98 @@
+-- The operations on an object, one update after another.
+use Rattle.std.proofs.Common.{◌≡◌, ◌≤◌, ◌<◌, ◌⊎◌, inl, inr, ℕ, ◌+◌, ◌-◌, Bool, true, false, cond, List, [], ◌∷◌, ◌++◌, length, take, get_or, arith, refl, sym, ap, ◌∙◌, subst}
+use Rattle.std.specs.Prelude.{Result, Ok, Err, is_err, OnOk, OnErr}
+use Rattle.std.proofs.lemmas.Bool.{cases_Bool}
+use Rattle.std.proofs.lemmas.List.{take_more, take-take, length-take-le, length-append, take_at, append_assoc, append-nil}
+use Rattle.std.proofs.lemmas.List.Sums.{count_by_more_no, count_by_more_yes}
+use Rattle.ids_core.specs.declared.ids.Dot.{Dot}
+use Rattle.ids_core.specs.declared.object.ObjectId.{ObjectId}
+use Rattle.ids_core.specs.Ids.{same_object}
+use Rattle.ids_core.specs.Same.{same_object-true}
+use Rattle.tx_core.specs.declared.tx.Update.{Update}
+use Rattle.vv_core.proofs.Reaching.{count_by-cons}
+use Rattle.op_log.specs.declared.chains.Cell.{Cell}
+use Rattle.op_log.specs.Logs.{cell, cells_from}
+use Rattle.op_log.specs.Tables.{counted}
+
+-- the lists of two times, of which the second has x behind what the first has of the object a
+abbrev pub PutsLast : (ObjectId → List Cell) → (ObjectId → List Cell) → ObjectId → Cell → Type 0
+PutsLast f g a x = (g a ≡ f a ++ x ∷ []) × ((o : ObjectId) → same_object a o ≡ false → g o ≡ f o)
+
+module _ (number rank : ℕ) (dot : Dot) where
+  -- what the update at a place adds to the operations of an object
+  abbrev one_more : ObjectId → ℕ → Update → List Cell
+  one_more o place u = cond (same_object u.object o) (cell number rank dot place u.op ∷ []) []
+
+  cells_from-last : (o : ObjectId) (place : ℕ) (us : List Update) (u : Update) → cells_from o number rank dot place (us ++ u ∷ []) ≡ cells_from o number rank dot place us ++ one_more o (place + length us) u
+  cells_from-last o place [] u = ap (λ p. one_more o p u) plus
+    where
+      plus : place ≡ place + 0
+      plus = omega arith
+  cells_from-last o place (v ∷ us) u =
+      go (cells_from-last o (place + 1) us u ∙ ap (λ p. cells_from o number rank dot (place + 1) us ++ one_more o p u) plus) (same_object v.object o)
+    where
+      plus : (place + 1) + length us ≡ place + length (v ∷ us)
+      plus = omega arith
+
+      go : cells_from o number rank dot (place + 1) (us ++ u ∷ []) ≡ cells_from o number rank dot (place + 1) us ++ one_more o (place + length (v ∷ us)) u → (b : Bool) → cond b (cell number rank dot place v.op ∷ cells_from o number rank dot (place + 1) (us ++ u ∷ [])) (cells_from o number rank dot (place + 1) (us ++ u ∷ [])) ≡ cond b (cell number rank dot place v.op ∷ cells_from o number rank dot (place + 1) us) (cells_from o number rank dot (place + 1) us) ++ one_more o (place + length (v ∷ us)) u
+      go rest true = ap (λ l. cell number rank dot place v.op ∷ l) rest
+      go rest false = rest
+
+  -- one operation for each update on the object
+  pub length-cells_from : (o : ObjectId) (place : ℕ) (us : List Update) → length (cells_from o number rank dot place us) ≡ counted o us
+  length-cells_from o place [] = refl
+  length-cells_from o place (u ∷ us) = go (length-cells_from o (place + 1) us) (same_object u.object o) ∙ sym (count_by-cons (λ u. same_object u.object o) u us)
+    where
+      go : length (cells_from o number rank dot (place + 1) us) ≡ counted o us → (b : Bool) → length (cond b (cell number rank dot place u.op ∷ cells_from o number rank dot (place + 1) us) (cells_from o number rank dot (place + 1) us)) ≡ cond b 1 0 + counted o us
+      go rest true = omega (arith, rest)
+      go rest false = omega (arith, rest)
+
+  -- one update after the first i of them has its operation behind all others
+  pub put_more : (f g h : ObjectId → List Cell) (us : List Update) (i : ℕ) (u : Update) → i < length us → u ≡ get_or us i u → ((o : ObjectId) → g o ≡ f o ++ cells_from o number rank dot 0 (take i us)) → PutsLast g h u.object (cell number rank dot i u.op) → (o : ObjectId) → h o ≡ f o ++ cells_from o number rank dot 0 (take (i + 1) us)
+  put_more f g h us i u small is before puts o =
+      h-is (cases_Bool (same_object u.object o)) ∙ ap (λ l. l ++ one_more o i u) (before o) ∙ append_assoc (f o) (cells_from o number rank dot 0 (take i us)) (one_more o i u) ∙ ap (λ l. f o ++ l) (sym more)
+    where
+      h-is : (same_object u.object o ≡ true) ⊎ (same_object u.object o ≡ false) → h o ≡ g o ++ one_more o i u
+      h-is (inl e) = subst (λ p. h p ≡ g p ++ cell number rank dot i u.op ∷ []) (same_object-true u.object o e) puts.0 ∙ ap (λ b. g o ++ cond b (cell number rank dot i u.op ∷ []) []) (sym e)
+      h-is (inr e) = puts.1 o e ∙ sym (append-nil (g o)) ∙ ap (λ b. g o ++ cond b (cell number rank dot i u.op ∷ []) []) (sym e)
+
+      place : 0 + length (take i us) ≡ i
+      place = omega (arith, length-take-le i us (omega arith))
+
+      more : cells_from o number rank dot 0 (take (i + 1) us) ≡ cells_from o number rank dot 0 (take i us) ++ one_more o i u
+      more =
+          ap (cells_from o number rank dot 0) (take_more us i u small ∙ ap (λ v. take i us ++ v ∷ []) (sym is)) ∙ cells_from-last o 0 (take i us) u
+          ∙ ap (λ n. cells_from o number rank dot 0 (take i us) ++ one_more o n u) place
+
+  -- as many operations are taken away at the end as were put there
+  pub put_back : (o : ObjectId) (us : List Update) (l m n : List Cell) → m ≡ l ++ cells_from o number rank dot 0 us → n ≡ take (length m - counted o us) m → n ≡ l
+  put_back o us l m n was is =
+      let many : length l ≡ length m - counted o us = omega (arith, ap length was, length-append l (cells_from o number rank dot 0 us), length-cells_from o 0 us) in
+      is ∙ ap (take (length m - counted o us)) was ∙ take_at l (cells_from o number rank dot 0 us) (length m - counted o us) many
+
+-- one update more has the last operation on its object taken away
+pub last_more : (f g h : ObjectId → List Cell) (us : List Update) (i : ℕ) (u : Update) → i < length us → u ≡ get_or us i u → ((o : ObjectId) → g o ≡ take (length (f o) - counted o (take i us)) (f o)) → h u.object ≡ take (length (g u.object) - 1) (g u.object) → ((o : ObjectId) → same_object u.object o ≡ false → h o ≡ g o) → (o : ObjectId) → h o ≡ take (length (f o) - counted o (take (i + 1) us)) (f o)
+last_more f g h us i u small is before there apart o = at (cases_Bool (same_object u.object o))
+  where
+    test : Update → Bool
+    test v = same_object v.object o
+
+    less : (l : List Cell) (n : ℕ) → n ≤ length l → take (length (take n l) - 1) (take n l) ≡ take (n - 1) l
+    less l n few = ap (λ m. take (m - 1) (take n l)) (length-take-le n l few) ∙ take-take (n - 1) n l (omega arith)
+
+    at : (same_object u.object o ≡ true) ⊎ (same_object u.object o ≡ false) → h o ≡ take (length (f o) - counted o (take (i + 1) us)) (f o)
+    at (inl e) =
+        let c = counted o (take i us) in
+        let more : (length (f o) - c) - 1 ≡ length (f o) - counted o (take (i + 1) us) = omega (arith, count_by_more_yes test us i u small (ap test (sym is) ∙ e)) in
+        subst (λ p. h p ≡ take (length (g p) - 1) (g p)) (same_object-true u.object o e) there ∙ ap (λ l. take (length l - 1) l) (before o) ∙ less (f o) (length (f o) - c) (omega arith) ∙ ap (λ n. take n (f o)) more
+    at (inr e) = apart o e ∙ before o ∙ ap (λ n. take (length (f o) - n) (f o)) (sym (count_by_more_no test us i u small (ap test (sym is) ∙ e)))
+
+-- what holds on success holds where no error came
+pub no_error : {T E P : Type 0} (r : Result T E) → is_err r ≡ false → OnOk r P → P
+no_error (Ok x) e p = p
+no_error (Err x) e p = cc
+
+-- what holds on an error holds where one came
+pub some_error : {T E P : Type 0} (r : Result T E) → is_err r ≡ true → OnErr r P → P
+some_error (Ok x) e p = cc
+some_error (Err x) e p = p

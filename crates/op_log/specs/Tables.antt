@@ -1,0 +1,83 @@
+-- What the log keeps so that it is not searched.
+use Rattle.std.specs.Prelude.{◌≡◌, ◌≤◌, ◌<◌, ◌^◌, ℕ, Bool, ◌&&◌, ◌==◌, not, cond, filter, List, [], ◌∷◌, Option, Some, None, All, length, Vec, count_by}
+use Rattle.std.specs.List.{list_any}
+use Rattle.std.specs.Map.{lookup, values_of}
+use Rattle.std.specs.BTreeMap.{is_at}
+use Rattle.list_core.specs.Members.{In}
+use Rattle.ids_core.specs.declared.limits.TheConstants.{MOST_UPDATES}
+use Rattle.ids_core.specs.declared.ids.Dot.{Dot}
+use Rattle.ids_core.specs.declared.object.ObjectId.{ObjectId}
+use Rattle.ids_core.specs.Ids.{same_dot, same_object}
+use Rattle.ids_core.specs.Orders.{dot_cmp, object_cmp}
+use Rattle.tx_core.specs.declared.tx.Update.{Update}
+use Rattle.op_log.specs.declared.chains.Cell.{Cell}
+use Rattle.op_log.specs.declared.logged.Logged.{Logged}
+use Rattle.op_log.specs.Logs.{is_inside, is_inside_at, chain_of}
+
+-- the operations of a chain, none where there is no chain
+abbrev pub chain_items : {A : Type 0} → Option (Vec Cell A) → List Cell
+chain_items None = []
+chain_items (Some chain) = chain.items
+
+-- the operations that are found for an object
+abbrev pub listed : {A : Type 0} → List (ObjectId × Vec Cell A) → ObjectId → List Cell
+listed chains o = chain_items (lookup (is_at (object_cmp o)) chains)
+
+-- for each object its chain is found
+abbrev pub Finds : {A : Type 0} → List (ObjectId × Vec Cell A) → List Logged → Type 0
+Finds chains items = (o : ObjectId) → listed chains o ≡ chain_of o items
+
+-- how many of the updates are on the object
+abbrev pub counted : ObjectId → List Update → ℕ
+counted o updates = count_by (λ u. same_object u.object o) updates
+
+-- the numbers ascend
+abbrev pub Rises : List Logged → Type 0
+Rises [] = Unit {0}
+Rises (x ∷ items) = ((y : Logged) → In y items → x.number < y.number) × Rises items
+
+-- each transaction stands at its number
+abbrev pub IsKeyed : List (ℕ × Logged) → Type 0
+IsKeyed slots = All (λ e. e.0 ≡ e.1.number) slots
+
+-- each transaction is found by its dot
+abbrev pub Names : List (Dot × ℕ) → List Logged → Type 0
+Names dots items = (x : Logged) → In x items → lookup (is_at (dot_cmp x.tx.dot)) dots ≡ Some x.number
+
+-- their dots' numbers are numbers of a program
+abbrev pub HasFits : List Logged → Type 0
+HasFits items = (x : Logged) → In x items → x.tx.dot.number < 2 ^ 64
+
+-- whether the transaction of a number has the dot and a stamp within the vector
+abbrev pub is_own_inside : List ℕ → Dot → ℕ → List Logged → Bool
+is_own_inside w d number items = list_any (λ x. (x.number == number) && (same_dot x.tx.dot d && is_inside w x)) items
+
+-- whether the operation stays, when those of the transactions with a stamp within the vector go
+abbrev pub stays : List ℕ → List Logged → Cell → Bool
+stays w items c = not (is_inside_at w c.tx items)
+
+-- a list of operations, of which only those stay where the test holds
+abbrev pub swept : (Cell → Bool) → Bool → List Cell → List Cell
+swept keeps test chain = cond test (filter keeps chain) chain
+
+-- whether one of the updates is on the object
+abbrev pub touches : ObjectId → List Update → Bool
+touches o updates = list_any (λ u. same_object u.object o) updates
+
+-- whether a transaction with a stamp within the vector has an update on the object
+abbrev pub touched : List ℕ → ObjectId → List Logged → Bool
+touched w o items = list_any (λ x. is_inside w x && touches o x.tx.updates) items
+
+-- whether a transaction with a stamp within the vector has the dot
+abbrev pub is_gone : List ℕ → Dot → List Logged → Bool
+is_gone w d items = list_any (λ x. is_inside w x && same_dot x.tx.dot d) items
+
+-- all that is kept is as it is for the transactions
+pub record IsLog {A : Type 0} (appended : ℕ) (slots : List (ℕ × Logged)) (dots : List (Dot × ℕ)) (chains : List (ObjectId × Vec Cell A)) : Type 0 where
+  pub keyed : IsKeyed slots
+  pub below : (x : Logged) → In x (values_of slots) → x.number < appended
+  pub rises : Rises (values_of slots)
+  pub names : Names dots (values_of slots)
+  pub finds : Finds chains (values_of slots)
+  pub fits : HasFits (values_of slots)
+  pub few : (x : Logged) → In x (values_of slots) → length x.tx.updates ≤ MOST_UPDATES

@@ -1,0 +1,15 @@
+//! The transactions of a centre that are not folded into its checkpoint yet, with all their stamps
+//! (the update logs of Zawirski and others, Middleware 2015), found by number, by dot and by object.
+#![tactic(auto)]
+
+mod chains;
+mod dots;
+mod log;
+mod logged;
+mod slots;
+mod sweep;
+mod turns;
+
+pub use chains::Cell;
+pub use log::Log;
+pub use logged::Logged;

@@ -1,0 +1,79 @@
+// A transaction in the log.
+ghost use Rattle.std.specs.Prelude.{◌≡◌, ◌++◌, ◌∷◌, [], not, IfOk, OnOk, OnErr};
+ghost use Rattle.vv_core.specs.Vectors.{within};
+ghost use Rattle.op_log.specs.Logs.{is_any_within, is_inside, first_of, with_one};
+
+use ids_core::NoMemory;
+use list_core::List;
+use std::alloc::Global;
+use tx_core::{Record, Tx};
+use vv_core::{Stamp, Vector};
+
+/// A transaction in the log: which append it was, counted from 0, and all stamps that it has, in the
+/// order in which they came.
+#[derive(Drop)]
+pub struct Logged {
+    pub number: u64,
+    pub tx: Tx,
+    pub stamps: List<Stamp>,
+}
+
+impl Logged {
+    /// The transaction of a record, with its stamp.
+    pub(crate) fn of(alloc: Global, number: u64, item: &Record) -> Result<Logged, NoMemory>
+        ensures { IfOk result (λ x. x ≡ first_of number item.now) }
+    {
+        let mut stamps = List::new(alloc);
+        stamps.push(item.stamp)?;
+        Ok(Logged {
+            number,
+            tx: item.tx.copy()?,
+            stamps,
+        })
+    }
+
+    /// Whether one of its stamps is within the vector.
+    pub(crate) fn is_inside(&self, at: &Vector) -> bool
+        ensures { result ≡ is_inside at.now self.now }
+    {
+        is_any_within(self.stamps.as_slice(), at)
+    }
+
+    /// Whether none of its stamps is within the vector.
+    pub(crate) fn is_left(&self, at: &Vector) -> bool
+        ensures { result ≡ not (is_inside at.now self.now) }
+    {
+        !self.is_inside(at)
+    }
+
+    /// One stamp more. An `Err` leaves all as it was.
+    pub(crate) fn add(&mut self, stamp: &Stamp) -> Result<(), NoMemory>
+        ensures ok { OnOk result (self.new ≡ with_one stamp.now self.old) }
+        ensures err { OnErr result (self.new ≡ self.old) }
+    {
+        self.stamps.push(*stamp)?;
+        Ok(())
+    }
+}
+
+// Whether one of the stamps is within the vector.
+fn is_any_within(stamps: &[Stamp], at: &Vector) -> bool
+    ensures { result ≡ is_any_within at.now stamps.now }
+{
+    for stamp in stamps {
+        if has(at, stamp) {
+            return true;
+        }
+    }
+    false
+}
+
+// Whether the stamp is within the vector, which has 0 for a centre that it has no entry of.
+fn has(at: &Vector, stamp: &Stamp) -> bool
+    ensures { result ≡ within stamp.now at.now }
+{
+    if stamp.centre < 1 || at.width() < stamp.centre {
+        return stamp.seq == 0;
+    }
+    at.has(stamp)
+}

@@ -1,0 +1,54 @@
+-- What a point and a log tell of the records that they stand for.
+use Rattle.std.proofs.Common.{◌≡◌, ℕ, true, false, max, List, [], ◌∷◌, ◌++◌, length, ap, ◌∙◌}
+use Rattle.std.specs.Prelude.{filter}
+use Rattle.list_core.specs.Members.{In}
+use Rattle.ids_core.specs.declared.ids.Dot.{Dot}
+use Rattle.ids_core.specs.declared.object.ObjectId.{ObjectId}
+use Rattle.vv_core.specs.Vectors.{within, Covers}
+use Rattle.tx_core.specs.declared.tx.Tx.{Tx}
+use Rattle.tx_core.specs.declared.tx.Record.{Record}
+use Rattle.tx_core.specs.States.{fold_of}
+use Rattle.dc_talk.specs.Records.{has, inside, mine}
+use Rattle.dc_talk.specs.Objects.{state_at}
+use Rattle.op_log.specs.declared.logged.Logged.{Logged}
+use Rattle.op_log.specs.Logs as log
+use Rattle.check_point.specs.Points.{PointView, IsPointOf, state_of, number_of}
+use Rattle.point_law.specs.Splits.{first_txs, dots_of, is_inside}
+use Rattle.point_law.specs.LogSplits.{stamps_of, txs_of, ops_in}
+use Rattle.point_law.specs.StandFor.{StandFor}
+use Rattle.point_law.proofs.Splits.{count_of_split}
+use Rattle.point_law.proofs.LogSplits.{state_of_log, mine_of_log}
+use Rattle.point_law.proofs.LogGrowth.{log_from, log_none, log_new, log_first, log_again, log_on}
+
+-- with nothing applied: a point with nothing folded and an empty log
+pub none_stand : (point : PointView) → IsPointOf point [] → StandFor [] point (record { appended = 0; items = [] })
+none_stand point is = record { folded = []; at_point = is; in_log = log_none point.vector }
+
+module _ (A : List Record) (point : PointView) (kept : log.LogView) (s : StandFor A point kept) where
+  pub state_stands : (w : List ℕ) (o : ObjectId) → Covers w point.vector → fold_of (state_of point o) (ops_in (filter (λ c. log.is_inside_at w c.tx kept.items) (log.chain_of o kept.items))) ≡ state_at o A w
+  state_stands w o covers = ap (λ state. fold_of state (ops_in (filter (λ c. log.is_inside_at w c.tx kept.items) (log.chain_of o kept.items)))) (s.at_point.states o) ∙ state_of_log A point.vector s.folded kept s.in_log w o covers
+
+  pub mine_stands : (w : List ℕ) (client : ℕ) → Covers w point.vector → max (number_of point client) (log.mine_in client w kept.items) ≡ mine client (inside A w)
+  mine_stands w client covers = ap (λ n. max n (log.mine_in client w kept.items)) (s.at_point.numbers client) ∙ mine_of_log A point.vector s.folded kept s.in_log w client covers
+
+  pub count_stands : point.folded ≡ length (filter (is_inside A point.vector) (first_txs A))
+  count_stands = s.at_point.folded ∙ count_of_split A point.vector s.folded (txs_of kept.items) s.in_log.split
+
+  pub known_stands : (x : Logged) → In x kept.items → ((r : Record) × In r A × (x.tx ≡ r.tx)) × (x.stamps ≡ stamps_of x.tx.dot A)
+  known_stands x i = (log_from A point.vector s.folded kept s.in_log x i, s.in_log.stamps x i)
+
+  pub new_stands : (d : Dot) → has d (dots_of A) ≡ false → log.has_dot d kept.items ≡ false
+  new_stands = log_new A point.vector s.folded kept s.in_log
+
+  pub first_stands : (r : Record) → within r.stamp point.vector ≡ false → has r.tx.dot (dots_of A) ≡ false → StandFor (A ++ r ∷ []) point (log.with_record kept r)
+  first_stands r out new = record { folded = s.folded; at_point = s.at_point; in_log = log_first A point.vector s.folded kept s.in_log r out new }
+
+  pub again_stands : (r : Record) → within r.stamp point.vector ≡ false → has r.tx.dot (dots_of A) ≡ true → StandFor (A ++ r ∷ []) point (record kept { items = log.with_stamp r.tx.dot r.stamp kept.items })
+  again_stands r out known = record { folded = s.folded; at_point = s.at_point; in_log = log_again A point.vector s.folded kept s.in_log r out known }
+
+  pub pruned_stands : (after : PointView) → Covers after.vector point.vector → ((given : List Tx) → IsPointOf point given → IsPointOf after (given ++ txs_of (log.within_of after.vector kept.items))) → StandFor A after (record kept { items = log.left_of after.vector kept.items })
+  pruned_stands after covers more = record {
+    folded = s.folded ++ txs_of (log.within_of after.vector kept.items);
+    at_point = more s.folded s.at_point;
+    in_log = log_on A point.vector s.folded kept s.in_log after.vector covers;
+  }
