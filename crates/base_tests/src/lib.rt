@@ -23,6 +23,8 @@ mod obj_register_tests;
 #[cfg(test)]
 mod obj_set_tests;
 #[cfg(test)]
+mod op_log_tests;
+#[cfg(test)]
 mod tally_core_tests;
 #[cfg(test)]
 mod tx_core_tests;

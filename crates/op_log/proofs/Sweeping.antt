@@ -1,39 +1,34 @@
 -- Transactions that are taken out, and the chains that they leave.
-use Rattle.std.proofs.Common.{◌≡◌, ℕ, ◌+◌, ◌-◌, Bool, true, false, cond, inl, inr, ⊎_elim, List, [], ◌∷◌, ◌++◌, length, refl, sym, ap, ◌∙◌, subst, arith}
+use Rattle.std.proofs.Common.{◌≡◌, ℕ, ◌+◌, ◌-◌, Bool, true, false, cond, inl, inr, ⊎_elim, Option, Some, None, List, [], ◌∷◌, ◌++◌, length, refl, sym, ap, ◌∙◌, subst, arith}
 use Rattle.std.specs.Prelude.{◌||◌, ◌&&◌, ◌==◌, not, filter, Vec}
 use Rattle.std.specs.List.{list_any}
-use Rattle.std.specs.Map.{lookup, values_of}
+use Rattle.std.specs.Map.{lookup, keys_of, values_of}
+use Rattle.std.specs.Map.Calls.{RetainsPairs}
+use Rattle.std.specs.List.Sorted.{IsStrictlySortedBy}
+use Rattle.std.specs.Cmp.{eq_by_cmp_equiv}
+use Rattle.std.proofs.lemmas.Map.Keys.{IsDistinct-from_sorted}
 use Rattle.std.specs.BTreeMap.{is_at}
 use Rattle.std.proofs.lemmas.Bool.{cases_Bool, false≢true, and_parts, and_from}
 use Rattle.std.proofs.lemmas.Bool.Decides.{Decides-eqb}
 use Rattle.std.proofs.lemmas.Option.{same_Some}
 use Rattle.std.proofs.lemmas.List.Filters.{length-filter_both}
-use Rattle.std.proofs.lemmas.Map.Entries.{length-values_of}
+use Rattle.std.proofs.lemmas.Map.Entries.{length-values_of, lookup-filter-values, option_filter}
 use Rattle.std.proofs.lemmas.List.Elements.{filter-append, All-filter}
 use Rattle.list_core.specs.Members.{In}
 use Rattle.list_core.proofs.Members.{In_from_filter}
 use Rattle.ids_core.specs.declared.ids.Dot.{Dot}
 use Rattle.ids_core.specs.declared.object.ObjectId.{ObjectId}
 use Rattle.ids_core.specs.Ids.{same_dot, same_object}
-use Rattle.ids_core.specs.Same.{same_dot-true, same_object-true}
-use Rattle.ids_core.specs.Orders.{dot_cmp}
+use Rattle.ids_core.specs.Same.{same_dot-true}
+use Rattle.ids_core.specs.Orders.{dot_cmp, object_cmp, object_cmp_total}
 use Rattle.tx_core.specs.declared.tx.Update.{Update}
 use Rattle.op_log.specs.declared.chains.Cell.{Cell}
 use Rattle.op_log.specs.declared.logged.Logged.{Logged}
 use Rattle.op_log.specs.Logs.{cell, cells_from, cells_of, chain_of, is_inside, is_inside_at, within_of, left_of}
-use Rattle.op_log.specs.Tables.{listed, stays, swept, touches, touched, is_gone, Rises, Names, IsLog}
+use Rattle.op_log.specs.Tables.{chain_items, listed, stays, has_items, is_gone, Rises, Names, IsLog}
 use Rattle.op_log.proofs.Items.{finds_none, found_none, rises_one, rises_filter}
 
 -- ---- lists
-
--- those that pass, pass again
-filter_again : {X : Type 0} (p : X → Bool) (xs : List X) → filter p (filter p xs) ≡ filter p xs
-filter_again p [] = refl
-filter_again {X} p (x ∷ xs) = go (p x) refl (filter_again p xs)
-  where
-    go : (b : Bool) → p x ≡ b → filter p (filter p xs) ≡ filter p xs → filter p (cond b (x ∷ filter p xs) (filter p xs)) ≡ cond b (x ∷ filter p xs) (filter p xs)
-    go true is rest = ap (λ b. cond b (x ∷ filter p (filter p xs)) (filter p (filter p xs))) is ∙ ap (λ l. x ∷ l) rest
-    go false is rest = rest
 
 -- a filter by the values is one of the values
 pub values_of-filter : {K X : Type 0} (p : X → Bool) (es : List (K × X)) → values_of (filter (λ e. p e.1) es) ≡ filter p (values_of es)
@@ -53,31 +48,6 @@ left_count w es fs is =
     omega (arith, both, all, left)
 
 -- ---- chains
-
--- what is swept twice
-swept_twice : (keeps : Cell → Bool) (a b : Bool) (l : List Cell) → swept keeps b (swept keeps a l) ≡ swept keeps (a || b) l
-swept_twice keeps true true l = filter_again keeps l
-swept_twice keeps true false l = refl
-swept_twice keeps false b l = refl
-
--- one transaction, or one update, more
-pub swept_more : (keeps : Cell → Bool) (a b : Bool) (l m n : List Cell) → m ≡ swept keeps a l → swept keeps (a || b) l ≡ n → swept keeps b m ≡ n
-swept_more keeps a b l m n is before = ap (swept keeps b) is ∙ swept_twice keeps a b l ∙ before
-
--- the next transaction is swept, or passed over
-pub touched_take : (keeps : Cell → Bool) (w : List ℕ) (o : ObjectId) (x : Logged) (rest s : List Logged) (l n : List Cell) → s ≡ x ∷ rest → true ≡ is_inside w x → swept keeps (touched w o s) l ≡ n → swept keeps (touches o x.tx.updates || touched w o rest) l ≡ n
-touched_take keeps w o x rest s l n is pass before = ap (λ b. swept keeps ((b && touches o x.tx.updates) || touched w o rest) l) pass ∙ ap (λ s. swept keeps (touched w o s) l) (sym is) ∙ before
-
-pub touched_skip : (keeps : Cell → Bool) (w : List ℕ) (o : ObjectId) (x : Logged) (rest s : List Logged) (l n : List Cell) → s ≡ x ∷ rest → false ≡ is_inside w x → swept keeps (touched w o s) l ≡ n → swept keeps (touched w o rest) l ≡ n
-touched_skip keeps w o x rest s l n is fail before = ap (λ b. swept keeps ((b && touches o x.tx.updates) || touched w o rest) l) fail ∙ ap (λ s. swept keeps (touched w o s) l) (sym is) ∙ before
-
--- the object of one update is swept, and no other one
-pub swept_object : (keeps : Cell → Bool) (f g : ObjectId → List Cell) (a : ObjectId) → g a ≡ filter keeps (f a) → ((o : ObjectId) → same_object a o ≡ false → g o ≡ f o) → (o : ObjectId) → g o ≡ swept keeps (same_object a o) (f o)
-swept_object keeps f g a there apart o = by (same_object a o) refl
-  where
-    by : (b : Bool) → same_object a o ≡ b → g o ≡ swept keeps b (f o)
-    by true is = subst (λ p. g p ≡ filter keeps (f p)) (same_object-true a o is) there
-    by false is = apart o is
 
 -- the operations of a transaction stay together, or go together
 cells_filter : (keeps : ℕ → Bool) (o : ObjectId) (number rank : ℕ) (dot : Dot) (place : ℕ) (us : List Update) → filter (λ c. keeps c.tx) (cells_from o number rank dot place us) ≡ cond (keeps number) (cells_from o number rank dot place us) []
@@ -125,35 +95,46 @@ chain_left w o items (x ∷ part) rises within =
     by true rest = rest
     by false rest = ap (λ l. cells_of o x ++ l) rest
 
--- a transaction without an update on the object has no operation on it
-no_cells : (o : ObjectId) (number rank : ℕ) (dot : Dot) (place : ℕ) (us : List Update) → touches o us ≡ false → cells_from o number rank dot place us ≡ []
-no_cells o number rank dot place [] none = refl
-no_cells o number rank dot place (u ∷ us) none = by (same_object u.object o) none (λ none. no_cells o number rank dot (place + 1) us none)
-  where
-    by : (b : Bool) → (b || touches o us) ≡ false → (touches o us ≡ false → cells_from o number rank dot (place + 1) us ≡ []) → cond b (cell number rank dot place u.op ∷ cells_from o number rank dot (place + 1) us) (cells_from o number rank dot (place + 1) us) ≡ []
-    by true none rest = absurd (false≢true (sym none))
-    by false none rest = rest none
-
--- what is not touched stays
-untouched : (w : List ℕ) (o : ObjectId) (part : List Logged) → touched w o part ≡ false → chain_of o part ≡ chain_of o (left_of w part)
-untouched w o [] none = refl
-untouched w o (x ∷ part) none = by (is_inside w x) none (λ none. untouched w o part none)
-  where
-    by : (b : Bool) → ((b && touches o x.tx.updates) || touched w o part) ≡ false → (touched w o part ≡ false → chain_of o part ≡ chain_of o (left_of w part)) → cells_of o x ++ chain_of o part ≡ chain_of o (cond (not b) (x ∷ left_of w part) (left_of w part))
-    by false none rest = ap (λ l. cells_of o x ++ l) (rest none)
-    by true none rest = to (touches o x.tx.updates) refl none
-      where
-        to : (t : Bool) → touches o x.tx.updates ≡ t → (t || touched w o part) ≡ false → cells_of o x ++ chain_of o part ≡ chain_of o (left_of w part)
-        to true is none = absurd (false≢true (sym none))
-        to false is none = ap (λ l. l ++ chain_of o part) (no_cells o x.number x.tx.rank x.tx.dot 0 x.tx.updates is) ∙ rest none
-
 -- the chains after all are swept
-pub swept_chain : (w : List ℕ) (o : ObjectId) (items : List Logged) → Rises items → swept (stays w items) (touched w o items) (chain_of o items) ≡ chain_of o (left_of w items)
-swept_chain w o items rises = by (touched w o items) refl
+pub swept_chain : (w : List ℕ) (o : ObjectId) (items : List Logged) → Rises items → filter (stays w items) (chain_of o items) ≡ chain_of o (left_of w items)
+swept_chain w o items rises = chain_left w o items items rises (λ x i. i)
+
+module _ {A F : Type 0} where
+  -- a pass over all chains, which leaves of each what passes, takes those out that do not pass
+  pub each_swept : (T : F → ObjectId → Vec Cell A → Bool → Vec Cell A → F → Type 0) (keeps : Cell → Bool) (f : F) → ((k : ObjectId) (v : Vec Cell A) (b : Bool) (w : Vec Cell A) (g : F) → T f k v b w g → (b ≡ true) × (w.items ≡ filter keeps v.items) × (g ≡ f)) → (es kept : List (ObjectId × Vec Cell A)) → RetainsPairs T f es kept → (o : ObjectId) → listed kept o ≡ filter keeps (listed es o)
+  each_swept T keeps f says [] kept is o = ap (λ l. listed l o) is
+  each_swept T keeps f says (e ∷ es) kept (b, w, g, rest, t, more, is) o =
+      let said = says e.0 e.1 b w g t in
+      let all : kept ≡ (e.0, w) ∷ rest = is ∙ ap (λ b. cond b ((e.0, w) ∷ rest) rest) said.0 in
+      ap (λ l. listed l o) all ∙ by (is_at (object_cmp o) e.0) said.1 (each_swept T keeps f says es rest (subst (λ g. RetainsPairs T g es rest) said.2 more) o)
+    where
+      by : (at : Bool) → w.items ≡ filter keeps e.1.items → listed rest o ≡ filter keeps (listed es o) → chain_items (cond at (Some w) (lookup (is_at (object_cmp o)) rest)) ≡ filter keeps (chain_items (cond at (Some e.1) (lookup (is_at (object_cmp o)) es)))
+      by true here later = here
+      by false here later = later
+
+-- a list without an operation
+no_items : (l : List Cell) → has_items l ≡ false → [] ≡ l
+no_items [] none = refl
+no_items (x ∷ l) none = absurd (by (length (x ∷ l) == 0) refl none)
   where
-    by : (b : Bool) → touched w o items ≡ b → swept (stays w items) b (chain_of o items) ≡ chain_of o (left_of w items)
-    by true is = chain_left w o items items rises (λ x i. i)
-    by false is = untouched w o items is
+    by : (b : Bool) → (length (x ∷ l) == 0) ≡ b → not b ≡ false → ⊥
+    by true is none = let zero : length (x ∷ l) ≡ 0 = (Decides-eqb (length (x ∷ l)) 0).0 is in omega (arith, zero)
+    by false is none = false≢true (sym none)
+
+-- the chains without an operation are taken away
+pub cleared_all : {A : Type 0} (es kept : List (ObjectId × Vec Cell A)) → kept ≡ filter (λ e. has_items e.1.items) es → IsStrictlySortedBy object_cmp (keys_of es) → (o : ObjectId) → listed kept o ≡ listed es o
+cleared_all {A} es kept is sorted o =
+    ap (λ l. listed l o) is
+    ∙ ap chain_items (lookup-filter-values (eq_by_cmp_equiv object_cmp_total) (λ (v : Vec Cell A). has_items v.items) o es (IsDistinct-from_sorted object_cmp (keys_of es) sorted))
+    ∙ by (lookup (is_at (object_cmp o)) es)
+  where
+    one : (v : Vec Cell A) (b : Bool) → has_items v.items ≡ b → chain_items (cond b (Some v) None) ≡ v.items
+    one v true is = refl
+    one v false is = no_items v.items is
+
+    by : (r : Option (Vec Cell A)) → chain_items (option_filter (λ (v : Vec Cell A). has_items v.items) r) ≡ chain_items r
+    by None = refl
+    by (Some v) = one v (has_items v.items) refl
 
 -- ---- dots
 
@@ -183,13 +164,13 @@ gone_first w d x rest s is pass none = by (same_dot x.tx.dot d) (ap (λ b. (b &&
 
 module _ {A : Type 0} where
   -- the transactions without a stamp within the vector are left
-  pub log_left : (n : ℕ) (w : List ℕ) (es fs : List (ℕ × Logged)) (ds gs : List (Dot × ℕ)) (cs hs : List (ObjectId × Vec Cell A)) → IsLog n es ds cs → fs ≡ filter (λ e. not (is_inside w e.1)) es → ((d : Dot) → is_gone w d (values_of es) ≡ false → lookup (is_at (dot_cmp d)) gs ≡ lookup (is_at (dot_cmp d)) ds) → ((o : ObjectId) → listed hs o ≡ swept (stays w (values_of es)) (touched w o (values_of es)) (listed cs o)) → IsLog n fs gs hs
+  pub log_left : (n : ℕ) (w : List ℕ) (es fs : List (ℕ × Logged)) (ds gs : List (Dot × ℕ)) (cs hs : List (ObjectId × Vec Cell A)) → IsLog n es ds cs → fs ≡ filter (λ e. not (is_inside w e.1)) es → ((d : Dot) → is_gone w d (values_of es) ≡ false → lookup (is_at (dot_cmp d)) gs ≡ lookup (is_at (dot_cmp d)) ds) → ((o : ObjectId) → listed hs o ≡ filter (stays w (values_of es)) (listed cs o)) → IsLog n fs gs hs
   log_left n w es fs ds gs cs hs log is names finds = subst (λ fs. IsLog n fs gs hs) (sym is) (record {
     keyed = All-filter (λ e. not (is_inside w e.1)) (λ e. e.0 ≡ e.1.number) es log.keyed;
     below = λ x i. log.below x (from x i).0;
     rises = subst (λ l. Rises l) (sym values) (rises_filter (λ x. not (is_inside w x)) (values_of es) log.rises);
     names = λ x i. let f = from x i in names x.tx.dot (left_named w ds (values_of es) x log.rises log.names f.0 (out (is_inside w x) f.1)) ∙ log.names x f.0;
-    finds = λ o. finds o ∙ ap (swept (stays w (values_of es)) (touched w o (values_of es))) (log.finds o) ∙ swept_chain w o (values_of es) log.rises ∙ ap (chain_of o) (sym values);
+    finds = λ o. finds o ∙ ap (filter (stays w (values_of es))) (log.finds o) ∙ swept_chain w o (values_of es) log.rises ∙ ap (chain_of o) (sym values);
     fits = λ x i. log.fits x (from x i).0;
     few = λ x i. log.few x (from x i).0;
   })

@@ -1,5 +1,5 @@
 -- What the log keeps so that it is not searched.
-use Rattle.std.specs.Prelude.{◌≡◌, ◌≤◌, ◌<◌, ◌^◌, ℕ, Bool, ◌&&◌, ◌==◌, not, cond, filter, List, [], ◌∷◌, Option, Some, None, All, length, Vec, count_by}
+use Rattle.std.specs.Prelude.{◌≡◌, ◌≤◌, ◌<◌, ◌^◌, ℕ, Bool, ◌&&◌, ◌==◌, not, List, [], ◌∷◌, Option, Some, None, All, length, Vec, count_by}
 use Rattle.std.specs.List.{list_any}
 use Rattle.std.specs.Map.{lookup, values_of}
 use Rattle.std.specs.BTreeMap.{is_at}
@@ -56,17 +56,9 @@ is_own_inside w d number items = list_any (λ x. (x.number == number) && (same_d
 abbrev pub stays : List ℕ → List Logged → Cell → Bool
 stays w items c = not (is_inside_at w c.tx items)
 
--- a list of operations, of which only those stay where the test holds
-abbrev pub swept : (Cell → Bool) → Bool → List Cell → List Cell
-swept keeps test chain = cond test (filter keeps chain) chain
-
--- whether one of the updates is on the object
-abbrev pub touches : ObjectId → List Update → Bool
-touches o updates = list_any (λ u. same_object u.object o) updates
-
--- whether a transaction with a stamp within the vector has an update on the object
-abbrev pub touched : List ℕ → ObjectId → List Logged → Bool
-touched w o items = list_any (λ x. is_inside w x && touches o x.tx.updates) items
+-- whether the list has an operation
+abbrev pub has_items : List Cell → Bool
+has_items chain = not (length chain == 0)
 
 -- whether a transaction with a stamp within the vector has the dot
 abbrev pub is_gone : List ℕ → Dot → List Logged → Bool

@@ -1,75 +1,59 @@
 // The transactions with a stamp within a vector, taken out of what is kept.
-ghost use Rattle.std.specs.Prelude.{◌≡◌, ◌++◌, ◌+◌, not, false, filter, All, length};
+ghost use Rattle.std.specs.Prelude.{◌≡◌, ◌++◌, ◌+◌, not, true, false, filter, All, length};
 ghost use Rattle.std.specs.Map.{lookup, values_of};
 ghost use Rattle.std.specs.BTreeMap.{is_at};
 ghost use Rattle.ids_core.specs.declared.ids.Dot.{Dot};
 ghost use Rattle.ids_core.specs.declared.object.ObjectId.{ObjectId};
-ghost use Rattle.ids_core.specs.Ids.{same_object};
-ghost use Rattle.ids_core.specs.Orders.{dot_cmp, object_cmp};
+ghost use Rattle.ids_core.specs.Orders.{dot_cmp};
 ghost use Rattle.op_log.specs.Logs.{is_inside, within_of};
-ghost use Rattle.op_log.specs.Tables.{listed, stays, swept, touches, touched, is_gone, Rises, IsKeyed};
+ghost use Rattle.op_log.specs.Tables.{listed, stays, has_items, is_gone, Rises, IsKeyed};
 
-use crate::chains::{Cell, Chain, Chains, clear_at};
+use crate::chains::{Cell, Chain, Chains};
 use crate::dots::{Dots, forget};
 use crate::slots::{Slots, is_inside_at};
-use ids_core::ObjectId;
-use tx_core::Update;
 use vv_core::Vector;
 
-// Takes the operations of the transactions with a stamp within the vector out of the chains.
+// Takes the operations of the transactions with a stamp within the vector out of the chains, and the
+// chains away that have none left: one pass over all chains for each.
 pub(crate) fn sweep_chains(chains: &mut Chains, slots: &Slots, base: &Vector)
     requires keyed { IsKeyed slots.now.entries }
     requires rises { Rises (values_of slots.now.entries) }
-    ensures { (o : ObjectId) → listed chains.new.entries o ≡ swept (stays base.now (values_of slots.now.entries)) (touched base.now o (values_of slots.now.entries)) (listed chains.old.entries o) }
+    ensures { (o : ObjectId) → listed chains.new.entries o ≡ filter (stays base.now (values_of slots.now.entries)) (listed chains.old.entries o) }
 {
-    for x in slots.values() {
-        if x.is_inside(base) {
-            sweep_all(chains, slots, base, x.tx.updates.as_slice());
-        }
-    }
+    sweep_each(chains, slots, base);
+    clear_all(chains);
 }
 
-// The same of the objects of some updates.
-fn sweep_all(chains: &mut Chains, slots: &Slots, base: &Vector, updates: &[Update])
+fn sweep_each(chains: &mut Chains, slots: &Slots, base: &Vector)
     requires keyed { IsKeyed slots.now.entries }
     requires rises { Rises (values_of slots.now.entries) }
-    ensures { (o : ObjectId) → listed chains.new.entries o ≡ swept (stays base.now (values_of slots.now.entries)) (touches o updates.now) (listed chains.old.entries o) }
+    ensures { (o : ObjectId) → listed chains.new.entries o ≡ filter (stays base.now (values_of slots.now.entries)) (listed chains.old.entries o) }
 {
-    for update in updates {
-        sweep(chains, slots, base, &update.object);
-    }
+    chains.retain(|_object, chain| sweep_chain(chain, slots, base));
 }
 
-// The same of one object.
-#[tactic(auto, using(crate::proofs::Lines::other_object))]
-fn sweep(chains: &mut Chains, slots: &Slots, base: &Vector, object: &ObjectId)
-    requires keyed { IsKeyed slots.now.entries }
-    requires rises { Rises (values_of slots.now.entries) }
-    ensures there { listed chains.new.entries object.now ≡ filter (stays base.now (values_of slots.now.entries)) (listed chains.old.entries object.now) }
-    ensures apart { (o : ObjectId) → same_object object.now o ≡ false → listed chains.new.entries o ≡ listed chains.old.entries o }
+fn clear_all(chains: &mut Chains)
+    ensures { (o : ObjectId) → listed chains.new.entries o ≡ listed chains.old.entries o }
 {
-    sweep_at(chains, slots, base, object);
-    clear_at(chains, object);
+    chains.retain(|_object, chain| has_some(chain));
 }
 
-fn sweep_at(chains: &mut Chains, slots: &Slots, base: &Vector, object: &ObjectId)
+// The same of one chain. The answer is always `true`.
+fn sweep_chain(chain: &mut Chain, slots: &Slots, base: &Vector) -> bool
     requires keyed { IsKeyed slots.now.entries }
     requires rises { Rises (values_of slots.now.entries) }
-    ensures there { listed chains.new.entries object.now ≡ filter (stays base.now (values_of slots.now.entries)) (listed chains.old.entries object.now) }
-    ensures apart { (o : ObjectId) → is_at (object_cmp object.now) o ≡ false → listed chains.new.entries o ≡ listed chains.old.entries o }
-{
-    if let Some(chain) = chains.get_mut(object) {
-        sweep_chain(chain, slots, base);
-    }
-}
-
-// The same of one chain.
-fn sweep_chain(chain: &mut Chain, slots: &Slots, base: &Vector)
-    requires keyed { IsKeyed slots.now.entries }
-    requires rises { Rises (values_of slots.now.entries) }
-    ensures { chain.new.items ≡ filter (stays base.now (values_of slots.now.entries)) chain.old.items }
+    ensures always { result ≡ true }
+    ensures left { chain.new.items ≡ filter (stays base.now (values_of slots.now.entries)) chain.old.items }
 {
     chain.retain(|cell| stays(slots, cell, base));
+    true
+}
+
+// Whether a chain has an operation.
+fn has_some(chain: &Chain) -> bool
+    ensures { result ≡ has_items chain.now.items }
+{
+    !chain.is_empty()
 }
 
 // Whether an operation is of a transaction without a stamp within the vector.

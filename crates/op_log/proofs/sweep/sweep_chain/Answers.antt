@@ -4,5 +4,5 @@ use Rattle.std.proofs.lemmas.Fn.{filter_same}
 use Rattle.op_log.specs.Tables.{stays}
 use Rattle.op_log.proofs.sweep.sweep_chain.Goals as goal
 
-pub returns : goal.returns
-returns c = filter_same _ (stays c.args.base.now (values_of c.args.slots.now.entries)) _ (λ x b q called. search rules) _ _ c.retain.ensures.filtered
+pub returns-clause-left : goal.returns-clause-left
+returns-clause-left c = filter_same _ (stays c.args.base.now (values_of c.args.slots.now.entries)) _ (λ x b q called. search rules) _ _ c.retain.ensures.filtered
