@@ -1,0 +1,11 @@
+mod Examples
+pub mod Blanks
+pub mod Digits
+pub mod NameTests
+pub mod Fitting
+pub mod Saying
+pub mod Onward
+pub mod CutOff
+pub mod SaidRanges
+pub mod RowRanges
+pub mod ScriptRanges

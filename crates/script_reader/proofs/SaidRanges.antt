@@ -1,0 +1,294 @@
+-- What words say is in range.
+use Rattle.std.proofs.Common.{◌≡◌, ◌≢◌, ◌≤◌, ℕ, zero, suc, Bool, true, false, List, [], ◌∷◌, length, refl, ap, sym, ◌∙◌, subst, arith, leb-true, le-leb}
+use Rattle.std.specs.Prelude.{◌==◌, ◌&&◌, ℤ, pos, neg_ℤ, nat_le, cond, drop, slice_index, Option, Some, None, Result, Ok, Err, IfSome, MatchOption}
+use Rattle.std.specs.Option.{option_or}
+use Rattle.std.proofs.lemmas.Bool.{eqb-false}
+use Rattle.ids_core.specs.Name.{IsName}
+use Rattle.ids_core.specs.declared.limits.TheConstants.{MOST_CENTRES, MOST_NUMBER, MOST_DELTA}
+use Rattle.ids_core.specs.declared.object.ObjectId.{ObjectId}
+use Rattle.ids_core.specs.declared.object.Sort.{Sort}
+use Rattle.script_text.specs.Steps.{IsCount, IsDelta, IsHeader}
+use Rattle.script_text.specs.declared.script.Header.{Header}
+use Rattle.script_reader.specs.declared.fault.Cause.{Cause}
+use Rattle.script_reader.specs.declared.fault.Cause.TheVariants as cause
+use Rattle.script_reader.specs.declared.form.Word.{Word}
+use Rattle.script_reader.specs.declared.form.Part.{Part}
+use Rattle.script_reader.specs.declared.form.Part.TheVariants.{Fixed, Client, Centre, Other, Centres, Stable, Count, Commit, Delta, Object, Key, Name}
+use Rattle.script_reader.specs.declared.said.Said.{Said}
+use Rattle.script_reader.specs.Numbers.{is_number, number_of, number_in, delta_in, below_zero, from_zero}
+use Rattle.script_reader.specs.Names.{is_name, sort_marked, object_named}
+use Rattle.script_reader.specs.Said.{unsaid, with_said, with_name, with_object, other_said, said_word, said_words}
+use Rattle.script_reader.proofs.NameTests.{name_from_test}
+
+-- ---- numbers, deltas and objects
+
+-- a number that is taken is in its range
+number_within : (least most : ℕ) (text : List ℕ) (n : ℕ) → number_in least most text ≡ Ok n → (least ≤ n) × (n ≤ most)
+unfolding number_in
+number_within least most text n taken = go (is_number text) (nat_le least (number_of text)) refl (nat_le (number_of text) most) refl taken
+  where
+    go : (spelled low : Bool) → nat_le least (number_of text) ≡ low → (high : Bool) → nat_le (number_of text) most ≡ high → cond spelled (cond (low && high) (Ok (number_of text)) (Err cause.Range)) (Err cause.Number) ≡ Ok n → (least ≤ n) × (n ≤ most)
+    go false low l high h e = absurd (cc)
+    go true false l high h e = absurd (cc)
+    go true true l false h e = absurd (cc)
+    go true true l true h e = let same : number_of text ≡ n = cc in (let a = leb-true least _ l in omega arith, let b = leb-true _ most h in omega arith)
+
+below_delta : (r : Result ℕ Cause) (d : ℤ) → ((n : ℕ) → r ≡ Ok n → n ≤ MOST_DELTA) → below_zero r ≡ Ok d → IsDelta d
+below_delta (Err why) d within e = absurd (cc)
+below_delta (Ok n) d within e = go (n == 0) e
+  where
+    small : (m : ℕ) → m ≤ MOST_DELTA → IsDelta (neg_ℤ (pos m))
+    small zero few = refl
+    small (suc m) few = le-leb (suc m) MOST_DELTA few
+
+    go : (none : Bool) → cond none (Err cause.Number) (Ok (neg_ℤ (pos n))) ≡ Ok d → IsDelta d
+    go true bad = absurd (cc)
+    go false is = subst IsDelta (let same : neg_ℤ (pos n) ≡ d = cc in same) (small n (within n refl))
+
+from_delta : (r : Result ℕ Cause) (d : ℤ) → ((n : ℕ) → r ≡ Ok n → n ≤ MOST_DELTA) → from_zero r ≡ Ok d → IsDelta d
+from_delta (Err why) d within e = absurd (cc)
+from_delta (Ok n) d within e = subst IsDelta (let same : pos n ≡ d = cc in same) (le-leb n MOST_DELTA (within n refl))
+
+-- a delta that is taken is in range
+delta_within : (text : List ℕ) (d : ℤ) → delta_in text ≡ Ok d → IsDelta d
+unfolding delta_in
+delta_within text d taken = go (slice_index text 0 == 45) taken
+  where
+    go : (minus : Bool) → cond minus (below_zero (number_in 0 MOST_DELTA (drop 1 text))) (from_zero (number_in 0 MOST_DELTA text)) ≡ Ok d → IsDelta d
+    go true e = below_delta (number_in 0 MOST_DELTA (drop 1 text)) d (λ n is. (number_within 0 MOST_DELTA (drop 1 text) n is).1) e
+    go false e = from_delta (number_in 0 MOST_DELTA text) d (λ n is. (number_within 0 MOST_DELTA text n is).1) e
+
+-- an object that is named has a name
+object_within : (text : List ℕ) (object : ObjectId) → object_named text ≡ Some object → IsName object.name
+unfolding object_named
+object_within text object named = go (slice_index text 1 == 46) (is_name (drop 2 text)) refl (sort_marked (slice_index text 0)) named
+  where
+    go : (dot name : Bool) → is_name (drop 2 text) ≡ name → (sort : Option Sort) → cond (dot && name) (elim sort [ Some s ↦ Some (record { sort = s; name = drop 2 text }) | None ↦ None ]) None ≡ Some object → IsName object.name
+    go false name is sort e = absurd (cc)
+    go true false is sort e = absurd (cc)
+    go true true is None e = absurd (cc)
+    go true true is (Some s) e = subst IsName (let same : ◌≡◌ {A = ObjectId} (record { sort = s; name = drop 2 text }) object = cc in ap (λ (o : ObjectId). o.name) same) (name_from_test (drop 2 text) is)
+
+-- ---- one word
+
+-- what a word changes that stands in the place of a part, and in which range
+abbrev pub SaysSo : Option Header → Part → Said → Said → Type 0
+SaysSo header (Fixed own) said more = more ≡ said
+SaysSo header Client said more = MatchOption header (more ≡ said) (λ h. (n : ℕ) × (more ≡ record said { client = n }) × IsCount h.clients n)
+SaysSo header Centre said more = MatchOption header (more ≡ said) (λ h. (n : ℕ) × (more ≡ record said { centre = n }) × IsCount h.n n)
+SaysSo header Other said more = MatchOption header (more ≡ said) (λ h. (n : ℕ) × (more ≡ record said { other = n }) × IsCount h.n n × (said.centre ≢ n))
+SaysSo header Centres said more = (n : ℕ) × (more ≡ record said { n = n; k = 1 }) × IsCount MOST_CENTRES n
+SaysSo header Stable said more = (n : ℕ) × (more ≡ record said { k = n }) × IsCount said.n n
+SaysSo header (Count least most) said more = (n : ℕ) × (more ≡ record said { count = n }) × ((least ≤ n) × (n ≤ most))
+SaysSo header Commit said more = (n : ℕ) × (more ≡ record said { number = n }) × IsCount MOST_NUMBER n
+SaysSo header Delta said more = (d : ℤ) × (more ≡ record said { delta = d }) × IsDelta d
+SaysSo header Object said more = (o : ObjectId) × (more ≡ record said { object = o }) × IsName o.name
+SaysSo header Key said more = (name : List ℕ) × (more ≡ record said { key = name }) × IsName name
+SaysSo header Name said more = (name : List ℕ) × (more ≡ record said { word = name }) × IsName name
+
+-- what was said was read
+put_of : {X : Type 0} (put : X → Said) (r : Result X Cause) (more : Said) → with_said put r ≡ Ok more → (x : X) × (more ≡ put x) × (r ≡ Ok x)
+put_of put (Ok x) more e = (x, (let same : put x ≡ more = cc in sym same), refl)
+put_of put (Err why) more e = absurd (cc)
+
+number_put : (put : ℕ → Said) (least most : ℕ) (text : List ℕ) (more : Said) → with_said put (number_in least most text) ≡ Ok more → (n : ℕ) × (more ≡ put n) × ((least ≤ n) × (n ≤ most))
+number_put put least most text more e = let p = put_of put (number_in least most text) more e in (p.0, p.1, number_within least most text p.0 p.2)
+
+early_same : (said more : Said) (text : List ℕ) → cond (is_number text) (Ok said) (Err cause.Number) ≡ Ok more → more ≡ said
+early_same said more text e = go (is_number text) e
+  where
+    go : (number : Bool) → cond number (Ok said) (Err cause.Number) ≡ Ok more → more ≡ said
+    go true e = let same : said ≡ more = cc in sym same
+    go false e = absurd (cc)
+
+other_put : (said more : Said) (most : ℕ) (r : Result ℕ Cause) → ((n : ℕ) → r ≡ Ok n → IsCount most n) → other_said said r ≡ Ok more → (n : ℕ) × (more ≡ record said { other = n }) × IsCount most n × (said.centre ≢ n)
+other_put said more most (Err why) within e = absurd (cc)
+other_put said more most (Ok n) within e = go (n == said.centre) refl e
+  where
+    go : (same : Bool) → (n == said.centre) ≡ same → cond same (Err cause.Range) (Ok (record said { other = n })) ≡ Ok more → (m : ℕ) × (more ≡ record said { other = m }) × IsCount most m × (said.centre ≢ m)
+    go true is bad = absurd (cc)
+    go false is put = (n, (let same : record said { other = n } ≡ more = cc in sym same), within n refl, λ e. eqb-false n said.centre is (sym e))
+
+object_put : (put : ObjectId → Said) (r : Option ObjectId) (more : Said) → ((o : ObjectId) → r ≡ Some o → IsName o.name) → with_object put r ≡ Ok more → (o : ObjectId) × (more ≡ put o) × IsName o.name
+object_put put None more within e = absurd (cc)
+object_put put (Some o) more within e = (o, (let same : put o ≡ more = cc in sym same), within o refl)
+
+name_put : (put : List ℕ → Said) (text : List ℕ) (more : Said) → with_name put text ≡ Ok more → (name : List ℕ) × (more ≡ put name) × IsName name
+name_put put text more e = go (is_name text) refl e
+  where
+    go : (name : Bool) → is_name text ≡ name → cond name (Ok (put text)) (Err cause.Name) ≡ Ok more → (word : List ℕ) × (more ≡ put word) × IsName word
+    go true is e = (text, (let same : put text ≡ more = cc in sym same), name_from_test text is)
+    go false is e = absurd (cc)
+
+pub says_so : (header : Option Header) (part : Part) (text : List ℕ) (said more : Said) → said_word header part text said ≡ Ok more → SaysSo header part said more
+unfolding said_word
+says_so header (Fixed own) text said more e = let same : said ≡ more = cc in sym same
+says_so None Client text said more e = early_same said more (drop 1 text) e
+says_so (Some h) Client text said more e = number_put (λ n. record said { client = n }) 1 h.clients (drop 1 text) more e
+says_so None Centre text said more e = early_same said more text e
+says_so (Some h) Centre text said more e = number_put (λ n. record said { centre = n }) 1 h.n text more e
+says_so None Other text said more e = early_same said more text e
+says_so (Some h) Other text said more e = other_put said more h.n (number_in 1 h.n text) (number_within 1 h.n text) e
+says_so header Centres text said more e = number_put (λ n. record said { n = n; k = 1 }) 1 MOST_CENTRES text more e
+says_so header Stable text said more e = number_put (λ n. record said { k = n }) 1 said.n text more e
+says_so header (Count least most) text said more e = number_put (λ n. record said { count = n }) least most text more e
+says_so header Commit text said more e = number_put (λ n. record said { number = n }) 1 MOST_NUMBER text more e
+says_so header Delta text said more e = let p = put_of (λ d. record said { delta = d }) (delta_in text) more e in (p.0, p.1, delta_within text p.0 p.2)
+says_so header Object text said more e = object_put (λ o. record said { object = o }) (object_named text) more (object_within text) e
+says_so header Key text said more e = name_put (λ name. record said { key = name }) text more e
+says_so header Name text said more e = name_put (λ name. record said { word = name }) text more e
+
+-- ---- all words
+
+-- what is said is in range, whatever form it is of
+pub record IsSaid (header : Option Header) (said : Said) : Type 0 where
+  pub client : IfSome header (λ h. IsCount h.clients said.client)
+  pub centre : IfSome header (λ h. IsCount h.n said.centre)
+  pub n : IsCount MOST_CENTRES said.n
+  pub k : IsCount said.n said.k
+  pub number : IsCount MOST_NUMBER said.number
+  pub delta : IsDelta said.delta
+  pub object : IsName said.object.name
+  pub key : IsName said.key
+  pub word : IsName said.word
+
+-- one more word is too
+said_more : (header : Option Header) (part : Part) (said more : Said) → SaysSo header part said more → IsSaid header said → IsSaid header more
+said_more header (Fixed own) said more says is = subst (IsSaid header) (sym says) is
+said_more None Client said more says is = subst (IsSaid None) (sym says) is
+said_more (Some h) Client said more says is = subst (IsSaid (Some h)) (sym says.1) (record { client = says.2; centre = is.centre; n = is.n; k = is.k; number = is.number; delta = is.delta; object = is.object; key = is.key; word = is.word })
+said_more None Centre said more says is = subst (IsSaid None) (sym says) is
+said_more (Some h) Centre said more says is = subst (IsSaid (Some h)) (sym says.1) (record { client = is.client; centre = says.2; n = is.n; k = is.k; number = is.number; delta = is.delta; object = is.object; key = is.key; word = is.word })
+said_more None Other said more says is = subst (IsSaid None) (sym says) is
+said_more (Some h) Other said more says is = subst (IsSaid (Some h)) (sym says.1) (record { client = is.client; centre = is.centre; n = is.n; k = is.k; number = is.number; delta = is.delta; object = is.object; key = is.key; word = is.word })
+said_more header Centres said more says is = subst (IsSaid header) (sym says.1) (record { client = is.client; centre = is.centre; n = says.2; k = (omega arith, says.2.0); number = is.number; delta = is.delta; object = is.object; key = is.key; word = is.word })
+said_more header Stable said more says is = subst (IsSaid header) (sym says.1) (record { client = is.client; centre = is.centre; n = is.n; k = says.2; number = is.number; delta = is.delta; object = is.object; key = is.key; word = is.word })
+said_more header (Count least most) said more says is = subst (IsSaid header) (sym says.1) (record { client = is.client; centre = is.centre; n = is.n; k = is.k; number = is.number; delta = is.delta; object = is.object; key = is.key; word = is.word })
+said_more header Commit said more says is = subst (IsSaid header) (sym says.1) (record { client = is.client; centre = is.centre; n = is.n; k = is.k; number = says.2; delta = is.delta; object = is.object; key = is.key; word = is.word })
+said_more header Delta said more says is = subst (IsSaid header) (sym says.1) (record { client = is.client; centre = is.centre; n = is.n; k = is.k; number = is.number; delta = says.2; object = is.object; key = is.key; word = is.word })
+said_more header Object said more says is = subst (IsSaid header) (sym says.1) (record { client = is.client; centre = is.centre; n = is.n; k = is.k; number = is.number; delta = is.delta; object = says.2; key = is.key; word = is.word })
+said_more header Key said more says is = subst (IsSaid header) (sym says.1) (record { client = is.client; centre = is.centre; n = is.n; k = is.k; number = is.number; delta = is.delta; object = is.object; key = says.2; word = is.word })
+said_more header Name said more says is = subst (IsSaid header) (sym says.1) (record { client = is.client; centre = is.centre; n = is.n; k = is.k; number = is.number; delta = is.delta; object = is.object; key = is.key; word = says.2 })
+
+a_name : IsName (97 ∷ [])
+a_name = name_from_test (97 ∷ []) refl
+
+-- before the first word
+pub unsaid_in_range : (header : Option Header) → IfSome header IsHeader → IsSaid header unsaid
+unsaid_in_range None is = record { client = tt; centre = tt; n = (omega arith, omega arith); k = (omega arith, omega arith); number = (omega arith, omega arith); delta = refl; object = a_name; key = a_name; word = a_name }
+unsaid_in_range (Some h) is = record { client = (omega arith, is.clients.0); centre = (omega arith, is.n.0); n = (omega arith, omega arith); k = (omega arith, omega arith); number = (omega arith, omega arith); delta = refl; object = a_name; key = a_name; word = a_name }
+
+-- one word was said, and then the others
+record SaidFirst (header : Option Header) (part : Part) (parts : List Part) (texts : List (List ℕ)) (said more : Said) : Type 0 where
+  mid : Said
+  says : SaysSo header part said mid
+  later : said_words header parts texts mid ≡ Ok more
+
+-- what follows a word
+abbrev later_said : Option Header → List Part → List (List ℕ) → Result Said Cause → Result Said Cause
+later_said header parts texts (Ok mid) = said_words header parts texts mid
+later_said header parts texts (Err why) = Err why
+
+said_first : (header : Option Header) (part : Part) (parts : List Part) (text : List ℕ) (texts : List (List ℕ)) (said more : Said) → said_words header (part ∷ parts) (text ∷ texts) said ≡ Ok more → SaidFirst header part parts texts said more
+said_first header part parts text texts said more e = go (said_word header part text said) refl e
+  where
+    go : (r : Result Said Cause) → said_word header part text said ≡ r → later_said header parts texts r ≡ Ok more → SaidFirst header part parts texts said more
+    go (Ok mid) is later = record { mid = mid; says = says_so header part text said mid is; later = later }
+    go (Err why) is later = absurd (cc)
+
+pub words_in_range : (header : Option Header) (parts : List Part) (texts : List (List ℕ)) (said more : Said) → said_words header parts texts said ≡ Ok more → IsSaid header said → IsSaid header more
+words_in_range header [] texts said more e is = subst (IsSaid header) (let same : said ≡ more = cc in same) is
+words_in_range header (part ∷ parts) [] said more e is = subst (IsSaid header) (let same : said ≡ more = cc in same) is
+words_in_range header (part ∷ parts) (text ∷ texts) said more e is =
+    let first = said_first header part parts text texts said more e in
+    words_in_range header parts texts first.mid more first.later (said_more header part said first.mid first.says is)
+
+-- ---- the number of a form
+
+-- the range of the last number of a form that has a range of its own
+abbrev pub count_of : List Part → Option (ℕ × ℕ)
+count_of [] = None
+count_of (Count least most ∷ parts) = option_or (count_of parts) (Some (least, most))
+count_of (part ∷ parts) = count_of parts
+
+-- the number is in it
+abbrev pub IsCounted : Option (ℕ × ℕ) → Said → Said → Type 0
+IsCounted None said more = more.count ≡ said.count
+IsCounted (Some range) said more = (range.0 ≤ more.count) × (more.count ≤ range.1)
+
+-- a word that is no such number leaves it
+counted_same : (range : Option (ℕ × ℕ)) (said mid more : Said) → mid.count ≡ said.count → IsCounted range mid more → IsCounted range said more
+counted_same None said mid more same is = is ∙ same
+counted_same (Some range) said mid more same is = is
+
+counted_more : (header : Option Header) (part : Part) (parts : List Part) (said mid more : Said) → SaysSo header part said mid → IsCounted (count_of parts) mid more → IsCounted (count_of (part ∷ parts)) said more
+counted_more header (Fixed own) parts said mid more says is = counted_same (count_of parts) said mid more (ap (λ (s : Said). s.count) says) is
+counted_more None Client parts said mid more says is = counted_same (count_of parts) said mid more (ap (λ (s : Said). s.count) says) is
+counted_more (Some h) Client parts said mid more says is = counted_same (count_of parts) said mid more (ap (λ (s : Said). s.count) says.1) is
+counted_more None Centre parts said mid more says is = counted_same (count_of parts) said mid more (ap (λ (s : Said). s.count) says) is
+counted_more (Some h) Centre parts said mid more says is = counted_same (count_of parts) said mid more (ap (λ (s : Said). s.count) says.1) is
+counted_more None Other parts said mid more says is = counted_same (count_of parts) said mid more (ap (λ (s : Said). s.count) says) is
+counted_more (Some h) Other parts said mid more says is = counted_same (count_of parts) said mid more (ap (λ (s : Said). s.count) says.1) is
+counted_more header Centres parts said mid more says is = counted_same (count_of parts) said mid more (ap (λ (s : Said). s.count) says.1) is
+counted_more header Stable parts said mid more says is = counted_same (count_of parts) said mid more (ap (λ (s : Said). s.count) says.1) is
+counted_more header (Count least most) parts said mid more says is = go (count_of parts) is
+  where
+    go : (range : Option (ℕ × ℕ)) → IsCounted range mid more → IsCounted (option_or range (Some (least, most))) said more
+    go None same = let now : mid.count ≡ says.0 = ap (λ (s : Said). s.count) says.1 in let low = says.2.0 in let high = says.2.1 in (omega arith, omega arith)
+    go (Some range) within = within
+counted_more header Commit parts said mid more says is = counted_same (count_of parts) said mid more (ap (λ (s : Said). s.count) says.1) is
+counted_more header Delta parts said mid more says is = counted_same (count_of parts) said mid more (ap (λ (s : Said). s.count) says.1) is
+counted_more header Object parts said mid more says is = counted_same (count_of parts) said mid more (ap (λ (s : Said). s.count) says.1) is
+counted_more header Key parts said mid more says is = counted_same (count_of parts) said mid more (ap (λ (s : Said). s.count) says.1) is
+counted_more header Name parts said mid more says is = counted_same (count_of parts) said mid more (ap (λ (s : Said). s.count) says.1) is
+
+pub counted_in_range : (header : Option Header) (parts : List Part) (texts : List (List ℕ)) (said more : Said) → length parts ≡ length texts → said_words header parts texts said ≡ Ok more → IsCounted (count_of parts) said more
+counted_in_range header [] texts said more same e = let is : said ≡ more = cc in ap (λ (s : Said). s.count) (sym is)
+counted_in_range header (part ∷ parts) [] said more same e = absurd (omega arith)
+counted_in_range header (part ∷ parts) (text ∷ texts) said more same e =
+    let first = said_first header part parts text texts said more e in
+    counted_more header part parts said first.mid more first.says (counted_in_range header parts texts first.mid more (omega arith) first.later)
+
+-- ---- two centres
+
+-- one of n centres, and not the one before
+abbrev pub IsOther : ℕ → Said → Type 0
+IsOther n said = IsCount n said.other × (said.centre ≢ said.other)
+
+other_kept : (n : ℕ) (said more : Said) → more.centre ≡ said.centre → more.other ≡ said.other → IsOther n said → IsOther n more
+other_kept n said more centre other is = (let low = is.0.0 in let high = is.0.1 in (omega arith, omega arith), λ e. is.1 (sym centre ∙ (e ∙ other)))
+
+other_put_in : (h : Header) (said more : Said) → SaysSo (Some h) Other said more → IsOther h.n more
+other_put_in h said more says =
+    subst (IsOther h.n) (sym says.1) (says.2, says.3)
+
+-- two centres that end a form
+pub route_said : (h : Header) (own : Word) (texts : List (List ℕ)) (said more : Said) → length texts ≡ 3 → said_words (Some h) (Fixed own ∷ Centre ∷ Other ∷ []) texts said ≡ Ok more → IsOther h.n more
+route_said h own (a ∷ b ∷ c ∷ []) said more same e =
+    let first = said_first (Some h) (Fixed own) (Centre ∷ Other ∷ []) a (b ∷ c ∷ []) said more e in
+    let second = said_first (Some h) Centre (Other ∷ []) b (c ∷ []) first.mid more first.later in
+    let third = said_first (Some h) Other [] c [] second.mid more second.later in
+    subst (IsOther h.n) (let is : third.mid ≡ more = (let last : Ok third.mid ≡ Ok more = third.later in cc) in is) (other_put_in h second.mid third.mid third.says)
+route_said h own [] said more same e = absurd (omega arith)
+route_said h own (a ∷ []) said more same e = absurd (omega arith)
+route_said h own (a ∷ b ∷ []) said more same e = absurd (omega arith)
+route_said h own (a ∷ b ∷ c ∷ d ∷ texts) said more same e = absurd (omega arith)
+
+-- a number behind them leaves them
+last_kept : (h : Header) (least most : ℕ) (said mid more : Said) → SaysSo (Some h) (Count least most) said mid → ◌≡◌ {A = Result Said Cause} (Ok mid) (Ok more) → IsOther h.n said → IsOther h.n more
+last_kept h least most said mid more says last is = subst (IsOther h.n) (let same : mid ≡ more = cc in same) (other_kept h.n said mid (ap (λ (s : Said). s.centre) says.1) (ap (λ (s : Said). s.other) says.1) is)
+
+-- two centres and a number
+pub route_counted : (h : Header) (own : Word) (least most : ℕ) (texts : List (List ℕ)) (said more : Said) → length texts ≡ 4 → said_words (Some h) (Fixed own ∷ Centre ∷ Other ∷ Count least most ∷ []) texts said ≡ Ok more → IsOther h.n more
+route_counted h own least most (a ∷ b ∷ c ∷ d ∷ []) said more same e =
+    let rest = Count least most ∷ [] in
+    let first = said_first (Some h) (Fixed own) (Centre ∷ Other ∷ rest) a (b ∷ c ∷ d ∷ []) said more e in
+    let second = said_first (Some h) Centre (Other ∷ rest) b (c ∷ d ∷ []) first.mid more first.later in
+    let third = said_first (Some h) Other rest c (d ∷ []) second.mid more second.later in
+    let fourth = said_first (Some h) (Count least most) [] d [] third.mid more third.later in
+    last_kept h least most third.mid fourth.mid more fourth.says fourth.later (other_put_in h second.mid third.mid third.says)
+route_counted h own least most [] said more same e = absurd (omega arith)
+route_counted h own least most (a ∷ []) said more same e = absurd (omega arith)
+route_counted h own least most (a ∷ b ∷ []) said more same e = absurd (omega arith)
+route_counted h own least most (a ∷ b ∷ c ∷ []) said more same e = absurd (omega arith)
+route_counted h own least most (a ∷ b ∷ c ∷ d ∷ f ∷ texts) said more same e = absurd (omega arith)

@@ -1,0 +1,11 @@
+pub mod Words
+pub mod Numbers
+pub mod Names
+pub mod Forms
+pub mod Fits
+pub mod Said
+pub mod Rows
+pub mod Readings
+pub mod Lines
+pub mod Scripts
+pub mod Ranges

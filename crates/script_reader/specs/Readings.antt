@@ -1,0 +1,47 @@
+-- How far lines came, and what may stand behind them.
+use Rattle.std.specs.Prelude.{◌==◌, ◌&&◌, ◌++◌, ℕ, Bool, false, [], ◌∷◌, length, is_some, is_none, Option, Some, None}
+use Rattle.script_text.specs.declared.script.Header.{Header}
+use Rattle.script_text.specs.Rows.{section_of}
+use Rattle.script_reader.specs.declared.row.Row.{Row}
+use Rattle.script_reader.specs.declared.row.Row.TheVariants as row
+use Rattle.script_reader.specs.declared.reading.Group.{Group}
+use Rattle.script_reader.specs.declared.reading.Reading.{Reading}
+
+-- no line was read
+abbrev pub nothing_read : Reading
+nothing_read = record { centres = None; clients = None; cache = None; limit = None; threads = None; rounds = None; sections = [] }
+
+-- what the two header lines say
+abbrev pub header_said : Option Group → Option ℕ → Option Header
+header_said (Some group) (Some clients) = Some (record { n = group.n; k = group.k; clients = clients })
+header_said _ _ = None
+
+-- the header, where both its lines were taken
+abbrev pub header_in : Reading → Option Header
+header_in reading = header_said reading.centres reading.clients
+
+-- a setting may stand: behind the header, before all steps, and once
+abbrev pub may_set : Reading → Option ℕ → Bool
+may_set reading set = is_some (header_in reading) && (length reading.sections == 0 && is_none set)
+
+-- a line may stand here
+unfoldable pub may_stand : Reading → Row → Bool
+may_stand reading (row.Centres n k) = is_none reading.centres
+may_stand reading (row.Clients clients) = is_some reading.centres && is_none reading.clients
+may_stand reading (row.Cache objects) = may_set reading reading.cache
+may_stand reading (row.Limit most) = may_set reading reading.limit
+may_stand reading (row.Threads most) = may_set reading reading.threads
+may_stand reading (row.Rounds rounds) = may_set reading reading.rounds
+may_stand reading (row.Does step) = is_some (header_in reading)
+may_stand reading row.Later = false
+
+-- how far the lines came with one more behind them: each step is a section of its own
+unfoldable pub read_more : Reading → Row → Reading
+read_more reading (row.Centres n k) = record reading { centres = Some (record { n = n; k = k }) }
+read_more reading (row.Clients clients) = record reading { clients = Some clients }
+read_more reading (row.Cache objects) = record reading { cache = Some objects }
+read_more reading (row.Limit most) = record reading { limit = Some most }
+read_more reading (row.Threads most) = record reading { threads = Some most }
+read_more reading (row.Rounds rounds) = record reading { rounds = Some rounds }
+read_more reading (row.Does step) = record reading { sections = reading.sections ++ section_of step ∷ [] }
+read_more reading row.Later = reading

@@ -1,0 +1,377 @@
+// The forms of lines, and what the words of each have to be.
+ghost use Rattle.std.specs.Prelude.{◌≡◌};
+ghost use Rattle.script_reader.specs.Forms.{parts_of, word_text};
+
+use ids_core::{MOST_CACHED, MOST_CLIENTS, MOST_RECORDS};
+
+/// The most transactions of a centre, the greatest number of a record, and the rarest fault of a link.
+pub const MOST_COUNTED: u32 = MOST_RECORDS as u32;
+
+/// The most threads.
+pub const MOST_THREADS: u32 = 16;
+
+/// The most rounds of a worker in a phase.
+pub const MOST_ROUNDS: u32 = 1_000;
+
+/// A word that stands in lines as it is.
+#[derive(Clone, Copy)]
+pub enum Word {
+    Centres,
+    K,
+    Clients,
+    Cache,
+    Limit,
+    Threads,
+    Rounds,
+    Connect,
+    Begin,
+    Inc,
+    Set,
+    Add,
+    Del,
+    Put,
+    Drop,
+    Read,
+    Commit,
+    Abort,
+    Push,
+    Flush,
+    Refresh,
+    Again,
+    Lose,
+    Ask,
+    Reply,
+    Twice,
+    Down,
+    Up,
+    Ship,
+    Tell,
+    Prune,
+    Link,
+    Hold,
+    Clean,
+    Settle,
+    Phase,
+    End,
+}
+
+/// What a word of a line has to be.
+#[derive(Clone, Copy)]
+pub enum Part {
+    /// This word.
+    Fixed(Word),
+    /// A `c`, and the number of a client.
+    Client,
+    /// The number of a centre.
+    Centre,
+    /// The number of another centre than the one before.
+    Other,
+    /// How many centres there are, from 1 to 8.
+    Centres,
+    /// How many of the centres make an update stable.
+    Stable,
+    /// A number from a least to a most.
+    Count { least: u32, most: u32 },
+    /// The number of a commit, from 1 to 2^62.
+    Commit,
+    /// A delta, from -10^12 to 10^12.
+    Delta,
+    /// An object.
+    Object,
+    /// A key, which is a name.
+    Key,
+    /// A word that is written, added or put, which is a name.
+    Name,
+}
+
+/// The forms of lines.
+#[derive(Clone, Copy)]
+pub enum Form {
+    Centres,
+    Clients,
+    Cache,
+    Limit,
+    Threads,
+    Rounds,
+    Connect,
+    Begin,
+    Inc,
+    Set,
+    Add,
+    Del,
+    Put,
+    Drop,
+    Read,
+    Commit,
+    Abort,
+    Push,
+    Flush,
+    Refresh,
+    Again,
+    LoseAsk,
+    LoseReply,
+    AskTwice,
+    Down,
+    Up,
+    ShipOne,
+    Ship,
+    Tell,
+    Prune,
+    LinkDrop,
+    LinkTwice,
+    LinkHold,
+    LinkClean,
+    Settle,
+    Phase,
+    End,
+}
+
+/// All forms.
+pub const FORMS: [Form; 37] = [
+    Form::Centres,
+    Form::Clients,
+    Form::Cache,
+    Form::Limit,
+    Form::Threads,
+    Form::Rounds,
+    Form::Connect,
+    Form::Begin,
+    Form::Inc,
+    Form::Set,
+    Form::Add,
+    Form::Del,
+    Form::Put,
+    Form::Drop,
+    Form::Read,
+    Form::Commit,
+    Form::Abort,
+    Form::Push,
+    Form::Flush,
+    Form::Refresh,
+    Form::Again,
+    Form::LoseAsk,
+    Form::LoseReply,
+    Form::AskTwice,
+    Form::Down,
+    Form::Up,
+    Form::ShipOne,
+    Form::Ship,
+    Form::Tell,
+    Form::Prune,
+    Form::LinkDrop,
+    Form::LinkTwice,
+    Form::LinkHold,
+    Form::LinkClean,
+    Form::Settle,
+    Form::Phase,
+    Form::End,
+];
+
+/// The bytes of a word.
+pub fn spelled(word: Word) -> &'static [u8]
+    ensures { result.now ≡ word_text word }
+{
+    match word {
+        Word::Centres => b"centres",
+        Word::K => b"k",
+        Word::Clients => b"clients",
+        Word::Cache => b"cache",
+        Word::Limit => b"limit",
+        Word::Threads => b"threads",
+        Word::Rounds => b"rounds",
+        Word::Connect => b"connect",
+        Word::Begin => b"begin",
+        Word::Inc => b"inc",
+        Word::Set => b"set",
+        Word::Add => b"add",
+        Word::Del => b"del",
+        Word::Put => b"put",
+        Word::Drop => b"drop",
+        Word::Read => b"read",
+        Word::Commit => b"commit",
+        Word::Abort => b"abort",
+        Word::Push => b"push",
+        Word::Flush => b"flush",
+        Word::Refresh => b"refresh",
+        Word::Again => b"again",
+        Word::Lose => b"lose",
+        Word::Ask => b"ask",
+        Word::Reply => b"reply",
+        Word::Twice => b"twice",
+        Word::Down => b"down",
+        Word::Up => b"up",
+        Word::Ship => b"ship",
+        Word::Tell => b"tell",
+        Word::Prune => b"prune",
+        Word::Link => b"link",
+        Word::Hold => b"hold",
+        Word::Clean => b"clean",
+        Word::Settle => b"settle",
+        Word::Phase => b"phase",
+        Word::End => b"end",
+    }
+}
+
+/// What the words of a form have to be, in their order.
+pub fn parts(form: Form) -> &'static [Part]
+    ensures { result.now ≡ parts_of form }
+{
+    match form {
+        Form::Centres => &[
+            Part::Fixed(Word::Centres),
+            Part::Centres,
+            Part::Fixed(Word::K),
+            Part::Stable,
+        ],
+        Form::Clients => &[
+            Part::Fixed(Word::Clients),
+            Part::Count {
+                least: 1,
+                most: MOST_CLIENTS,
+            },
+        ],
+        Form::Cache => &[
+            Part::Fixed(Word::Cache),
+            Part::Count {
+                least: 1,
+                most: MOST_CACHED,
+            },
+        ],
+        Form::Limit => &[
+            Part::Fixed(Word::Limit),
+            Part::Count {
+                least: 1,
+                most: MOST_COUNTED,
+            },
+        ],
+        Form::Threads => &[
+            Part::Fixed(Word::Threads),
+            Part::Count {
+                least: 1,
+                most: MOST_THREADS,
+            },
+        ],
+        Form::Rounds => &[
+            Part::Fixed(Word::Rounds),
+            Part::Count {
+                least: 0,
+                most: MOST_ROUNDS,
+            },
+        ],
+        Form::Connect => &[Part::Client, Part::Fixed(Word::Connect), Part::Centre],
+        Form::Begin => &[Part::Client, Part::Fixed(Word::Begin)],
+        Form::Inc => &[
+            Part::Client,
+            Part::Fixed(Word::Inc),
+            Part::Object,
+            Part::Delta,
+        ],
+        Form::Set => &[
+            Part::Client,
+            Part::Fixed(Word::Set),
+            Part::Object,
+            Part::Name,
+        ],
+        Form::Add => &[
+            Part::Client,
+            Part::Fixed(Word::Add),
+            Part::Object,
+            Part::Name,
+        ],
+        Form::Del => &[
+            Part::Client,
+            Part::Fixed(Word::Del),
+            Part::Object,
+            Part::Name,
+        ],
+        Form::Put => &[
+            Part::Client,
+            Part::Fixed(Word::Put),
+            Part::Object,
+            Part::Key,
+            Part::Name,
+        ],
+        Form::Drop => &[
+            Part::Client,
+            Part::Fixed(Word::Drop),
+            Part::Object,
+            Part::Key,
+        ],
+        Form::Read => &[Part::Client, Part::Fixed(Word::Read), Part::Object],
+        Form::Commit => &[Part::Client, Part::Fixed(Word::Commit)],
+        Form::Abort => &[Part::Client, Part::Fixed(Word::Abort)],
+        Form::Push => &[Part::Client, Part::Fixed(Word::Push)],
+        Form::Flush => &[Part::Client, Part::Fixed(Word::Flush)],
+        Form::Refresh => &[Part::Client, Part::Fixed(Word::Refresh)],
+        Form::Again => &[
+            Part::Client,
+            Part::Fixed(Word::Again),
+            Part::Centre,
+            Part::Commit,
+        ],
+        Form::LoseAsk => &[
+            Part::Client,
+            Part::Fixed(Word::Lose),
+            Part::Fixed(Word::Ask),
+        ],
+        Form::LoseReply => &[
+            Part::Client,
+            Part::Fixed(Word::Lose),
+            Part::Fixed(Word::Reply),
+        ],
+        Form::AskTwice => &[Part::Client, Part::Fixed(Word::Twice)],
+        Form::Down => &[Part::Fixed(Word::Down), Part::Centre],
+        Form::Up => &[Part::Fixed(Word::Up), Part::Centre],
+        Form::ShipOne => &[
+            Part::Fixed(Word::Ship),
+            Part::Centre,
+            Part::Other,
+            Part::Count {
+                least: 1,
+                most: MOST_COUNTED,
+            },
+        ],
+        Form::Ship => &[Part::Fixed(Word::Ship), Part::Centre, Part::Other],
+        Form::Tell => &[Part::Fixed(Word::Tell), Part::Centre, Part::Other],
+        Form::Prune => &[Part::Fixed(Word::Prune), Part::Centre],
+        Form::LinkDrop => &[
+            Part::Fixed(Word::Link),
+            Part::Centre,
+            Part::Other,
+            Part::Fixed(Word::Drop),
+            Part::Count {
+                least: 1,
+                most: MOST_COUNTED,
+            },
+        ],
+        Form::LinkTwice => &[
+            Part::Fixed(Word::Link),
+            Part::Centre,
+            Part::Other,
+            Part::Fixed(Word::Twice),
+            Part::Count {
+                least: 1,
+                most: MOST_COUNTED,
+            },
+        ],
+        Form::LinkHold => &[
+            Part::Fixed(Word::Link),
+            Part::Centre,
+            Part::Other,
+            Part::Fixed(Word::Hold),
+            Part::Count {
+                least: 1,
+                most: MOST_COUNTED,
+            },
+        ],
+        Form::LinkClean => &[
+            Part::Fixed(Word::Link),
+            Part::Centre,
+            Part::Other,
+            Part::Fixed(Word::Clean),
+        ],
+        Form::Settle => &[Part::Fixed(Word::Settle)],
+        Form::Phase => &[Part::Fixed(Word::Phase)],
+        Form::End => &[Part::Fixed(Word::End)],
+    }
+}

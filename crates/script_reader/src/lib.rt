@@ -1,0 +1,21 @@
+//! Reads scripts: which bytes are a script, of which settings and steps, and of all others the first line at fault and
+//! why.
+#![tactic(auto)]
+
+mod fault;
+mod fit;
+mod form;
+mod lines;
+mod names;
+mod numbers;
+mod reading;
+mod row;
+mod said;
+mod scripts;
+#[cfg(test)]
+mod tests;
+mod words;
+
+pub use fault::{Cause, ScriptFault};
+pub use reading::ReadScript;
+pub use scripts::parse;

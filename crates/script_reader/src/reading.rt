@@ -1,0 +1,168 @@
+// How far the lines of a script came.
+ghost use Rattle.std.specs.Prelude.{◌≡◌, Ok, Err, IfOk, OnOk};
+ghost use Rattle.script_reader.specs.declared.fault.Cause.{Cause as CauseOf};
+ghost use Rattle.script_reader.specs.declared.reading.LineFault.TheVariants.{NoMemory as no_memory};
+ghost use Rattle.script_reader.specs.Lines.{line_taken};
+ghost use Rattle.script_reader.specs.Readings.{header_in, may_set, may_stand, nothing_read, read_more};
+ghost use Rattle.script_text.specs.Rows.{section_of};
+
+use crate::fault::Cause;
+use crate::row::{Row, row_in};
+use script_text::{Header, Script, Section, Sections, Step, Steps};
+use std::alloc::{AllocError, Global};
+
+/// How many centres there are, and how many of them make an update stable.
+#[derive(Clone, Copy)]
+pub struct Group {
+    /// How many centres there are, from 1 to 8.
+    pub n: u8,
+    /// How many of them have to know an update before it is stable, from 1 to `n`.
+    pub k: u8,
+}
+
+/// What lines set, and the sections of their steps.
+#[derive(Drop)]
+pub struct Reading {
+    pub centres: Option<Group>,
+    pub clients: Option<u32>,
+    pub cache: Option<u32>,
+    pub limit: Option<u32>,
+    pub threads: Option<u32>,
+    pub rounds: Option<u32>,
+    pub sections: Sections,
+}
+
+/// A script, and what its lines set for phases.
+#[derive(Drop)]
+pub struct ReadScript {
+    pub script: Script,
+    /// How many threads play a phase, from 1 to 16.
+    pub threads: u32,
+    /// How many rounds a worker makes in a phase, from 0 to 1,000.
+    pub rounds: u32,
+}
+
+/// How many threads play a phase where no line says it.
+pub const DEFAULT_THREADS: u32 = 4;
+
+/// How many rounds a worker makes where no line says it.
+pub const DEFAULT_ROUNDS: u32 = 32;
+
+/// Why a line was not taken.
+#[derive(Clone, Copy)]
+pub enum LineFault {
+    /// It is refused.
+    Refused(Cause),
+    /// There is no memory for its step.
+    NoMemory,
+}
+
+impl From<AllocError> for LineFault {
+    ghost from_gives = { λ _ e. e ≡ no_memory };
+
+    fn from(_: AllocError) -> Self {
+        LineFault::NoMemory
+    }
+}
+
+impl Reading {
+    /// No line was read.
+    pub fn nothing(alloc: Global) -> Self
+        ensures { result ≡ nothing_read }
+    {
+        Reading {
+            centres: None,
+            clients: None,
+            cache: None,
+            limit: None,
+            threads: None,
+            rounds: None,
+            sections: Sections::new(alloc),
+        }
+    }
+
+    /// The header, where both its lines were taken.
+    pub fn header(&self) -> Option<Header>
+        ensures { result ≡ header_in self.now }
+    {
+        match self.centres {
+            Some(group) => match self.clients {
+                Some(clients) => Some(Header {
+                    n: group.n,
+                    k: group.k,
+                    clients,
+                }),
+                None => None,
+            },
+            None => None,
+        }
+    }
+
+    // Whether a setting may stand here, of which this was read.
+    fn may_set(&self, set: Option<u32>) -> bool
+        ensures { result ≡ may_set self.now set }
+    {
+        self.header().is_some() && (self.sections.is_empty() && set.is_none())
+    }
+
+    // Whether a line may stand here.
+    #[tactic(auto, unfolding(crate::specs::Readings::may_stand))]
+    fn may_stand(&self, row: &Row) -> bool
+        ensures { result ≡ may_stand self.now row.now }
+    {
+        match row {
+            Row::Centres { .. } => self.centres.is_none(),
+            Row::Clients(_) => self.centres.is_some() && self.clients.is_none(),
+            Row::Cache(_) => self.may_set(self.cache),
+            Row::Limit(_) => self.may_set(self.limit),
+            Row::Threads(_) => self.may_set(self.threads),
+            Row::Rounds(_) => self.may_set(self.rounds),
+            Row::Does(_) => self.header().is_some(),
+            Row::Later => false,
+        }
+    }
+
+    // Takes what a line says.
+    #[tactic(auto, unfolding(crate::specs::Readings::read_more))]
+    fn take(&mut self, alloc: Global, row: Row) -> Result<(), AllocError>
+        ensures { OnOk result (self.new ≡ read_more self.old row) }
+    {
+        match row {
+            Row::Centres { n, k } => self.centres = Some(Group { n, k }),
+            Row::Clients(clients) => self.clients = Some(clients),
+            Row::Cache(objects) => self.cache = Some(objects),
+            Row::Limit(most) => self.limit = Some(most),
+            Row::Threads(most) => self.threads = Some(most),
+            Row::Rounds(rounds) => self.rounds = Some(rounds),
+            Row::Does(step) => self.sections.push(section(alloc, step)?)?,
+            Row::Later => {}
+        }
+        Ok(())
+    }
+
+    /// Takes the line of this number, where it is skipped or may stand behind those that were taken.
+    pub fn read(&mut self, alloc: Global, number: u32, line: &[u8]) -> Result<(), LineFault>
+        ensures taken { OnOk result (line_taken self.old number line.now ≡ Ok self.new) }
+        ensures refused { (why : CauseOf) → result ≡ Err (LineFault.Refused why) → line_taken self.old number line.now ≡ Err why }
+    {
+        match row_in(self.header(), number, line) {
+            Ok(Some(row)) => {
+                if !self.may_stand(&row) {
+                    return Err(LineFault::Refused(Cause::Place));
+                }
+                self.take(alloc, row)?;
+                Ok(())
+            }
+            Ok(None) => Ok(()),
+            Err(why) => Err(LineFault::Refused(why)),
+        }
+    }
+}
+
+// A step as a section of its own.
+fn section(alloc: Global, step: Step) -> Result<Section, AllocError>
+    ensures { IfOk result (λ section. section ≡ section_of step) }
+{
+    let steps = Steps::from_vec(vec![in alloc; step]?);
+    Ok(Section { steps })
+}

@@ -1,0 +1,232 @@
+// What a line says that is not skipped.
+ghost use Rattle.std.specs.Prelude.{◌≡◌};
+ghost use Rattle.script_reader.specs.Rows.{change_row, client_row, is_of_its_kind, is_of_kind, operator_row, row_in, row_in_text, row_in_words, row_of};
+ghost use Rattle.script_reader.specs.Words.{words_of};
+
+use crate::fault::Cause;
+use crate::fit::form_of;
+use crate::form::{Form, parts};
+use crate::said::{Said, said_words};
+use crate::words::{is_plain_text, is_skipped, without_return};
+use dc_talk::Change;
+use script_text::{AskFault, ClientStep, Header, MAX_LINE, MAX_LINES, OperatorStep, Step};
+
+/// What a line says.
+#[derive(Clone, Copy)]
+pub enum Row {
+    /// How many centres there are, and how many of them make an update stable.
+    Centres { n: u8, k: u8 },
+    /// How many clients there are.
+    Clients(u32),
+    /// How many objects a client's cache holds.
+    Cache(u32),
+    /// How many transactions a centre stamps.
+    Limit(u32),
+    /// How many threads play a phase.
+    Threads(u32),
+    /// How many rounds a worker makes in a phase.
+    Rounds(u32),
+    /// A step of a client or of the operator.
+    Does(Step),
+    /// What no script has yet: a phase, its end, a fault of a link, or a pruning.
+    Later,
+}
+
+// A step of the client that is named.
+fn client_row(said: &Said, step: ClientStep) -> Row
+    ensures { result ≡ client_row said.now step }
+{
+    Row::Does(Step::Client {
+        client: said.client,
+        step,
+    })
+}
+
+// A change of the object that is named.
+fn change_row(said: &Said, change: Change) -> Row
+    ensures { result ≡ change_row said.now change }
+{
+    client_row(
+        said,
+        ClientStep::Change {
+            object: said.object,
+            change,
+        },
+    )
+}
+
+// A step of the operator.
+fn operator_row(step: OperatorStep) -> Row
+    ensures { result ≡ operator_row step }
+{
+    Row::Does(Step::Operator { step })
+}
+
+/// What a line of a form says, whose words say this.
+#[tactic(auto, unfolding(crate::specs::Rows::row_of))]
+pub fn row_of(form: Form, said: &Said) -> Row
+    ensures { result ≡ row_of form said.now }
+{
+    match form {
+        Form::Centres => Row::Centres {
+            n: said.n,
+            k: said.k,
+        },
+        Form::Clients => Row::Clients(said.count),
+        Form::Cache => Row::Cache(said.count),
+        Form::Limit => Row::Limit(said.count),
+        Form::Threads => Row::Threads(said.count),
+        Form::Rounds => Row::Rounds(said.count),
+        Form::Connect => client_row(
+            said,
+            ClientStep::Connect {
+                centre: said.centre,
+            },
+        ),
+        Form::Begin => client_row(said, ClientStep::Begin),
+        Form::Inc => change_row(said, Change::Inc { delta: said.delta }),
+        Form::Set => change_row(said, Change::Write { word: said.word }),
+        Form::Add => change_row(said, Change::Add { word: said.word }),
+        Form::Del => change_row(said, Change::Remove { word: said.word }),
+        Form::Put => change_row(
+            said,
+            Change::Put {
+                key: said.key,
+                word: said.word,
+            },
+        ),
+        Form::Drop => change_row(said, Change::Erase { key: said.key }),
+        Form::Read => client_row(
+            said,
+            ClientStep::Read {
+                object: said.object,
+            },
+        ),
+        Form::Commit => client_row(said, ClientStep::Commit),
+        Form::Abort => client_row(said, ClientStep::Abort),
+        Form::Push => client_row(said, ClientStep::Push),
+        Form::Flush => client_row(said, ClientStep::Flush),
+        Form::Refresh => client_row(said, ClientStep::Refresh),
+        Form::Again => client_row(
+            said,
+            ClientStep::Again {
+                centre: said.centre,
+                number: said.number,
+            },
+        ),
+        Form::LoseAsk => client_row(
+            said,
+            ClientStep::Arm {
+                fault: AskFault::LoseAsk,
+            },
+        ),
+        Form::LoseReply => client_row(
+            said,
+            ClientStep::Arm {
+                fault: AskFault::LoseReply,
+            },
+        ),
+        Form::AskTwice => client_row(
+            said,
+            ClientStep::Arm {
+                fault: AskFault::Twice,
+            },
+        ),
+        Form::Down => operator_row(OperatorStep::Down {
+            centre: said.centre,
+        }),
+        Form::Up => operator_row(OperatorStep::Up {
+            centre: said.centre,
+        }),
+        Form::ShipOne => operator_row(OperatorStep::ShipOne {
+            from: said.centre,
+            to: said.other,
+            seq: u64::from(said.count),
+        }),
+        Form::Ship => operator_row(OperatorStep::Ship {
+            from: said.centre,
+            to: said.other,
+        }),
+        Form::Tell => operator_row(OperatorStep::Tell {
+            from: said.centre,
+            to: said.other,
+        }),
+        Form::Settle => operator_row(OperatorStep::Settle),
+        Form::Prune
+        | Form::LinkDrop
+        | Form::LinkTwice
+        | Form::LinkHold
+        | Form::LinkClean
+        | Form::Phase
+        | Form::End => Row::Later,
+    }
+}
+
+// Whether the object of a client's step is of the kind that the step changes.
+fn is_of_kind(step: &ClientStep) -> bool
+    ensures { result ≡ is_of_kind step.now }
+{
+    match step {
+        ClientStep::Change { object, change } => object.sort == change.sort(),
+        _ => true,
+    }
+}
+
+// Whether the object of a line is of the kind that its step changes, where it has one.
+fn is_of_its_kind(row: &Row) -> bool
+    ensures { result ≡ is_of_its_kind row.now }
+{
+    match row {
+        Row::Does(Step::Client { step, .. }) => is_of_kind(step),
+        _ => true,
+    }
+}
+
+// What the words of a text say behind this header, or before one.
+fn row_in_words(header: Option<Header>, text: &[u8]) -> Result<Option<Row>, Cause>
+    ensures { result ≡ row_in_words header (words_of text.now) }
+{
+    match form_of(text) {
+        Ok(form) => match said_words(header, parts(form), text) {
+            Ok(said) => {
+                let row = row_of(form, &said);
+                if is_of_its_kind(&row) {
+                    Ok(Some(row))
+                } else {
+                    Err(Cause::Kind)
+                }
+            }
+            Err(why) => Err(why),
+        },
+        Err(why) => Err(why),
+    }
+}
+
+// What a text says; nothing where it is skipped.
+#[tactic(auto, unfolding(crate::specs::Rows::row_in_text))]
+fn row_in_text(header: Option<Header>, text: &[u8]) -> Result<Option<Row>, Cause>
+    ensures { result ≡ row_in_text header text.now }
+{
+    if is_skipped(text) {
+        return Ok(None);
+    }
+    if !is_plain_text(text) {
+        return Err(Cause::Byte);
+    }
+    row_in_words(header, text)
+}
+
+/// What the line of this number says, behind this header, or before one; nothing where it is skipped; or why it is
+/// refused wherever it stands.
+#[tactic(auto, unfolding(crate::specs::Rows::row_in))]
+pub fn row_in(header: Option<Header>, number: u32, line: &[u8]) -> Result<Option<Row>, Cause>
+    ensures { result ≡ row_in header number line.now }
+{
+    if number > MAX_LINES {
+        return Err(Cause::Many);
+    }
+    if line.len() > MAX_LINE as usize {
+        return Err(Cause::Long);
+    }
+    row_in_text(header, without_return(line))
+}

@@ -1,0 +1,198 @@
+use crate::fault::{Cause, ScriptFault};
+use crate::scripts::parse;
+use ids_core::Sort;
+use script_text::{ClientStep, OperatorStep, Step};
+use std::alloc::Global;
+use std::test::Fail;
+
+// Whether a text is refused at this line, for this cause.
+fn is_refused(alloc: Global, text: &[u8], at: u32, why: Cause) -> bool {
+    match parse(alloc, text) {
+        Err(ScriptFault::Refused { line, cause }) => line == at && cause == why,
+        _ => false,
+    }
+}
+
+// Whether one line behind the header of one centre and one client is refused for this cause.
+fn is_refused_third(alloc: Global, line: &[u8], why: Cause) -> Result<bool, Fail> {
+    let mut text = b"centres 1 k 1\nclients 1\n".to_vec(alloc)?;
+    text.extend_from_slice(line)?;
+    Ok(is_refused(alloc, &text, 3, why))
+}
+
+// The same behind the header of three centres and twelve clients.
+fn is_refused_of_three(alloc: Global, line: &[u8], why: Cause) -> Result<bool, Fail> {
+    let mut text = b"centres 3 k 2\nclients 12\n".to_vec(alloc)?;
+    text.extend_from_slice(line)?;
+    Ok(is_refused(alloc, &text, 3, why))
+}
+
+#[test]
+fn each_cause_is_told(rt: HostRuntime) -> Result<(), Fail> {
+    let alloc = rt.alloc();
+    assert!(rt; is_refused_third(alloc, b"c1 begi\n", Cause::Word)?);
+    assert!(rt; is_refused_third(alloc, b"c1 begin now\n", Cause::Count)?);
+    assert!(rt; is_refused_third(alloc, b"c1 inc c.a 05\n", Cause::Number)?);
+    assert!(rt; is_refused_third(alloc, b"c1 inc c.a -0\n", Cause::Number)?);
+    assert!(rt; is_refused_third(alloc, b"c2 begin\n", Cause::Range)?);
+    assert!(rt; is_refused_third(alloc, b"down 0\n", Cause::Range)?);
+    assert!(rt; is_refused_third(alloc, b"c1 inc c.a 1000000000001\n", Cause::Range)?);
+    assert!(rt; is_refused_third(alloc, b"c1 inc C.a 5\n", Cause::Name)?);
+    assert!(rt; is_refused_third(alloc, b"c1 inc s.a 5\n", Cause::Kind)?);
+    assert!(rt; is_refused_third(alloc, b"clients 1\n", Cause::Place)?);
+    assert!(rt; is_refused_third(alloc, b"c1 inc c.a\x01 5\n", Cause::Byte)?);
+    Ok(())
+}
+
+#[test]
+fn a_word_comes_before_the_count(rt: HostRuntime) -> Result<(), Fail> {
+    let alloc = rt.alloc();
+    assert!(rt; is_refused_of_three(alloc, b"c begin", Cause::Word)?);
+    assert!(rt; is_refused_of_three(alloc, b"cx begin", Cause::Word)?);
+    assert!(rt; is_refused_of_three(alloc, b"c1x begin", Cause::Word)?);
+    assert!(rt; is_refused_of_three(alloc, b"c1", Cause::Count)?);
+    assert!(rt; is_refused_of_three(alloc, b"c1 lose it now", Cause::Word)?);
+    assert!(rt; is_refused_of_three(alloc, b"c1 lose", Cause::Count)?);
+    assert!(rt; is_refused_of_three(alloc, b"link 1 2", Cause::Count)?);
+    assert!(rt; is_refused_of_three(alloc, b"link 1 2 clean 3", Cause::Count)?);
+    assert!(rt; is_refused_of_three(alloc, b"link 1 2 drop", Cause::Count)?);
+    assert!(rt; is_refused_of_three(alloc, b"link 1 2 lose 3", Cause::Word)?);
+    assert!(rt; is_refused(alloc, b"centres 3 j", 1, Cause::Word));
+    assert!(rt; is_refused(alloc, b"centres 3", 1, Cause::Count));
+    assert!(rt; is_refused(alloc, b"centres 3 k 2 1", 1, Cause::Count));
+    assert!(rt; is_refused(alloc, b"centers 3 k 2", 1, Cause::Word));
+    Ok(())
+}
+
+#[test]
+fn words_are_told_from_left_to_right(rt: HostRuntime) -> Result<(), Fail> {
+    let alloc = rt.alloc();
+    assert!(rt; is_refused_of_three(alloc, b"ship 1 1 x", Cause::Range)?);
+    assert!(rt; is_refused_of_three(alloc, b"ship x 1 0", Cause::Number)?);
+    assert!(rt; is_refused_of_three(alloc, b"ship 1 2 0", Cause::Range)?);
+    assert!(rt; is_refused_of_three(alloc, b"ship 1 2 1000001", Cause::Range)?);
+    assert!(rt; is_refused_of_three(alloc, b"c13 inc s.A x", Cause::Range)?);
+    assert!(rt; is_refused_of_three(alloc, b"c01 begin", Cause::Number)?);
+    assert!(rt; is_refused_of_three(alloc, b"c12345678901234567890 begin", Cause::Number)?);
+    assert!(rt; is_refused_of_three(alloc, b"c0 begin", Cause::Range)?);
+    assert!(rt; is_refused_of_three(alloc, b"c12 inc s.a 05", Cause::Number)?);
+    assert!(rt; is_refused_of_three(alloc, b"c12 put s.a K v", Cause::Name)?);
+    assert!(rt; is_refused_of_three(alloc, b"c12 again 1 0", Cause::Range)?);
+    assert!(rt; is_refused_of_three(alloc, b"c12 again 1 4611686018427387905", Cause::Range)?);
+    assert!(rt; is_refused_of_three(alloc, b"link 1 1 drop 0", Cause::Range)?);
+    assert!(rt; is_refused_of_three(alloc, b"link 1 2 drop 1000001", Cause::Range)?);
+    Ok(())
+}
+
+#[test]
+fn a_line_stands_in_its_place(rt: HostRuntime) -> Result<(), Fail> {
+    let alloc = rt.alloc();
+    assert!(rt; is_refused(alloc, b"", 1, Cause::Place));
+    assert!(rt; is_refused(alloc, b"centres 1 k 1", 2, Cause::Place));
+    assert!(rt; is_refused(alloc, b"# a\n\ncentres 1 k 1\n\n", 5, Cause::Place));
+    assert!(rt; is_refused(alloc, b"tell 1 1\n", 1, Cause::Place));
+    assert!(rt; is_refused(alloc, b"tell 1 x\n", 1, Cause::Number));
+    assert!(rt; is_refused(alloc, b"clients 1\n", 1, Cause::Place));
+    assert!(rt; is_refused(alloc, b"centres 1 k 1\nc9 begin\n", 2, Cause::Place));
+    assert!(rt; is_refused(alloc, b"centres 1 k 1\nc9 inc s.a 1\n", 2, Cause::Kind));
+    assert!(rt; is_refused(alloc, b"centres 9 k 1\n", 1, Cause::Range));
+    assert!(rt; is_refused(alloc, b"centres 2 k 3\n", 1, Cause::Range));
+    assert!(rt; is_refused(alloc, b"centres 1 k 1\nclients 1025\n", 2, Cause::Range));
+    assert!(rt;
+        is_refused(
+            alloc,
+            b"centres 1 k 1\nclients 1\nlimit 1\nlimit 2\n",
+            4,
+            Cause::Place
+        )
+    );
+    assert!(rt;
+        is_refused(
+            alloc,
+            b"centres 1 k 1\nclients 1\nup 1\ncache 1\n",
+            4,
+            Cause::Place
+        )
+    );
+    assert!(rt; is_refused_of_three(alloc, b"threads 17", Cause::Range)?);
+    assert!(rt; is_refused_of_three(alloc, b"rounds 1001", Cause::Range)?);
+    assert!(rt; is_refused_of_three(alloc, b"phase", Cause::Place)?);
+    assert!(rt; is_refused_of_three(alloc, b"end", Cause::Place)?);
+    assert!(rt; is_refused_of_three(alloc, b"prune 3", Cause::Place)?);
+    assert!(rt; is_refused_of_three(alloc, b"prune 4", Cause::Range)?);
+    assert!(rt; is_refused_of_three(alloc, b"link 1 2 drop 1", Cause::Place)?);
+    Ok(())
+}
+
+#[test]
+fn one_return_ends_a_line(rt: HostRuntime) -> Result<(), Fail> {
+    let alloc = rt.alloc();
+    assert!(rt; is_refused_of_three(alloc, b"up 1\r\r\n", Cause::Byte)?);
+    assert!(rt; is_refused_of_three(alloc, b"up 1\r \n", Cause::Byte)?);
+    assert!(rt; is_refused_of_three(alloc, b"up 1\x7f\n", Cause::Byte)?);
+    assert!(rt;
+        is_refused(
+            alloc,
+            b"\r\ncentres 1 k 1\r\nclients 1\r\n\r\nup 2\r",
+            5,
+            Cause::Range
+        )
+    );
+    Ok(())
+}
+
+// A header of one centre and one client, and so many lines `#`.
+fn skipped_lines(alloc: Global, count: u32) -> Result<Vec<u8>, Fail> {
+    let mut text = b"centres 1 k 1\nclients 1\n".to_vec(alloc)?;
+    for _ in 0..count {
+        text.extend_from_slice(b"#\n")?;
+    }
+    Ok(text)
+}
+
+#[test]
+fn a_script_has_200_000_lines_of_256_bytes_at_most(rt: HostRuntime) -> Result<(), Fail> {
+    let alloc = rt.alloc();
+    assert!(rt; parse(alloc, &skipped_lines(alloc, 199_998)?).is_ok());
+    let many = skipped_lines(alloc, 199_999)?;
+    assert!(rt; is_refused(alloc, &many, 200_001, Cause::Many));
+    let mut text = b"centres 1 k 1\nclients 1\n#".to_vec(alloc)?;
+    text.extend_from_slice(&[200; 255])?;
+    assert!(rt; parse(alloc, &text).is_ok());
+    text.extend_from_slice(b"\r")?;
+    assert!(rt; is_refused(alloc, &text, 3, Cause::Long));
+    Ok(())
+}
+
+#[test]
+fn blanks_and_comments_are_passed_over(rt: HostRuntime) -> Result<(), Fail> {
+    let text =
+        b"# \xff\n  centres\t3 k 2  \r\n\nclients 12\nrounds 0\n\t#\x00\nthreads 16\nlimit 7\nc12  put m.a\tk w\nship 1 3 5\r";
+    let read = parse(rt.alloc(), text)?;
+    assert_eq!(rt; (read.threads, read.rounds), (16, 0));
+    assert_eq!(rt;
+        (read.script.n, read.script.k, read.script.clients),
+        (3, 2, 12)
+    );
+    assert_eq!(rt; (read.script.cache, read.script.limit), (1_024, 7));
+    let sections = read.script.sections.as_slice();
+    assert_eq!(rt; sections.len(), 2);
+    let put = sections[0].steps.as_slice();
+    assert!(rt;
+        matches!(put, [Step::Client { client: 12, step: ClientStep::Change { object, .. } }] if object.sort == Sort::Map)
+    );
+    let ship = sections[1].steps.as_slice();
+    assert!(rt;
+        matches!(
+            ship,
+            [Step::Operator {
+                step: OperatorStep::ShipOne {
+                    from: 1,
+                    to: 3,
+                    seq: 5
+                }
+            }]
+        )
+    );
+    Ok(())
+}
