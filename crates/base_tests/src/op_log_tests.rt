@@ -10,12 +10,7 @@ use tx_core::Record;
 use vv_core::Stamp;
 
 // The record that adds 1 to a counter, by the transaction of a number of client 1.
-fn record(
-    alloc: Global,
-    number: u64,
-    stamp: Stamp,
-    object: &ObjectId,
-) -> Result<Record, NoMemory>
+fn record(alloc: Global, number: u64, stamp: Stamp, object: &ObjectId) -> Result<Record, NoMemory>
     ensures dot { IfOk result (λ r. r.tx.dot ≡ record { client = 1; number = number }) }
     ensures few { IfOk result (λ r. length r.tx.updates ≤ 256) }
 {

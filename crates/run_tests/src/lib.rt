@@ -14,6 +14,8 @@ mod run_book_values;
 #[cfg(test)]
 mod run_laws_tests;
 #[cfg(test)]
+mod script_reader_tests;
+#[cfg(test)]
 mod script_text_tests;
 #[cfg(test)]
 mod top_call_tests;

@@ -12,8 +12,6 @@ mod reading;
 mod row;
 mod said;
 mod scripts;
-#[cfg(test)]
-mod tests;
 mod words;
 
 pub use fault::{Cause, ScriptFault};

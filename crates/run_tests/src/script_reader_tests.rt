@@ -1,6 +1,7 @@
-use crate::fault::{Cause, ScriptFault};
-use crate::scripts::parse;
+// Which bytes are a script, and of others the line at fault and the cause. The texts, lines and causes follow the rules
+// of the language, and were not taken from the reader.
 use ids_core::Sort;
+use script_reader::{Cause, ScriptFault, parse};
 use script_text::{ClientStep, OperatorStep, Step};
 use std::alloc::Global;
 use std::test::Fail;
