@@ -30,7 +30,7 @@ random() {
             if (kind == 3) print c " put m.n" name " k" lines % 50 " w" lines % 7
             print c " commit"
             fault = int(rand() * 40)
-            print c (fault == 0 ? " lose ask" : fault == 1 ? " lose reply" : fault == 2 ? " twice" : " flush")
+            print c (fault == 0 ? " lose ask" : fault == 1 ? " lose reply" : fault == 2 ? " twice" : reads ? " read c.n" name : " flush")
             print c " flush"
             if (!reads || rand() < 0.1) print c " connect " int(rand() * 3) + 1
             else print c " refresh"
