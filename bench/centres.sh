@@ -36,7 +36,8 @@ random() {
             else print c " refresh"
             print reads ? c " read s.n" name : "tell " int(rand() * 2) + 1 " 3"
             from = int(rand() * 3) + 1
-            print "ship " from " " (from + int(rand() * 2)) % 3 + 1
+            to = (from + int(rand() * 2)) % 3 + 1
+            print (rand() < 0.6 ? "ship " : "tell ") from " " to
         }
         print "settle\nc1 refresh\nc1 read r.end"
     }'
