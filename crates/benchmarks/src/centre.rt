@@ -54,8 +54,8 @@ fn after_deliveries(alloc: Global, count: u32) -> Result<i128, Fault> {
     Ok(fetched(alloc, &mut centre, &object, u64::from(count))?)
 }
 
-// The transaction of client 1, of this number and rank, that adds 1 to a counter.
-fn add_one(alloc: Global, number: u64, object: &ObjectId) -> Result<Tx, NoMemory>
+/// The transaction of client 1, of this number and rank, that adds 1 to a counter.
+pub fn add_one(alloc: Global, number: u64, object: &ObjectId) -> Result<Tx, NoMemory>
     ensures { IfOk result (λ tx. tx ≡ record { dot = record { client = 1; number = number }; rank = number; snap = zeros 2; updates = record { object = object.now; op = Inc (pos 1) } ∷ [] }) }
 {
     let mut updates = Updates::new(alloc);

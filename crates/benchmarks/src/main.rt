@@ -1,10 +1,11 @@
-//! What the benchmarks time, by the first word: `sets`, `session` or `centre`. Each of these modules
+//! What the benchmarks time, by the first word: `sets`, `session`, `centre` or `log`. Each of these modules
 //! says which words follow. A number is printed, by which a script knows that the work was done.
 #![tactic(auto)]
 
 mod centre;
 mod counter;
 mod fault;
+mod log;
 mod session;
 mod sets;
 
@@ -25,6 +26,7 @@ fn worked(alloc: Global, words: &[String]) -> Option<Result<i128, Fault>> {
             "session" => {
                 session::worked(alloc, form.as_str(), pending.as_str(), rounds.as_str())
             }
+            "log" => log::worked(alloc, form.as_str(), pending.as_str(), rounds.as_str()),
             _ => None,
         },
         _ => None,

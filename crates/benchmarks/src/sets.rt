@@ -56,8 +56,8 @@ fn letter(number: u32) -> u8 {
     b'a' + (number % 26) as u8
 }
 
-// A word of four letters, another one for each number below `WORDS`, in no order.
-fn word_of(number: u32) -> Result<Name, BadName> {
+/// A word of four letters, another one for each number below `WORDS`, in no order.
+pub fn word_of(number: u32) -> Result<Name, BadName> {
     let mixed = (u64::from(number) * 7_919 % u64::from(WORDS)) as u32;
     Name::read(&[
         letter(mixed),

@@ -1,0 +1,144 @@
+// A centre's log of transactions that are not folded yet. `append OBJECTS COUNT` puts so many of one client in, each with
+// an operation on one of so many counters; `alias` then gives each a second stamp, `chain` looks for the operations of a
+// counter as often, `mine` as often for the client's last number a little behind the newest, and `take_within` takes half
+// of them out. The number is how many were found, or the last number.
+ghost use Rattle.std.specs.Prelude.{◌≡◌, ◌≢◌, ◌+◌, OnOk, length};
+ghost use Rattle.benchmarks.specs.Logs.{IsBelow};
+
+use crate::centre::add_one;
+use crate::fault::Fault;
+use crate::sets::word_of;
+use ids_core::{Dot, NoMemory, ObjectId, Sort};
+use op_log::Log;
+use std::alloc::Global;
+use tx_core::Record;
+use vv_core::{Stamp, Vector};
+
+/// What is found, for the form, the number of counters and the count; nothing where they are of no form.
+pub fn worked(
+    alloc: Global,
+    form: &str,
+    objects: &str,
+    count: &str,
+) -> Option<Result<i128, Fault>> {
+    let Ok(objects) = objects.parse::<u32>() else {
+        return None;
+    };
+    let Ok(count) = count.parse::<u32>() else {
+        return None;
+    };
+    if objects == 0 {
+        return None;
+    }
+    match form {
+        "append" => Some(appended(alloc, objects, count)),
+        "alias" => Some(aliased(alloc, objects, count)),
+        "chain" => Some(chained(alloc, objects, count)),
+        "mine" => Some(asked(alloc, objects, count)),
+        "take_within" => Some(taken(alloc, objects, count)),
+        _ => None,
+    }
+}
+
+// The counter of a number, another one for each below 456,976.
+fn counter_of(number: u32) -> Result<ObjectId, Fault> {
+    Ok(ObjectId {
+        sort: Sort::Counter,
+        name: word_of(number)?,
+    })
+}
+
+// The vector with so many records of centre 1.
+fn at(seq: u64) -> Vector
+    ensures { length result ≡ 2 }
+{
+    Vector::zero(2).raise(&Stamp { centre: 1, seq })
+}
+
+// Puts the transaction of a number in, which is above all others.
+#[tactic(auto, using(crate::proofs::Logs::fresh, crate::proofs::Logs::below_more))]
+fn append_one(alloc: Global, log: &mut Log, number: u64, object: &ObjectId) -> Result<(), NoMemory>
+    requires { IsBelow number log.old.items }
+    ensures { OnOk result (IsBelow (number + 1) log.new.items) }
+{
+    let stamp = Stamp {
+        centre: 1,
+        seq: number,
+    };
+    let deps = Vector::zero(2);
+    let tx = add_one(alloc, number, object)?;
+    log.append(&Record { stamp, deps, tx })?;
+    Ok(())
+}
+
+// A log of so many transactions.
+fn log_of(alloc: Global, objects: u32, count: u32) -> Result<Log, Fault>
+    requires { objects ≢ 0 }
+{
+    let mut log = Log::new(alloc)?;
+    for number in 0..count {
+        let object = counter_of(number % objects)?;
+        append_one(alloc, &mut log, u64::from(number), &object)?;
+    }
+    Ok(log)
+}
+
+// How many operations on one counter a log of so many transactions has.
+fn appended(alloc: Global, objects: u32, count: u32) -> Result<i128, Fault>
+    requires { objects ≢ 0 }
+{
+    let log = log_of(alloc, objects, count)?;
+    Ok(log.chain(&counter_of(0)?).len() as i128)
+}
+
+// How many transactions of such a log were given a second stamp.
+fn aliased(alloc: Global, objects: u32, count: u32) -> Result<i128, Fault>
+    requires { objects ≢ 0 }
+{
+    let mut log = log_of(alloc, objects, count)?;
+    let mut found: u64 = 0;
+    for number in 0..u64::from(count) {
+        let dot = Dot { client: 1, number };
+        let stamp = Stamp {
+            centre: 2,
+            seq: number,
+        };
+        if log.alias(&dot, &stamp)? {
+            found = found.saturating_add(1);
+        }
+    }
+    Ok(i128::from(found))
+}
+
+// The most operations on one counter of such a log, looked for as often as it has transactions.
+fn chained(alloc: Global, objects: u32, count: u32) -> Result<i128, Fault>
+    requires { objects ≢ 0 }
+{
+    let log = log_of(alloc, objects, count)?;
+    let mut most = 0;
+    for number in 0..count {
+        most = log.chain(&counter_of(number % objects)?).len().max(most);
+    }
+    Ok(most as i128)
+}
+
+// The client's last number ten transactions before the newest, looked for as often as the log has transactions.
+fn asked(alloc: Global, objects: u32, count: u32) -> Result<i128, Fault>
+    requires { objects ≢ 0 }
+{
+    let log = log_of(alloc, objects, count)?;
+    let here = at(u64::from(count).saturating_sub(10));
+    let mut last = 0;
+    for _ in 0..count {
+        last = log.mine(1, &here);
+    }
+    Ok(i128::from(last))
+}
+
+// How many transactions the first half of such a log has.
+fn taken(alloc: Global, objects: u32, count: u32) -> Result<i128, Fault>
+    requires { objects ≢ 0 }
+{
+    let mut log = log_of(alloc, objects, count)?;
+    Ok(i128::from(log.take_within(&at(u64::from(count / 2)))))
+}
