@@ -1,7 +1,7 @@
 // A centre's log of transactions that are not folded yet. `append OBJECTS COUNT` puts so many of one client in, each with
-// an operation on one of so many counters; `alias` then gives each a second stamp, `chain` looks for the operations of a
-// counter as often, `mine` as often for the client's last number a little behind the newest, and `take_within` takes half
-// of them out. The number is how many were found, or the last number.
+// an operation on one of so many counters; `alias` then gives each twenty more stamps, `chain` looks for the operations
+// of a counter twenty times as often, `mine` as often for the client's last number a little behind the newest, and
+// `take_within` takes half of them out. The number is how many were found, or the last number.
 ghost use Rattle.std.specs.Prelude.{◌≡◌, ◌≢◌, ◌+◌, OnOk, length};
 ghost use Rattle.benchmarks.specs.Logs.{IsBelow};
 
@@ -13,6 +13,9 @@ use op_log::Log;
 use std::alloc::Global;
 use tx_core::Record;
 use vv_core::{Stamp, Vector};
+
+// How often each call of a log is made for each of its transactions.
+const ROUNDS: u64 = 20;
 
 /// What is found, for the form, the number of counters and the count; nothing where they are of no form.
 pub fn worked(
@@ -27,7 +30,7 @@ pub fn worked(
     let Ok(count) = count.parse::<u32>() else {
         return None;
     };
-    if objects == 0 {
+    if objects == 0 || count == 0 {
         return None;
     }
     match form {
@@ -91,45 +94,50 @@ fn appended(alloc: Global, objects: u32, count: u32) -> Result<i128, Fault>
     Ok(log.chain(&counter_of(0)?).len() as i128)
 }
 
-// How many transactions of such a log were given a second stamp.
+// How often a transaction of such a log was given one more stamp.
 fn aliased(alloc: Global, objects: u32, count: u32) -> Result<i128, Fault>
-    requires { objects ≢ 0 }
+    requires objects { objects ≢ 0 }
+    requires count { count ≢ 0 }
 {
     let mut log = log_of(alloc, objects, count)?;
     let mut found: u64 = 0;
-    for number in 0..u64::from(count) {
+    for turn in 0..u64::from(count) * ROUNDS {
+        let number = turn % u64::from(count);
         let dot = Dot { client: 1, number };
-        let stamp = Stamp {
-            centre: 2,
-            seq: number,
-        };
-        if log.alias(&dot, &stamp)? {
+        if log.alias(
+            &dot,
+            &Stamp {
+                centre: 2,
+                seq: turn,
+            },
+        )? {
             found = found.saturating_add(1);
         }
     }
     Ok(i128::from(found))
 }
 
-// The most operations on one counter of such a log, looked for as often as it has transactions.
+// The most operations on one counter of such a log.
 fn chained(alloc: Global, objects: u32, count: u32) -> Result<i128, Fault>
-    requires { objects ≢ 0 }
+    requires objects { objects ≢ 0 }
 {
     let log = log_of(alloc, objects, count)?;
     let mut most = 0;
-    for number in 0..count {
-        most = log.chain(&counter_of(number % objects)?).len().max(most);
+    for turn in 0..u64::from(count) * ROUNDS {
+        let object = counter_of((turn % u64::from(objects)) as u32)?;
+        most = log.chain(&object).len().max(most);
     }
     Ok(most as i128)
 }
 
-// The client's last number ten transactions before the newest, looked for as often as the log has transactions.
+// The client's last number ten transactions before the newest of such a log.
 fn asked(alloc: Global, objects: u32, count: u32) -> Result<i128, Fault>
-    requires { objects ≢ 0 }
+    requires objects { objects ≢ 0 }
 {
     let log = log_of(alloc, objects, count)?;
     let here = at(u64::from(count).saturating_sub(10));
     let mut last = 0;
-    for _ in 0..count {
+    for _ in 0..u64::from(count) * ROUNDS {
         last = log.mine(1, &here);
     }
     Ok(i128::from(last))
