@@ -18,4 +18,6 @@ mod same;
 #[cfg(test)]
 mod scripts;
 #[cfg(test)]
+mod spent;
+#[cfg(test)]
 mod spoilt;
