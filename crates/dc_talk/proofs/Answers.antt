@@ -11,15 +11,16 @@ use Rattle.vv_core.specs.Vectors.{Covers, lack_of}
 use Rattle.vv_core.proofs.Covering.{lack_of-none, lack_of_covered, covers-true, covers_from}
 use Rattle.tx_core.specs.declared.tx.Tx.{Tx}
 use Rattle.tx_core.specs.declared.tx.Record.{Record}
+use Rattle.tx_core.specs.declared.state.State.{State}
 use Rattle.dc_talk.specs.declared.ask.Ask.{Ask}
-use Rattle.dc_talk.specs.declared.ask.Ask.TheVariants.{Hello, Refresh, Fetch, Commit, Send, Deliver, Report, Learn, Stop, Start}
+use Rattle.dc_talk.specs.declared.ask.Ask.TheVariants.{Hello, Refresh, Fetch, Commit, Send, Deliver, Report, Learn, Prune, Stop, Start}
 use Rattle.dc_talk.specs.declared.say.Say.{Say}
-use Rattle.dc_talk.specs.declared.say.Say.TheVariants.{Misfit, Down, Lacks, Welcome, Snap, Object, Known, OutOfOrder, Full, Stamped, Records, Old, Gap, Waits, Orphan, Applied, Vector, Learned, Stopped, Started}
+use Rattle.dc_talk.specs.declared.say.Say.TheVariants.{Misfit, Down, Lacks, Welcome, Snap, Pruned, Object, Known, OutOfOrder, Full, Stamped, Trimmed, Records, Old, Gap, Waits, Orphan, Applied, Vector, Learned, Base, Stopped, Started}
 use Rattle.dc_talk.specs.declared.settings.Settings.{Settings}
 use Rattle.dc_talk.specs.Entries.{Entry}
 use Rattle.dc_talk.specs.Records.{count, vector, guard}
-use Rattle.dc_talk.specs.Trails.{applied, stopped}
-use Rattle.dc_talk.specs.Answers.{fits, lacking, commit_answer, deliver_answer, is_switch, row, answer}
+use Rattle.dc_talk.specs.Trails.{applied, horizon, stopped}
+use Rattle.dc_talk.specs.Answers.{fits, lacking, fetch_answer, commit_answer, send_answer, deliver_answer, is_switch, row, answer}
 
 -- ---- refusals for what is lacking
 
@@ -46,34 +47,43 @@ lack_fails P refuse have need le say is = absurd (none-some say (sym (ap (option
 -- ---- the answers of a running centre
 
 -- the refusals of a commit, in the order in which they are tried
-abbrev pub commit_choices : Settings → List Record → Tx → List (Option Say)
-commit_choices s A tx =
-    when (nat_le tx.dot.number (guard tx.dot.client A)) (Known (guard tx.dot.client A))
-    ∷ when (nat_le (guard tx.dot.client A + 2) tx.dot.number) (OutOfOrder (guard tx.dot.client A))
-    ∷ lacking Lacks (vector s.n A) tx.snap
-    ∷ when (nat_le s.limit (count s.me A)) (Full s.limit)
+abbrev pub commit_choices : Settings → List ℕ → ℕ → ℕ → Tx → List (Option Say)
+commit_choices s have through stamped tx =
+    when (nat_le tx.dot.number through) (Known through)
+    ∷ when (nat_le (through + 2) tx.dot.number) (OutOfOrder through)
+    ∷ lacking Lacks have tx.snap
+    ∷ when (nat_le s.limit stamped) (Full s.limit)
     ∷ []
 
 -- what holds of each of them, and of a stamp, holds of the answer to a commit
-pub commit_holds : (P : Say → Type 0) (s : Settings) (A : List Record) (tx : Tx) → EachChoice P (commit_choices s A tx) (Stamped (record { centre = s.me; seq = count s.me A + 1 })) → P (commit_answer s A tx)
-commit_holds P s A tx each = first_of_holds P (commit_choices s A tx) (Stamped (record { centre = s.me; seq = count s.me A + 1 })) each
+pub commit_holds : (P : Say → Type 0) (s : Settings) (have : List ℕ) (through stamped : ℕ) (tx : Tx) → EachChoice P (commit_choices s have through stamped tx) (Stamped (record { centre = s.me; seq = stamped + 1 })) → P (commit_answer s have through stamped tx)
+commit_holds P s have through stamped tx each = first_of_holds P (commit_choices s have through stamped tx) (Stamped (record { centre = s.me; seq = stamped + 1 })) each
 
 -- the refusals of a delivery, in the order in which they are tried
-abbrev pub deliver_choices : Settings → List Record → Record → List (Option Say)
-deliver_choices s A item =
-    when (nat_le item.stamp.seq (count item.stamp.centre A)) (Old (count item.stamp.centre A))
-    ∷ when (nat_le (count item.stamp.centre A + 2) item.stamp.seq || (item.stamp.centre == s.me)) (Gap (count item.stamp.centre A))
-    ∷ lacking Waits (vector s.n A) item.deps
-    ∷ when (nat_le (guard item.tx.dot.client A + 2) item.tx.dot.number) (Orphan item.tx.dot.number (guard item.tx.dot.client A))
+abbrev pub deliver_choices : Settings → List ℕ → ℕ → ℕ → Record → List (Option Say)
+deliver_choices s have counted through item =
+    when (nat_le item.stamp.seq counted) (Old counted)
+    ∷ when (nat_le (counted + 2) item.stamp.seq || (item.stamp.centre == s.me)) (Gap counted)
+    ∷ lacking Waits have item.deps
+    ∷ when (nat_le (through + 2) item.tx.dot.number) (Orphan item.tx.dot.number through)
     ∷ []
 
 -- what holds of each of them, and of a record that is applied, holds of the answer to a delivery
-pub deliver_holds : (P : Say → Type 0) (s : Settings) (A : List Record) (item : Record) → EachChoice P (deliver_choices s A item) (Applied (item.tx.dot.number == guard item.tx.dot.client A + 1)) → P (deliver_answer s A item)
-deliver_holds P s A item each = first_of_holds P (deliver_choices s A item) (Applied (item.tx.dot.number == guard item.tx.dot.client A + 1)) each
+pub deliver_holds : (P : Say → Type 0) (s : Settings) (have : List ℕ) (counted through : ℕ) (item : Record) → EachChoice P (deliver_choices s have counted through item) (Applied (item.tx.dot.number == through + 1)) → P (deliver_answer s have counted through item)
+deliver_holds P s have counted through item each = first_of_holds P (deliver_choices s have counted through item) (Applied (item.tx.dot.number == through + 1)) each
 
 -- what holds of a refusal for what is lacking, and of the last resort where nothing is, holds of the first of the two
 pub unless_lacking : (P : Say → Type 0) (have need : List ℕ) (last : Say) → ((centre n h : ℕ) → P (Lacks centre n h)) → (Covers have need → P last) → P (first_of (lacking Lacks have need ∷ []) last)
 unless_lacking P have need last lacks covered = first_of_holds P (lacking Lacks have need ∷ []) last (lack_holds P Lacks lacks have need, λ none. covered (lack_none Lacks have need none))
+
+-- what holds of each refusal of a fetch, and of a state where nothing is lacking or pruned, holds of the answer
+pub fetch_holds : (P : Say → Type 0) (have base : List ℕ) (state : State) (here : List ℕ) → ((centre n h : ℕ) → P (Lacks centre n h)) → ((centre n h : ℕ) → P (Pruned centre n h)) → (Covers have here → Covers here base → P (Object state)) → P (fetch_answer have base state here)
+fetch_holds P have base state here lacks pruned covered = first_of_holds P (lacking Lacks have here ∷ lacking Pruned here base ∷ []) (Object state)
+    (lack_holds P Lacks lacks have here, λ none. (lack_holds P Pruned pruned here base, λ kept. covered (lack_none Lacks have here none) (lack_none Pruned here base kept)))
+
+-- what holds of a refusal of a send, and of the records that are asked for where they were not let go, holds of the answer
+pub send_holds : (P : Say → Type 0) (trimmed : ℕ) (asked : List Record) (after : ℕ) → P (Trimmed trimmed) → P (Records asked) → P (send_answer trimmed asked after)
+send_holds P trimmed asked after refused given = first_of_holds P (when (nat_le (after + 1) trimmed) (Trimmed trimmed) ∷ []) (Records asked) (when_holds _ _ _ (λ t. refused), λ z. given)
 
 -- the answers that a running centre may give to an ask that fits
 abbrev pub may_answer : Ask → Say → Bool
@@ -82,12 +92,14 @@ may_answer (Hello client need) (Welcome through) = true
 may_answer (Refresh client here) (Lacks centre n h) = true
 may_answer (Refresh client here) (Snap vector mine top) = true
 may_answer (Fetch object here) (Lacks centre n h) = true
+may_answer (Fetch object here) (Pruned centre base low) = true
 may_answer (Fetch object here) (Object state) = true
 may_answer (Commit tx) (Known through) = true
 may_answer (Commit tx) (OutOfOrder have) = true
 may_answer (Commit tx) (Lacks centre n h) = true
 may_answer (Commit tx) (Full limit) = true
 may_answer (Commit tx) (Stamped stamp) = true
+may_answer (Send after most) (Trimmed from) = true
 may_answer (Send after most) (Records list) = true
 may_answer (Deliver item) (Old have) = true
 may_answer (Deliver item) (Gap have) = true
@@ -96,6 +108,7 @@ may_answer (Deliver item) (Orphan number have) = true
 may_answer (Deliver item) (Applied fresh) = true
 may_answer Report (Vector vector) = true
 may_answer (Learn from news) (Learned fresh) = true
+may_answer Prune (Base vector folded trimmed) = true
 may_answer Stop Stopped = true
 may_answer Start Started = true
 may_answer _ _ = false
@@ -104,14 +117,15 @@ may_answer _ _ = false
 pub row_answers : (s : Settings) (trail : List Entry) (ask : Ask) → may_answer ask (row s trail ask) ≡ true
 row_answers s trail (Hello client need) = unless_lacking (λ say. may_answer (Hello client need) say ≡ true) (vector s.n (applied s.n trail)) need _ (λ c m h. refl) (λ covered. refl)
 row_answers s trail (Refresh client here) = unless_lacking (λ say. may_answer (Refresh client here) say ≡ true) (vector s.n (applied s.n trail)) here _ (λ c m h. refl) (λ covered. refl)
-row_answers s trail (Fetch object here) = unless_lacking (λ say. may_answer (Fetch object here) say ≡ true) (vector s.n (applied s.n trail)) here _ (λ c m h. refl) (λ covered. refl)
-row_answers s trail (Commit tx) = commit_holds (λ say. may_answer (Commit tx) say ≡ true) s (applied s.n trail) tx
+row_answers s trail (Fetch object here) = fetch_holds (λ say. may_answer (Fetch object here) say ≡ true) (vector s.n (applied s.n trail)) (horizon s trail).base _ here (λ c m h. refl) (λ c m h. refl) (λ covered kept. refl)
+row_answers s trail (Commit tx) = commit_holds (λ say. may_answer (Commit tx) say ≡ true) s (vector s.n (applied s.n trail)) (guard tx.dot.client (applied s.n trail)) (count s.me (applied s.n trail)) tx
     (when_holds _ _ _ (λ t. refl), λ z. (when_holds _ _ _ (λ t. refl), λ z. (lack_holds _ Lacks (λ c m h. refl) (vector s.n (applied s.n trail)) tx.snap, λ z. (when_holds _ _ _ (λ t. refl), λ z. refl))))
-row_answers s trail (Send after most) = refl
-row_answers s trail (Deliver item) = deliver_holds (λ say. may_answer (Deliver item) say ≡ true) s (applied s.n trail) item
+row_answers s trail (Send after most) = send_holds (λ say. may_answer (Send after most) say ≡ true) (horizon s trail).trimmed _ after refl refl
+row_answers s trail (Deliver item) = deliver_holds (λ say. may_answer (Deliver item) say ≡ true) s (vector s.n (applied s.n trail)) (count item.stamp.centre (applied s.n trail)) (guard item.tx.dot.client (applied s.n trail)) item
     (when_holds _ _ _ (λ t. refl), λ z. (when_holds _ _ _ (λ t. refl), λ z. (lack_holds _ Waits (λ c m h. refl) (vector s.n (applied s.n trail)) item.deps, λ z. (when_holds _ _ _ (λ t. refl), λ z. refl))))
 row_answers s trail Report = refl
 row_answers s trail (Learn from news) = refl
+row_answers s trail Prune = refl
 row_answers s trail Stop = refl
 row_answers s trail Start = refl
 

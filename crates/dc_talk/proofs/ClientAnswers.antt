@@ -17,9 +17,9 @@ use Rattle.dc_talk.specs.declared.settings.Settings.{Settings}
 use Rattle.dc_talk.specs.Entries.{Entry}
 use Rattle.dc_talk.specs.Records.{count, vector, guard, top, inside, mine}
 use Rattle.dc_talk.specs.Objects.{state_at}
-use Rattle.dc_talk.specs.Trails.{applied, stable}
+use Rattle.dc_talk.specs.Trails.{applied, stable, horizon}
 use Rattle.dc_talk.specs.Answers.{fits, snap_at, commit_answer, answer}
-use Rattle.dc_talk.proofs.Answers.{lack_holds, lack_none, unless_lacking, commit_holds, may_answer, fitting, answers_it}
+use Rattle.dc_talk.proofs.Answers.{lack_holds, lack_none, unless_lacking, fetch_holds, commit_holds, may_answer, fitting, answers_it}
 
 -- ---- a commit
 
@@ -36,8 +36,8 @@ same_stamp : (s t : Stamp) → Stamped s ≡ Stamped t → s ≡ t
 same_stamp s t same = cc
 
 -- a stamp comes where no refusal does
-stamped_row : (s : Settings) (A : List Record) (tx : Tx) (stamp : Stamp) → fits s.n (Commit tx) ≡ true → Stamped stamp ≡ commit_answer s A tx → StampedBy s A tx stamp
-stamped_row s A tx stamp fit = commit_holds (λ say. Stamped stamp ≡ say → StampedBy s A tx stamp) s A tx (
+stamped_row : (s : Settings) (A : List Record) (tx : Tx) (stamp : Stamp) → fits s.n (Commit tx) ≡ true → Stamped stamp ≡ commit_answer s (vector s.n A) (guard tx.dot.client A) (count s.me A) tx → StampedBy s A tx stamp
+stamped_row s A tx stamp fit = commit_holds (λ say. Stamped stamp ≡ say → StampedBy s A tx stamp) s (vector s.n A) (guard tx.dot.client A) (count s.me A) tx (
   when_holds _ _ _ (λ t e. absurd (cc)),
   λ known. (
     when_holds _ _ _ (λ t e. absurd (cc)),
@@ -76,8 +76,8 @@ same_known : (m o : ℕ) → Known m ≡ Known o → m ≡ o
 same_known m o same = cc
 
 -- a commit is known where its number is no greater than one that is there
-known_row : (s : Settings) (A : List Record) (tx : Tx) (through : ℕ) → Known through ≡ commit_answer s A tx → KnownBy s.n A tx through
-known_row s A tx through = commit_holds (λ say. Known through ≡ say → KnownBy s.n A tx through) s A tx (
+known_row : (s : Settings) (A : List Record) (tx : Tx) (through : ℕ) → Known through ≡ commit_answer s (vector s.n A) (guard tx.dot.client A) (count s.me A) tx → KnownBy s.n A tx through
+known_row s A tx through = commit_holds (λ say. Known through ≡ say → KnownBy s.n A tx through) s (vector s.n A) (guard tx.dot.client A) (count s.me A) tx (
   when_holds _ _ _ (λ t e.
       let same = same_known through (guard tx.dot.client A) e in
       record { is = same; low = omega (arith, same, leb-true tx.dot.number (guard tx.dot.client A) t) }),
@@ -158,9 +158,10 @@ pub object_by : (s : Settings) (trail : List Entry) (o : ObjectId) (here : List 
 object_by s trail o here state is =
     let A = applied s.n trail in
     let fit = fitting s trail (Fetch o here) (Object state) is (λ e. cc) (λ e. cc) in
-    unless_lacking (λ say. Object state ≡ say → ObjectBy s.n A o here state) (vector s.n A) here (Object (state_at o A here))
+    fetch_holds (λ say. Object state ≡ say → ObjectBy s.n A o here state) (vector s.n A) (horizon s trail).base (state_at o A here) here
     (λ c m h e. absurd (cc))
-    (λ covered e. record { width = eqb-true (length here) s.n fit.0; covered = covered; is = same_state state (state_at o A here) e })
+    (λ c m h e. absurd (cc))
+    (λ covered kept e. record { width = eqb-true (length here) s.n fit.0; covered = covered; is = same_state state (state_at o A here) e })
     fit.1
 
 -- ---- a hello

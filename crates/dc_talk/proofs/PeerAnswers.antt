@@ -16,9 +16,9 @@ use Rattle.dc_talk.specs.declared.say.Say.TheVariants.{Records, Waits, Orphan, A
 use Rattle.dc_talk.specs.declared.settings.Settings.{Settings}
 use Rattle.dc_talk.specs.Entries.{Entry}
 use Rattle.dc_talk.specs.Records.{count, vector, guard, own}
-use Rattle.dc_talk.specs.Trails.{applied}
-use Rattle.dc_talk.specs.Answers.{fits, are_modest, is_fit_item, deliver_answer, answer}
-use Rattle.dc_talk.proofs.Answers.{lack_holds, lack_none, deliver_holds, may_answer, fitting, answers_it}
+use Rattle.dc_talk.specs.Trails.{applied, horizon}
+use Rattle.dc_talk.specs.Answers.{fits, are_modest, is_fit_item, own_after, deliver_answer, answer}
+use Rattle.dc_talk.proofs.Answers.{lack_holds, lack_none, send_holds, deliver_holds, may_answer, fitting, answers_it}
 
 -- ---- a send
 
@@ -39,7 +39,10 @@ same_list x y same = cc
 
 -- the records of a send are own records of the centre
 pub records_by : (s : Settings) (trail : List Entry) (after most : ℕ) (list : List Record) → Records list ≡ answer s trail (Send after most) → list ≡ take most (drop after (own s.me (applied s.n trail)))
-records_by s trail after most list is = same_list list (take most (drop after (own s.me (applied s.n trail)))) (fitting s trail (Send after most) (Records list) is (λ e. cc) (λ e. cc)).1
+records_by s trail after most list is = send_holds (λ say. Records list ≡ say → list ≡ own_after s.me (applied s.n trail) after most) (horizon s trail).trimmed (own_after s.me (applied s.n trail) after most) after
+    (λ e. absurd (cc))
+    (λ e. same_list list (own_after s.me (applied s.n trail) after most) e)
+    (fitting s trail (Send after most) (Records list) is (λ e. cc) (λ e. cc)).1
 
 -- so each record that is sent is an own record of the centre
 pub sent_by : (s : Settings) (trail : List Entry) (ask : Ask) (list : List Record) (r : Record) → Records list ≡ answer s trail ask → In r list → In r (own s.me (applied s.n trail))
@@ -136,7 +139,7 @@ pub record OrphanBy (n : ℕ) (A : List Record) (item : Record) : Type 0 where
 
 -- an orphan, by the answer
 pub orphan_by : (s : Settings) (trail : List Entry) (item : Record) (number have : ℕ) → Orphan number have ≡ answer s trail (Deliver item) → OrphanBy s.n (applied s.n trail) item
-orphan_by s trail item number have is = deliver_holds (λ say. Orphan number have ≡ say → OrphanBy s.n (applied s.n trail) item) s (applied s.n trail) item (
+orphan_by s trail item number have is = deliver_holds (λ say. Orphan number have ≡ say → OrphanBy s.n (applied s.n trail) item) s (vector s.n (applied s.n trail)) (count item.stamp.centre (applied s.n trail)) (guard item.tx.dot.client (applied s.n trail)) item (
   when_holds _ _ _ (λ t e. absurd (cc)),
   λ old. (
     when_holds _ _ _ (λ t e. absurd (cc)),
@@ -167,8 +170,8 @@ same_fresh : (a b : Bool) → Applied a ≡ Applied b → a ≡ b
 same_fresh a b same = cc
 
 -- a record is applied where no refusal comes
-applied_row : (s : Settings) (A : List Record) (item : Record) (fresh : Bool) → fits s.n (Deliver item) ≡ true → Applied fresh ≡ deliver_answer s A item → AppliedBy s A item fresh
-applied_row s A item fresh fit = deliver_holds (λ say. Applied fresh ≡ say → AppliedBy s A item fresh) s A item (
+applied_row : (s : Settings) (A : List Record) (item : Record) (fresh : Bool) → fits s.n (Deliver item) ≡ true → Applied fresh ≡ deliver_answer s (vector s.n A) (count item.stamp.centre A) (guard item.tx.dot.client A) item → AppliedBy s A item fresh
+applied_row s A item fresh fit = deliver_holds (λ say. Applied fresh ≡ say → AppliedBy s A item fresh) s (vector s.n A) (count item.stamp.centre A) (guard item.tx.dot.client A) item (
   when_holds _ _ _ (λ t e. absurd (cc)),
   λ old. (
     when_holds _ _ _ (λ t e. absurd (cc)),

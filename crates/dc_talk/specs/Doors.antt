@@ -2,9 +2,9 @@
 use Rattle.std.specs.Prelude.{◌≡◌, ◌≢◌, ◌≤◌, ◌<◌, ◌^◌, ℕ, Bool, true, false, length, List, [], ◌∷◌, ◌++◌}
 use Rattle.list_core.specs.Members.{In}
 use Rattle.dc_talk.specs.declared.ask.Ask.{Ask}
-use Rattle.dc_talk.specs.declared.ask.Ask.TheVariants.{Hello, Refresh, Fetch, Commit, Send, Deliver, Report, Learn, Stop, Start}
+use Rattle.dc_talk.specs.declared.ask.Ask.TheVariants.{Hello, Refresh, Fetch, Commit, Send, Deliver, Report, Learn, Prune, Stop, Start}
 use Rattle.dc_talk.specs.declared.say.Say.{Say}
-use Rattle.dc_talk.specs.declared.say.Say.TheVariants.{Misfit, Down, Lacks, Welcome, Snap, Pruned, Object, Known, OutOfOrder, Full, Stamped, Trimmed, Records, Old, Gap, Waits, Orphan, Applied, Vector, Learned, Stopped, Started}
+use Rattle.dc_talk.specs.declared.say.Say.TheVariants.{Misfit, Down, Lacks, Welcome, Snap, Pruned, Object, Known, OutOfOrder, Full, Stamped, Trimmed, Records, Old, Gap, Waits, Orphan, Applied, Vector, Learned, Base, Stopped, Started}
 use Rattle.dc_talk.specs.declared.log.Deed.{Deed}
 use Rattle.dc_talk.specs.Entries.{Entry}
 use Rattle.dc_talk.specs.Logs.{entries_made}
@@ -49,6 +49,7 @@ belongs (Deliver item) (Orphan number have) = true
 belongs (Deliver item) (Applied fresh) = true
 belongs Report (Vector vector) = true
 belongs (Learn from news) (Learned fresh) = true
+belongs Prune (Base vector folded trimmed) = true
 belongs Stop Stopped = true
 belongs Start Started = true
 belongs ask say = false

@@ -1,13 +1,13 @@
--- What a centre has after a trail: the list of the records that it applied, and what the other
--- centres told it.
+-- What a centre has after a trail: the list of the records that it applied, what the other centres told it, and how far
+-- it has pruned.
 use Rattle.std.specs.Prelude.{ℕ, Bool, true, false, cond, ◌==◌, List, [], ◌∷◌, ◌++◌, map, fold, Option, Some, None}
 use Rattle.std.specs.Option.{unwrap_or}
-use Rattle.vv_core.specs.Vectors.{zeros, centres, join_of, meet_of, kth_largest}
+use Rattle.vv_core.specs.Vectors.{at, zeros, centres, tabulate, column, least, join_of, meet_of, kth_largest}
 use Rattle.tx_core.specs.declared.tx.Record.{Record}
 use Rattle.dc_talk.specs.declared.ask.Ask.{Ask}
-use Rattle.dc_talk.specs.declared.ask.Ask.TheVariants.{Commit, Deliver, Learn, Stop, Start}
+use Rattle.dc_talk.specs.declared.ask.Ask.TheVariants.{Commit, Deliver, Learn, Prune, Stop, Start}
 use Rattle.dc_talk.specs.declared.say.Say.{Say}
-use Rattle.dc_talk.specs.declared.say.Say.TheVariants.{Stamped, Applied, Learned, Stopped, Started}
+use Rattle.dc_talk.specs.declared.say.Say.TheVariants.{Stamped, Applied, Learned, Base, Stopped, Started}
 use Rattle.dc_talk.specs.declared.settings.Settings.{Settings}
 use Rattle.dc_talk.specs.Entries.{Entry}
 use Rattle.dc_talk.specs.Records.{vector, deps_of}
@@ -60,3 +60,37 @@ rows s trail = map (λ j. cond (j == s.me) (vector s.n (applied s.n trail)) (tol
 -- the stable vector: what at least k centres are known to have, and this centre has
 abbrev pub stable : Settings → List Entry → List ℕ
 stable s trail = meet_of (kth_largest s.k (rows s trail)) (vector s.n (applied s.n trail))
+
+-- the all-known vector: what every centre is known to have
+abbrev pub all_known : Settings → List Entry → List ℕ
+all_known s trail = tabulate s.n (λ e. least (column e (rows s trail)))
+
+-- how far a centre has pruned: the vector up to which transactions are folded into states, the vector up to which the
+-- next prune folds, and the number up to which own records were let go
+pub record Horizon : Type 0 where
+  pub base : List ℕ
+  pub mark : List ℕ
+  pub trimmed : ℕ
+
+-- nothing is folded or let go
+abbrev pub horizon_at_first : ℕ → Horizon
+horizon_at_first n = record { base = zeros n; mark = zeros n; trimmed = 0 }
+
+-- the next horizon, after a trail: the mark becomes the base, what is stable becomes the mark, and the own records
+-- that all centres are known to have are let go
+abbrev pub pruned : Settings → List Entry → Horizon → Horizon
+pruned s trail h = record { base = h.mark; mark = stable s trail; trimmed = at (all_known s trail) s.me }
+
+-- the horizon after one more ask behind the trail, that was answered so
+abbrev pub horizon_after : Settings → List Entry → Horizon → Ask → Say → Horizon
+horizon_after s trail h Prune (Base vector folded trimmed) = pruned s trail h
+horizon_after s trail h _ _ = h
+
+-- the horizon after more entries behind the trail
+abbrev pub horizon_past : Settings → List Entry → Horizon → List Entry → Horizon
+horizon_past s trail h [] = h
+horizon_past s trail h (entry ∷ later) = horizon_past s (trail ++ entry ∷ []) (horizon_after s trail h entry.ask entry.say) later
+
+-- the horizon after a trail
+abbrev pub horizon : Settings → List Entry → Horizon
+horizon s trail = horizon_past s [] (horizon_at_first s.n) trail

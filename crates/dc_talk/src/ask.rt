@@ -31,6 +31,8 @@ pub enum Ask {
     Report,
     /// What a centre reported.
     Learn { from: u8, vector: Vector },
+    /// The centre is to fold what may be folded, and to let go of own records that all centres have.
+    Prune,
     /// The centre is to answer nothing until it is started.
     Stop,
     /// The centre is to answer again.
@@ -67,6 +69,7 @@ impl Clone for Ask {
                 from: *from,
                 vector: *vector,
             }),
+            Ask::Prune => Ok(Ask::Prune),
             Ask::Stop => Ok(Ask::Stop),
             Ask::Start => Ok(Ask::Start),
         }
@@ -98,7 +101,7 @@ impl Ask {
             Ask::Commit { tx } => tx.check(n).is_ok(),
             Ask::Send { after: _, most } => (1..=MOST_SENT).contains(most),
             Ask::Deliver { item } => is_fit_item(item, n),
-            Ask::Report | Ask::Stop | Ask::Start => true,
+            Ask::Report | Ask::Prune | Ask::Stop | Ask::Start => true,
             Ask::Learn { from, vector } => {
                 (1..=n).contains(from) && vector.width() == n && are_modest(vector)
             }

@@ -3,7 +3,7 @@ ghost use Rattle.std.specs.Prelude.{◌≡◌, ℕ, List};
 ghost use Rattle.ids_core.specs.declared.object.ObjectId.{ObjectId};
 ghost use Rattle.tx_core.specs.declared.tx.Tx.{Tx};
 ghost use Rattle.tx_core.specs.declared.tx.Record.{Record};
-ghost use Rattle.dc_talk.specs.declared.ask.Ask.TheVariants.{Hello, Refresh, Fetch, Commit, Send, Deliver, Report, Learn, Stop, Start};
+ghost use Rattle.dc_talk.specs.declared.ask.Ask.TheVariants.{Hello, Refresh, Fetch, Commit, Send, Deliver, Report, Learn, Prune, Stop, Start};
 ghost use Rattle.dc_talk.specs.Doors.{belongs};
 
 use crate::ask::Ask;
@@ -23,6 +23,7 @@ pub fn belongs(ask: &Ask, say: &Say) -> bool
         Ask::Deliver { .. } => is_to_deliver(say),
         Ask::Report => is_to_report(say),
         Ask::Learn { .. } => is_to_learn(say),
+        Ask::Prune => is_to_prune(say),
         Ask::Stop => is_to_stop(say),
         Ask::Start => is_to_start(say),
     }
@@ -102,6 +103,13 @@ fn is_to_learn(say: &Say) -> bool
     ensures { (from : ℕ) (news : List ℕ) → result ≡ belongs (Learn from news) say.now }
 {
     matches!(say, Say::Misfit | Say::Down | Say::Learned { .. })
+}
+
+// Whether a prune may be answered so.
+fn is_to_prune(say: &Say) -> bool
+    ensures { result ≡ belongs Prune say.now }
+{
+    matches!(say, Say::Misfit | Say::Down | Say::Base { .. })
 }
 
 // Whether a stop may be answered so.

@@ -56,6 +56,9 @@ pub enum Say {
     Vector { vector: Vector },
     /// The vector is taken in; whether it told anything new.
     Learned { fresh: bool },
+    /// To a prune: the new base, the number of transactions within it, and the number up to which own
+    /// records were let go.
+    Base { vector: Vector, folded: u64, trimmed: u64 },
     /// The centre is stopped now.
     Stopped,
     /// The centre is running now.
@@ -110,6 +113,15 @@ impl Clone for Say {
             Say::Applied { fresh } => Ok(Say::Applied { fresh: *fresh }),
             Say::Vector { vector } => Ok(Say::Vector { vector: *vector }),
             Say::Learned { fresh } => Ok(Say::Learned { fresh: *fresh }),
+            Say::Base {
+                vector,
+                folded,
+                trimmed,
+            } => Ok(Say::Base {
+                vector: *vector,
+                folded: *folded,
+                trimmed: *trimmed,
+            }),
             Say::Stopped => Ok(Say::Stopped),
             Say::Started => Ok(Say::Started),
         }

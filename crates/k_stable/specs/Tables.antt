@@ -1,8 +1,8 @@
 -- What a centre was told of the others' vectors, and what follows from it with the centre's own vector.
-use Rattle.std.specs.Prelude.{◌≡◌, ◌≢◌, ◌≤◌, ℕ, zero, suc, ◌==◌, cond, min, List, [], ◌∷◌, length, take, map, All}
+use Rattle.std.specs.Prelude.{◌≡◌, ◌≢◌, ◌≤◌, ℕ, zero, suc, ◌==◌, cond, List, [], ◌∷◌, length, take, map, All}
 use Rattle.std.proofs.Common.{get_or}
 use Rattle.ids_core.specs.declared.limits.TheConstants.{MOST_CENTRES}
-use Rattle.vv_core.specs.Vectors.{centres, tabulate, column, kth_largest, meet_of, join_of}
+use Rattle.vv_core.specs.Vectors.{centres, tabulate, column, least, kth_largest, meet_of, join_of}
 
 -- which of n centres it is, how many make an entry stable, and for each centre in order the join of the vectors
 -- learned from it
@@ -43,12 +43,6 @@ rows_of t own = map (λ j. cond (j == t.me) own (told_by t j)) (centres t.n)
 -- at each centre the greatest number that K rows reach, then the meet with the own vector
 abbrev pub stable_of : Table → List ℕ → List ℕ
 stable_of t own = meet_of (kth_largest t.k (rows_of t own)) own
-
--- the least of a list, and 0 of none
-abbrev pub least : List ℕ → ℕ
-least [] = 0
-least (x ∷ []) = x
-least (x ∷ y ∷ ys) = min x (least (y ∷ ys))
 
 -- at each centre the least number of the rows
 abbrev pub all_known_of : Table → List ℕ → List ℕ

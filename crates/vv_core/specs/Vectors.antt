@@ -72,6 +72,12 @@ kth_of k xs = most (filter (λ x. nat_le k (reach x xs)) xs)
 abbrev pub column : ℕ → List (List ℕ) → List ℕ
 column e rows = map (λ row. at row e) rows
 
+-- the least of a list, and 0 of none
+abbrev pub least : List ℕ → ℕ
+least [] = 0
+least (x ∷ []) = x
+least (x ∷ y ∷ ys) = min x (least (y ∷ ys))
+
 -- the width of the first row
 abbrev pub width_of : List (List ℕ) → ℕ
 width_of [] = 0
