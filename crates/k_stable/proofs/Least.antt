@@ -5,10 +5,9 @@ use Rattle.std.proofs.lemmas.Bool.{leb-true, le-leb}
 use Rattle.std.proofs.lemmas.List.{length-map}
 use Rattle.std.proofs.lemmas.List.Elements.{All-nil, All-cons, All-head, All-tail}
 use Rattle.std.proofs.lemmas.List.Sums.{count_by-le-length}
-use Rattle.vv_core.specs.Vectors.{at, reach, column, kth_of, kth_largest, tabulate, width_of}
+use Rattle.vv_core.specs.Vectors.{at, reach, column, kth_of, kth_largest, tabulate, width_of, least}
 use Rattle.vv_core.proofs.Entrywise.{same_tabulate}
 use Rattle.vv_core.proofs.Reaching.{count_by-cons, kth_of_reached, reached_kth_of}
-use Rattle.k_stable.specs.Tables.{least}
 
 -- what is at most the least, all reach
 pub reach_least : (m : ℕ) (xs : List ℕ) → m ≤ least xs → length xs ≤ reach m xs

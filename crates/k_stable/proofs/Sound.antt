@@ -4,11 +4,11 @@ use Rattle.std.specs.Prelude.{All}
 use Rattle.std.proofs.lemmas.Bool.{cases_eq, cases_lt}
 use Rattle.std.proofs.lemmas.List.{length-map}
 use Rattle.std.proofs.lemmas.List.Elements.{All-nil, All-cons, All-head, All-tail, All-set, All-get_or, All-from_get_or, All-map}
-use Rattle.vv_core.specs.Vectors.{at, reach, column, kth_largest, SoundFor, AllSound}
+use Rattle.vv_core.specs.Vectors.{at, reach, column, kth_largest, SoundFor, AllSound, least}
 use Rattle.vv_core.proofs.Entrywise.{at-meet_of, at_past, at-tabulate}
 use Rattle.vv_core.proofs.Reaching.{reach_falls}
 use Rattle.vv_core.proofs.Sound.{join_of_sound, meet_of_sound, kth_largest_sound, kth_largest_reached, kth_largest_least}
-use Rattle.k_stable.specs.Tables.{Table, IsTable, Learns, told_by, rows_of, stable_of, least, all_known_of}
+use Rattle.k_stable.specs.Tables.{Table, IsTable, Learns, told_by, rows_of, stable_of, all_known_of}
 use Rattle.k_stable.proofs.Rows.{length-rows_of, rows_of-set, rows_of_even, width_of-rows_of, all_known_is}
 use Rattle.k_stable.proofs.Least.{All-least, reach_least, reached_all}
 

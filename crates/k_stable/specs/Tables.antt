@@ -1,5 +1,5 @@
 -- What a centre was told of the others' vectors, and what follows from it with the centre's own vector.
-use Rattle.std.specs.Prelude.{◌≡◌, ◌≢◌, ◌≤◌, ℕ, zero, suc, ◌==◌, cond, List, [], ◌∷◌, length, take, map, All}
+use Rattle.std.specs.Prelude.{◌≡◌, ◌≢◌, ◌≤◌, ℕ, zero, suc, ◌==◌, cond, List, [], length, take, map, All}
 use Rattle.std.proofs.Common.{get_or}
 use Rattle.ids_core.specs.declared.limits.TheConstants.{MOST_CENTRES}
 use Rattle.vv_core.specs.Vectors.{centres, tabulate, column, least, kth_largest, meet_of, join_of}
