@@ -1,5 +1,5 @@
 // What was folded up to a vector.
-ghost use Rattle.std.specs.Prelude.{◌≡◌, ◌≤◌, ◌++◌, [], List, All, length, IfOk, OnOk, OnErr};
+ghost use Rattle.std.specs.Prelude.{◌≡◌, ◌≤◌, ◌+◌, ◌++◌, [], List, All, length, IfOk, OnOk, OnErr};
 ghost use Rattle.ids_core.specs.declared.limits.TheConstants.{MOST_CENTRES};
 ghost use Rattle.vv_core.specs.Vectors.{zeros, Covers};
 ghost use Rattle.tx_core.specs.declared.tx.Tx.{Tx as TxOf};
@@ -89,6 +89,7 @@ impl Point {
         requires covers { Covers to.now self.old.vector }
         requires updates { All HasFewUpdates txs.now }
         ensures vector { OnOk result (self.new.vector ≡ to.now) }
+        ensures count { OnOk result (self.new.folded ≡ self.old.folded + length txs.now) }
         ensures more { OnOk result ((given : List TxOf) → IsPointOf self.old given → IsPointOf self.new (given ++ txs.now)) }
         ensures err { OnErr result (self.new ≡ self.old) }
     {

@@ -17,7 +17,11 @@ use Rattle.op_log.specs.Logs.{cell, cells_from, cells_of, chain_of, is_inside, i
 use Rattle.check_point.specs.Operations.{mark, ops_from, ops_of, greatest}
 use Rattle.check_point.proofs.Orders.{filter_all}
 use Rattle.point_law.specs.LogSplits.{txs_of, ops_in}
-use Rattle.point_law.proofs.Splits.{filter_none}
+
+-- where none passes a test, none is left
+filter_none : {X : Type 0} (test : X → Bool) (xs : List X) → ((x : X) → In x xs → test x ≡ false) → filter test xs ≡ []
+filter_none test [] none = refl
+filter_none test (x ∷ xs) none = ap (λ b. cond b (x ∷ filter test xs) (filter test xs)) (none x (inl refl)) ∙ filter_none test xs (λ y i. none y (inr i))
 
 -- ---- the operations of a chain
 

@@ -1,6 +1,7 @@
 -- What a log tells beside what was folded.
-use Rattle.std.proofs.Common.{◌≡◌, ℕ, max, List, sym, ap, ◌∙◌}
+use Rattle.std.proofs.Common.{◌≡◌, ℕ, ◌+◌, max, List, length, sym, ap, ◌∙◌}
 use Rattle.std.specs.Prelude.{filter, flat_map}
+use Rattle.std.proofs.lemmas.List.{length-map}
 use Rattle.list_core.specs.Members.{In}
 use Rattle.list_core.proofs.Members.{filter-agree}
 use Rattle.list_core.proofs.Images.{filter-map}
@@ -14,9 +15,9 @@ use Rattle.dc_talk.specs.Objects.{state_at}
 use Rattle.op_log.specs.declared.logged.Logged.{Logged}
 use Rattle.op_log.specs.Logs as log
 use Rattle.check_point.specs.Operations.{ops_of, state_after, greatest}
-use Rattle.point_law.specs.Splits.{is_inside}
+use Rattle.point_law.specs.Splits.{first_txs, is_inside}
 use Rattle.point_law.specs.LogSplits.{txs_of, ops_in, IsLogSplit}
-use Rattle.point_law.proofs.Splits.{state_of_split, mine_of_split}
+use Rattle.point_law.proofs.Splits.{state_of_split, mine_of_split, count_of_split}
 use Rattle.point_law.proofs.Stamps.{any_inside}
 use Rattle.point_law.proofs.Chains.{chain_inside, mine_inside}
 
@@ -34,3 +35,6 @@ module _ (A : List Record) (base : List ℕ) (folded : List Tx) (kept : log.LogV
 
   pub mine_of_log : (w : List ℕ) (client : ℕ) → Covers w base → max (greatest client folded) (log.mine_in client w kept.items) ≡ mine client (inside A w)
   mine_of_log w client covers = ap (λ n. max (greatest client folded) n) (sym (mine_inside w client kept.items) ∙ ap (greatest client) (txs_inside w)) ∙ mine_of_split A base folded (txs_of kept.items) split.split w client covers
+
+  pub count_of_log : (w : List ℕ) → Covers w base → length folded + length (log.within_of w kept.items) ≡ length (filter (is_inside A w) (first_txs A))
+  count_of_log w covers = ap (λ n. length folded + n) (sym (length-map (log.within_of w kept.items) (λ (x : Logged). x.tx)) ∙ ap length (txs_inside w)) ∙ count_of_split A base folded (txs_of kept.items) split.split w covers

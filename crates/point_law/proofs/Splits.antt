@@ -1,7 +1,6 @@
 -- What a split tells at a vector.
-use Rattle.std.proofs.Common.{◌≡◌, ℕ, Bool, false, cond, max, inl, inr, List, [], ◌∷◌, length, refl, ap, ◌∙◌, arith}
+use Rattle.std.proofs.Common.{◌≡◌, ℕ, ◌+◌, max, List, [], ◌∷◌, length, ◌∙◌}
 use Rattle.std.specs.Prelude.{filter, flat_map}
-use Rattle.list_core.specs.Members.{In}
 use Rattle.list_core.proofs.Apart.{apart_map}
 use Rattle.ids_core.specs.declared.object.ObjectId.{ObjectId}
 use Rattle.vv_core.specs.Vectors.{Covers}
@@ -16,11 +15,6 @@ use Rattle.check_point.specs.Partings.{IsParting}
 use Rattle.check_point.proofs.Partings.{state_of_parting, number_of_parting, count_of_parting}
 use Rattle.point_law.specs.Splits.{first_txs, is_inside, IsSplit}
 use Rattle.point_law.proofs.Inside.{inside_grows, state_inside, greatest_inside}
-
--- where none passes a test, none is left
-pub filter_none : {X : Type 0} (test : X → Bool) (xs : List X) → ((x : X) → In x xs → test x ≡ false) → filter test xs ≡ []
-filter_none test [] none = refl
-filter_none test (x ∷ xs) none = ap (λ b. cond b (x ∷ filter test xs) (filter test xs)) (none x (inl refl)) ∙ filter_none test xs (λ y i. none y (inr i))
 
 module _ (A : List Record) (base : List ℕ) (folded kept : List Tx) (split : IsSplit A base folded kept) where
   -- the folded ones are within each vector that covers the base
@@ -37,8 +31,5 @@ module _ (A : List Record) (base : List ℕ) (folded kept : List Tx) (split : Is
   pub mine_of_split : (w : List ℕ) (client : ℕ) → Covers w base → max (greatest client folded) (greatest client (filter (is_inside A w) kept)) ≡ mine client (inside A w)
   mine_of_split w client covers = number_of_parting (is_inside A w) (first_txs A) folded kept (parting w covers) client ∙ greatest_inside A w client
 
-  pub count_of_split : length folded ≡ length (filter (is_inside A base) (first_txs A))
-  count_of_split =
-      let all = count_of_parting (is_inside A base) (first_txs A) folded kept (parting base (record { holds = λ e. omega arith })) in
-      let none : length (filter (is_inside A base) kept) ≡ 0 = ap length (filter_none (is_inside A base) kept split.rest) in
-      omega (arith, all, none)
+  pub count_of_split : (w : List ℕ) → Covers w base → length folded + length (filter (is_inside A w) kept) ≡ length (filter (is_inside A w) (first_txs A))
+  count_of_split w covers = count_of_parting (is_inside A w) (first_txs A) folded kept (parting w covers)

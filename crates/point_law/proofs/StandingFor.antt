@@ -1,5 +1,5 @@
 -- What a point and a log tell of the records that they stand for.
-use Rattle.std.proofs.Common.{◌≡◌, ℕ, true, false, max, List, [], ◌∷◌, ◌++◌, length, ap, ◌∙◌}
+use Rattle.std.proofs.Common.{◌≡◌, ℕ, ◌+◌, Bool, true, false, max, List, [], ◌∷◌, ◌++◌, length, refl, sym, ap, subst, ◌∙◌}
 use Rattle.std.specs.Prelude.{filter}
 use Rattle.list_core.specs.Members.{In}
 use Rattle.ids_core.specs.declared.ids.Dot.{Dot}
@@ -15,9 +15,8 @@ use Rattle.op_log.specs.Logs as log
 use Rattle.check_point.specs.Points.{PointView, IsPointOf, state_of, number_of}
 use Rattle.point_law.specs.Splits.{first_txs, dots_of, is_inside}
 use Rattle.point_law.specs.LogSplits.{stamps_of, txs_of, ops_in}
-use Rattle.point_law.specs.StandFor.{StandFor}
-use Rattle.point_law.proofs.Splits.{count_of_split}
-use Rattle.point_law.proofs.LogSplits.{state_of_log, mine_of_log}
+use Rattle.point_law.specs.StandFor.{StandFor, state_told, mine_told, count_told, with_one}
+use Rattle.point_law.proofs.LogSplits.{state_of_log, mine_of_log, count_of_log}
 use Rattle.point_law.proofs.LogGrowth.{log_from, log_none, log_new, log_first, log_again, log_on}
 
 -- with nothing applied: a point with nothing folded and an empty log
@@ -25,14 +24,14 @@ pub none_stand : (point : PointView) → IsPointOf point [] → StandFor [] poin
 none_stand point is = record { folded = []; at_point = is; in_log = log_none point.vector }
 
 module _ (A : List Record) (point : PointView) (kept : log.LogView) (s : StandFor A point kept) where
-  pub state_stands : (w : List ℕ) (o : ObjectId) → Covers w point.vector → fold_of (state_of point o) (ops_in (filter (λ c. log.is_inside_at w c.tx kept.items) (log.chain_of o kept.items))) ≡ state_at o A w
+  pub state_stands : (w : List ℕ) (o : ObjectId) → Covers w point.vector → state_told point kept o w ≡ state_at o A w
   state_stands w o covers = ap (λ state. fold_of state (ops_in (filter (λ c. log.is_inside_at w c.tx kept.items) (log.chain_of o kept.items)))) (s.at_point.states o) ∙ state_of_log A point.vector s.folded kept s.in_log w o covers
 
-  pub mine_stands : (w : List ℕ) (client : ℕ) → Covers w point.vector → max (number_of point client) (log.mine_in client w kept.items) ≡ mine client (inside A w)
+  pub mine_stands : (w : List ℕ) (client : ℕ) → Covers w point.vector → mine_told point kept client w ≡ mine client (inside A w)
   mine_stands w client covers = ap (λ n. max n (log.mine_in client w kept.items)) (s.at_point.numbers client) ∙ mine_of_log A point.vector s.folded kept s.in_log w client covers
 
-  pub count_stands : point.folded ≡ length (filter (is_inside A point.vector) (first_txs A))
-  count_stands = s.at_point.folded ∙ count_of_split A point.vector s.folded (txs_of kept.items) s.in_log.split
+  pub count_stands : (w : List ℕ) → Covers w point.vector → count_told point kept w ≡ length (filter (is_inside A w) (first_txs A))
+  count_stands w covers = ap (λ n. n + length (log.within_of w kept.items)) s.at_point.folded ∙ count_of_log A point.vector s.folded kept s.in_log w covers
 
   pub known_stands : (x : Logged) → In x kept.items → ((r : Record) × In r A × (x.tx ≡ r.tx)) × (x.stamps ≡ stamps_of x.tx.dot A)
   known_stands x i = (log_from A point.vector s.folded kept s.in_log x i, s.in_log.stamps x i)
@@ -52,3 +51,15 @@ module _ (A : List Record) (point : PointView) (kept : log.LogView) (s : StandFo
     at_point = more s.folded s.at_point;
     in_log = log_on A point.vector s.folded kept s.in_log after.vector covers;
   }
+
+  -- with one record more, which is fresh where its dot was not there
+  pub kept_stands : (r : Record) (fresh : Bool) → within r.stamp point.vector ≡ false → (fresh ≡ true → has r.tx.dot (dots_of A) ≡ false) → (fresh ≡ false → has r.tx.dot (dots_of A) ≡ true) → StandFor (A ++ r ∷ []) point (with_one kept r fresh)
+  kept_stands r true out new known = first_stands r out (new refl)
+  kept_stands r false out new known = again_stands r out (known refl)
+
+-- a point and a log once a prune has taken what is within a vector from the log to the point
+pub prune_stands : (A : List Record) (point after : PointView) (kept left : log.LogView) (to : List ℕ) (txs : List Tx) → StandFor A point kept → Covers to point.vector → after.vector ≡ to → txs ≡ txs_of (log.within_of to kept.items) → ((given : List Tx) → IsPointOf point given → IsPointOf after (given ++ txs)) → left ≡ record kept { items = log.left_of to kept.items } → StandFor A after left
+prune_stands A point after kept left to txs s covers there are more is =
+    subst (λ (l : log.LogView). StandFor A after l) (sym (is ∙ ap (λ (w : List ℕ). record kept { items = log.left_of w kept.items }) (sym there)))
+    (pruned_stands A point kept s after (subst (λ (w : List ℕ). Covers w point.vector) (sym there) covers)
+    (λ given was. subst (λ (ts : List Tx). IsPointOf after (given ++ ts)) (are ∙ ap (λ (w : List ℕ). txs_of (log.within_of w kept.items)) (sym there)) (more given was)))

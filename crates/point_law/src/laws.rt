@@ -1,5 +1,5 @@
 // The laws of a split.
-ghost use Rattle.std.specs.Prelude.{◌≡◌, ℕ, true, false, not, List, [], ◌∷◌, ◌++◌, length, max, filter, flat_map};
+ghost use Rattle.std.specs.Prelude.{◌≡◌, ℕ, true, false, not, List, [], ◌∷◌, ◌++◌, ◌+◌, length, max, filter, flat_map};
 ghost use Rattle.list_core.specs.Members.{In};
 ghost use Rattle.ids_core.specs.declared.ids.Dot.{Dot};
 ghost use Rattle.ids_core.specs.declared.object.ObjectId.{ObjectId};
@@ -14,18 +14,18 @@ ghost use Rattle.op_log.specs.declared.logged.Logged.{Logged};
 ghost use Rattle.op_log.specs.Logs.{LogView, chain_of, is_inside_at, mine_in, has_dot, with_record, with_stamp, within_of, left_of};
 ghost use Rattle.point_law.specs.LogSplits.{stamps_of, txs_of, ops_in};
 ghost use Rattle.check_point.specs.Points.{PointView, IsPointOf, state_of, number_of};
-ghost use Rattle.point_law.specs.StandFor.{StandFor};
+ghost use Rattle.point_law.specs.StandFor.{StandFor, state_told, mine_told, count_told, with_one};
 ghost use Rattle.point_law.specs.Splits.{first_txs, dots_of, is_inside, IsSplit};
 
 /// Of applied records all that is within a base was folded, each dot once, by its first record, and the
 /// rest is kept, in whatever order. At a vector that covers the base, the kept transactions within it
 /// give, over what the folded ones gave, what the whole list gives: the state of an object, which is the
-/// same state and not only one with the same value, and the greatest number of a client. As many were
-/// folded as have a stamp within the base.
+/// same state and not only one with the same value, the greatest number of a client, and how many
+/// transactions are within it.
 pub fn law_split()
     ensures state { (A : List Record) (base w : List ℕ) (folded kept : List Tx) (o : ObjectId) → IsSplit A base folded kept → Covers w base → fold_of (state_after o folded) (flat_map (ops_of o) (filter (is_inside A w) kept)) ≡ state_at o A w }
     ensures mine { (A : List Record) (base w : List ℕ) (folded kept : List Tx) (client : ℕ) → IsSplit A base folded kept → Covers w base → max (greatest client folded) (greatest client (filter (is_inside A w) kept)) ≡ mine client (inside A w) }
-    ensures count { (A : List Record) (base : List ℕ) (folded kept : List Tx) → IsSplit A base folded kept → length folded ≡ length (filter (is_inside A base) (first_txs A)) }
+    ensures count { (A : List Record) (base w : List ℕ) (folded kept : List Tx) → IsSplit A base folded kept → Covers w base → length folded + length (filter (is_inside A w) kept) ≡ length (filter (is_inside A w) (first_txs A)) }
 {}
 
 /// A split stays one through what a centre does: with nothing applied nothing is folded and nothing kept;
@@ -41,12 +41,11 @@ pub fn law_split_steps()
 /// A point and a log that stand for applied records tell what the whole list tells, at a vector that covers
 /// the point's: the operations of an object's chain whose transaction is inside it give, over the point's
 /// state, the state of the object, which is the same state and not only one with the same value; and so
-/// with the greatest number of a client. The point counts the transactions that have a stamp within its
-/// vector. What the log has is the transaction of a record, with all stamps of its dot.
+/// with the greatest number of a client, and with how many transactions have a stamp within it. What the log has is the transaction of a record, with all stamps of its dot.
 pub fn law_stand_for()
-    ensures state { (A : List Record) (point : PointView) (kept : LogView) (w : List ℕ) (o : ObjectId) → StandFor A point kept → Covers w point.vector → fold_of (state_of point o) (ops_in (filter (λ c. is_inside_at w c.tx kept.items) (chain_of o kept.items))) ≡ state_at o A w }
-    ensures mine { (A : List Record) (point : PointView) (kept : LogView) (w : List ℕ) (client : ℕ) → StandFor A point kept → Covers w point.vector → max (number_of point client) (mine_in client w kept.items) ≡ mine client (inside A w) }
-    ensures count { (A : List Record) (point : PointView) (kept : LogView) → StandFor A point kept → point.folded ≡ length (filter (is_inside A point.vector) (first_txs A)) }
+    ensures state { (A : List Record) (point : PointView) (kept : LogView) (w : List ℕ) (o : ObjectId) → StandFor A point kept → Covers w point.vector → state_told point kept o w ≡ state_at o A w }
+    ensures mine { (A : List Record) (point : PointView) (kept : LogView) (w : List ℕ) (client : ℕ) → StandFor A point kept → Covers w point.vector → mine_told point kept client w ≡ mine client (inside A w) }
+    ensures count { (A : List Record) (point : PointView) (kept : LogView) (w : List ℕ) → StandFor A point kept → Covers w point.vector → count_told point kept w ≡ length (filter (is_inside A w) (first_txs A)) }
     ensures known { (A : List Record) (point : PointView) (kept : LogView) (x : Logged) → StandFor A point kept → In x kept.items → ((r : Record) × In r A × (x.tx ≡ r.tx)) × (x.stamps ≡ stamps_of x.tx.dot A) }
 {}
 

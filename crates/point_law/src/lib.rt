@@ -3,5 +3,7 @@
 #![tactic(auto)]
 
 mod laws;
+mod standing;
 
 pub use laws::{law_split, law_split_steps, law_stand_for, law_stand_for_steps};
+pub use standing::{keep, mine_at, prune, state_at};

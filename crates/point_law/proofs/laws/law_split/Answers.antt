@@ -5,5 +5,5 @@ pub returns : goal.returns
 returns c = record {
   state = λ A base w folded kept o split. state_of_split A base folded kept split w o;
   mine = λ A base w folded kept client split. mine_of_split A base folded kept split w client;
-  count = count_of_split;
+  count = λ A base w folded kept split. count_of_split A base folded kept split w;
 }
