@@ -2,3 +2,4 @@ pub mod Rows
 pub mod Least
 pub mod Learning
 pub mod Sound
+pub mod Later

@@ -2,7 +2,7 @@
 use Rattle.std.specs.Prelude.{◌≡◌, ◌≢◌, ◌≤◌, ℕ, zero, suc, ◌==◌, cond, List, [], length, take, map, All}
 use Rattle.std.proofs.Common.{get_or}
 use Rattle.ids_core.specs.declared.limits.TheConstants.{MOST_CENTRES}
-use Rattle.vv_core.specs.Vectors.{centres, tabulate, column, least, kth_largest, meet_of, join_of}
+use Rattle.vv_core.specs.Vectors.{Covers, centres, tabulate, column, least, kth_largest, meet_of, join_of}
 
 -- which of n centres it is, how many make an entry stable, and for each centre in order the join of the vectors
 -- learned from it
@@ -35,6 +35,13 @@ pub record Learns (old new : Table) (from : ℕ) (vector : List ℕ) : Type 0 wh
   pub own : from ≡ old.me → new ≡ old
   pub told : from ≢ old.me → told_by new from ≡ join_of (told_by old from) vector
   pub others : (j : ℕ) → j ≢ from → told_by new j ≡ told_by old j
+
+-- the same table after more was learned: no row has less
+pub record IsLater (old new : Table) : Type 0 where
+  pub me : new.me ≡ old.me
+  pub n : new.n ≡ old.n
+  pub k : new.k ≡ old.k
+  pub rows : (j : ℕ) → Covers (told_by new j) (told_by old j)
 
 -- a row for each centre: the own vector at the own place, and what was told at the others
 abbrev pub rows_of : Table → List ℕ → List (List ℕ)

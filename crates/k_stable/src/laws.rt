@@ -1,7 +1,7 @@
 // The laws of told tables. Each is a function with nothing to do, whose contract is the law.
 ghost use Rattle.std.specs.Prelude.{◌≡◌, ◌≤◌, ◌↔◌, ℕ, List, Option, All, length};
-ghost use Rattle.vv_core.specs.Vectors.{at, reach, column, SoundFor, AllSound};
-ghost use Rattle.k_stable.specs.Tables.{Table, IsTable, Learns, rows_of, stable_of, all_known_of};
+ghost use Rattle.vv_core.specs.Vectors.{at, reach, column, Covers, SoundFor, AllSound};
+ghost use Rattle.k_stable.specs.Tables.{Table, IsTable, Learns, IsLater, rows_of, stable_of, all_known_of};
 
 /// Where all that was told is sound for a table of dependency vectors, it stays so once a vector that is sound for
 /// it is learned.
@@ -32,4 +32,13 @@ pub fn law_stable_reach()
 pub fn law_all_known_reach()
     ensures { (t : Table) (own : List ℕ) (e m : ℕ) → IsTable t → 1 ≤ e → e ≤ t.n →
         (m ≤ at (all_known_of t own) e) ↔ All (λ row. m ≤ at row e) (rows_of t own) }
+{}
+
+/// What was learned stays, and with it what is stable and what all know: with more learned, and more in the own
+/// vector, both have no less. What all know is within the own vector.
+pub fn law_later()
+    ensures learn { (old new : Table) (from : ℕ) (vector : List ℕ) → Learns old new from vector → IsLater old new }
+    ensures stable { (old new : Table) (own later : List ℕ) → IsTable old → IsTable new → length own ≡ old.n → length later ≡ new.n → IsLater old new → Covers later own → Covers (stable_of new later) (stable_of old own) }
+    ensures all_known { (old new : Table) (own later : List ℕ) → IsLater old new → Covers later own → Covers (all_known_of new later) (all_known_of old own) }
+    ensures own { (t : Table) (own : List ℕ) → IsTable t → at (all_known_of t own) t.me ≤ at own t.me }
 {}

@@ -5,6 +5,7 @@ mod laws;
 mod told;
 
 pub use laws::{
-    law_all_known_reach, law_all_known_sound, law_learn_sound, law_stable_reach, law_stable_sound,
+    law_all_known_reach, law_all_known_sound, law_later, law_learn_sound, law_stable_reach,
+    law_stable_sound,
 };
 pub use told::Told;
