@@ -6,6 +6,7 @@ pub mod ClientAnswers
 pub mod PeerAnswers
 pub mod Counts
 pub mod Firsts
+pub mod Horizons
 pub mod Applied
 pub mod Places
 pub mod Growth

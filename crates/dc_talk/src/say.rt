@@ -18,47 +18,96 @@ pub enum Say {
     /// The centre is stopped.
     Down,
     /// The least centre of which the ask needs more records than the answering centre has.
-    Lacks { centre: u8, need: u64, have: u64 },
+    Lacks {
+        centre: u8,
+        need: u64,
+        have: u64,
+    },
     /// To a hello: the greatest number of the client's transactions that is here, 0 for none.
-    Welcome { through: u64 },
+    Welcome {
+        through: u64,
+    },
     /// To a refresh: the new snapshot, the greatest number of the client's own transactions within
     /// it, and the greatest rank that the centre has seen.
-    Snap { vector: Vector, mine: u64, top: u64 },
+    Snap {
+        vector: Vector,
+        mine: u64,
+        top: u64,
+    },
     /// To a fetch: the centre keeps states from its base on alone, and the base is above the snapshot. The
     /// least centre of which that is so, with the base's entry and the snapshot's.
-    Pruned { centre: u8, base: u64, at: u64 },
+    Pruned {
+        centre: u8,
+        base: u64,
+        at: u64,
+    },
     /// To a fetch: the state of the object at the snapshot.
-    Object { state: State },
+    Object {
+        state: State,
+    },
     /// The transaction was here before: the greatest number of its client that is here.
-    Known { through: u64 },
+    Known {
+        through: u64,
+    },
     /// An earlier transaction of the client is missing: the greatest number that is here.
-    OutOfOrder { have: u64 },
+    OutOfOrder {
+        have: u64,
+    },
     /// The centre has stamped as many transactions as it may.
-    Full { limit: u64 },
+    Full {
+        limit: u64,
+    },
     /// The transaction has this stamp now.
-    Stamped { stamp: Stamp },
+    Stamped {
+        stamp: Stamp,
+    },
     /// To a send: the centre keeps its own records from behind this number on alone.
-    Trimmed { from: u64 },
+    Trimmed {
+        from: u64,
+    },
     /// To a send: the centre's own records that were asked for.
-    Records { list: Records },
+    Records {
+        list: Records,
+    },
     /// The record is here: as many of its origin are.
-    Old { have: u64 },
+    Old {
+        have: u64,
+    },
     /// An earlier record of its origin is missing, of which so many are here, or the record is the
     /// centre's own.
-    Gap { have: u64 },
+    Gap {
+        have: u64,
+    },
     /// The least centre of which the record depends on more records than are here.
-    Waits { centre: u8, need: u64, have: u64 },
+    Waits {
+        centre: u8,
+        need: u64,
+        have: u64,
+    },
     /// An earlier transaction of its client is missing: the number asked and the greatest here.
-    Orphan { number: u64, have: u64 },
+    Orphan {
+        number: u64,
+        have: u64,
+    },
     /// The record is here now; whether its transaction is new.
-    Applied { fresh: bool },
+    Applied {
+        fresh: bool,
+    },
     /// To a report: how many records of each centre are here.
-    Vector { vector: Vector },
+    Vector {
+        vector: Vector,
+    },
     /// The vector is taken in; whether it told anything new.
-    Learned { fresh: bool },
+    Learned {
+        fresh: bool,
+    },
     /// To a prune: the new base, the number of transactions within it, and the number up to which own
     /// records were let go.
-    Base { vector: Vector, folded: u64, trimmed: u64 },
+    Base {
+        vector: Vector,
+        folded: u64,
+        trimmed: u64,
+    },
     /// The centre is stopped now.
     Stopped,
     /// The centre is running now.
