@@ -1,50 +1,60 @@
--- What is kept beside an applied list, at first and with one record more.
+-- What is kept of applied records, at first, with one record more, and once more of them is folded.
 use Rattle.std.proofs.Common.{◌≡◌, ◌≢◌, ◌≤◌, ◌<◌, ℕ, ◌+◌, max, Bool, true, false, cond, ◌⊎◌, inl, inr, ⊎_elim, List, [], ◌∷◌, ◌++◌, length, Option, Some, None, refl, sym, ap, ◌∙◌, subst, arith}
-use Rattle.std.specs.Prelude.{filter, flat_map, not, IsTrue, ◌↔◌, ◌==◌, ◌&&◌, All}
-use Rattle.std.proofs.lemmas.Bool.{cases_Bool, cases_lt, false≢true, eq-eqb, eqb-true}
+use Rattle.std.specs.Prelude.{not, IsTrue, ◌↔◌, ◌==◌, All}
+use Rattle.std.proofs.lemmas.Bool.{cases_Bool, cases_lt, false≢true, eq-eqb, eqb-true, leb-true, false_from_ne_true}
 use Rattle.std.proofs.lemmas.Bool.Decides.{Decides-eqb}
-use Rattle.std.proofs.lemmas.List.{map_push}
-use Rattle.std.proofs.lemmas.List.Elements.{All-nil, All-cons, All-append, All-head, All-tail}
+use Rattle.std.proofs.lemmas.List.Elements.{All-nil, All-push}
+use Rattle.std.proofs.lemmas.Option.{none-some}
 use Rattle.list_core.specs.Members.{In}
-use Rattle.ids_core.specs.declared.limits.TheConstants.{MOST_CENTRES}
+use Rattle.list_core.proofs.Members.{All-In, In-All, In_left, In_right, In_either}
+use Rattle.ids_core.specs.declared.limits.TheConstants.{MOST_CENTRES, MOST_CLIENTS, MOST_UPDATES}
 use Rattle.ids_core.specs.declared.ids.Dot.{Dot}
-use Rattle.ids_core.specs.declared.object.ObjectId.{ObjectId}
 use Rattle.ids_core.specs.Ids.{same_dot}
 use Rattle.ids_core.specs.Same.{same_dot-true, same_dot-same}
 use Rattle.vv_core.specs.declared.stamp.Stamp.{Stamp}
-use Rattle.vv_core.specs.Vectors.{zeros, at, raised}
+use Rattle.vv_core.specs.Vectors.{zeros, at, raised, within, Covers}
+use Rattle.vv_core.proofs.Covering.{Covers_refl, Covers_trans, Covers-join_left}
 use Rattle.vv_core.proofs.Entrywise.{length-zeros, is_tabulate, at-tabulate, at-zeros, raised-tabulate, same_tabulate, length-raised}
 use Rattle.dup_guard.specs.declared.guard.Last.{Last}
-use Rattle.std.proofs.lemmas.Option.{none-some}
-use Rattle.list_core.proofs.Members.{In_left, In_right, In_either, filter-agree}
 use Rattle.dup_guard.specs.Notes.{last_at, number_in, stamp_in, number_of, stamp_of}
 use Rattle.tx_core.specs.declared.tx.Record.{Record}
-use Rattle.tx_core.specs.States.{empty_of, fold_of}
-use Rattle.dc_talk.specs.Records.{count, vector, guard, first_stamp, top, has, firsts, inside}
+use Rattle.op_log.specs.declared.logged.Logged.{Logged}
+use Rattle.op_log.specs.Logs.{LogView, has_dot}
+use Rattle.check_point.specs.Points.{PointView, IsPointOf, HasFewUpdates}
+use Rattle.point_law.specs.Splits.{dots_of}
+use Rattle.point_law.specs.StandFor.{StandFor, with_one}
+use Rattle.point_law.proofs.StandingFor.{none_stand, known_stands, new_stands, kept_stands}
+use Rattle.dc_talk.specs.Records.{count, vector, guard, first_stamp, top, has}
 use Rattle.dc_talk.proofs.Counts.{count_more, guard_more}
-use Rattle.dc_talk.specs.Objects.{ops_of, state_at}
-use Rattle.dc_centre.specs.declared.applied.Held.{Held}
-use Rattle.dc_centre.specs.Dots.{of_client, stamps_of, stamps_at, is_any_within, IsCentreOf}
-use Rattle.dc_centre.specs.Applied.{records_of, dots_of, IsNext, IsStamped, HasFewUpdates, is_fresh, IsGuard, IsDots, Index, IsApplied, fold_within}
-use Rattle.dc_centre.proofs.Firsts.{new_dot, has_before, has_last, first_had, first_new, first_stamp_range, stamps_here, stamps_else, stamps_range, any_inside, firsts_more}
+use Rattle.dc_centre.specs.Applied.{AppliedView, IsNext, is_fresh, IsGuard, IsCentreOf, IsRanged, IsPlaced, IsApplied}
+use Rattle.dc_centre.proofs.Firsts.{new_dot, has_before, has_last, first_had, first_new, first_stamp_range}
 
 -- ---- at first
 
 zeros_count : (n : ℕ) → zeros n ≡ vector n []
 zeros_count n = is_tabulate (zeros n) n (λ e. count e []) (length-zeros n) (λ e low high. at-zeros n e)
 
-pub applied_none : (n : ℕ) (counts : List ℕ) (lasts : List Last) (dots : List (List (List Stamp))) → (1 ≤ n) × (n ≤ MOST_CENTRES) → counts ≡ zeros n → ((client : ℕ) → number_of lasts client ≡ 0) → ((d : Dot) → stamps_at dots d ≡ []) → ((client : ℕ) → length (of_client dots client) ≡ 0) → IsApplied n (record { counts = counts; lasts = lasts; dots = dots; greatest = 0; held = [] }) []
-applied_none n counts lasts dots width are numbers stamps lengths = record {
+-- what is kept with nothing applied
+pub record IsNothing (n : ℕ) (x : AppliedView) : Type 0 where
+  pub counts : x.counts ≡ zeros n
+  pub numbers : (client : ℕ) → number_of x.lasts client ≡ 0
+  pub greatest : x.greatest ≡ 0
+  pub base : x.point.vector ≡ zeros n
+  pub point : IsPointOf x.point []
+  pub log : x.log ≡ record { appended = 0; items = [] }
+
+pub applied_none : (n : ℕ) (x : AppliedView) → (1 ≤ n) × (n ≤ MOST_CENTRES) → IsNothing n x → IsApplied n x []
+applied_none n x width h = record {
   width = width;
-  wide = ap (λ (v : List ℕ). length v) are ∙ length-zeros n;
-  counted = are ∙ zeros_count n;
-  guarded = record { numbers = numbers; stamps = λ client low. absurd (omega arith) };
-  dotted = record { stamps = stamps; counts = lengths };
-  ranked = refl;
-  first = refl;
+  wide = ap (λ (v : List ℕ). length v) h.counts ∙ length-zeros n;
+  based = ap (λ (v : List ℕ). length v) h.base ∙ length-zeros n;
+  counted = h.counts ∙ zeros_count n;
+  guarded = record { numbers = h.numbers; stamps = λ client low. absurd (omega arith) };
+  ranked = h.greatest;
+  stored = subst (λ (l : LogView). StandFor [] x.point l) (sym h.log) (none_stand x.point h.point);
+  within = subst (λ (v : List ℕ). Covers x.counts v) (h.counts ∙ sym h.base) (Covers_refl x.counts);
   there = λ d low high. absurd (omega arith);
-  stamps = All-nil (IsStamped n);
-  updates = All-nil HasFewUpdates;
+  updates = All-nil (λ (r : Record). HasFewUpdates r.tx);
   placed = λ e k low high. absurd (omega (arith, low, high));
   ranged = λ r i. absurd i;
 }
@@ -92,35 +102,61 @@ eqb_turn a b = go (cases_Bool (a == b)) (cases_Bool (b == a))
     go (inr f) (inr g) = f ∙ sym g
 
 -- what the filter of duplicates becomes
-pub record Noted (A : List Record) (r : Record) (fresh : Bool) (old new : List Last) : Type 0 where
+pub record Noted (r : Record) (fresh : Bool) (old new : List Last) : Type 0 where
   pub numbers : (client : ℕ) → number_of new client ≡ max (number_of old client) (cond (client == r.tx.dot.client) r.tx.dot.number 0)
   pub stamp : fresh ≡ true → stamp_of new r.tx.dot.client ≡ Some r.stamp
   pub others : (client : ℕ) → (fresh ≡ true → client ≢ r.tx.dot.client) → stamp_of new client ≡ stamp_of old client
 
--- what the stamps of the dots become
-pub record Added (r : Record) (old new : List (List (List Stamp))) : Type 0 where
-  pub here : stamps_at new r.tx.dot ≡ stamps_at old r.tx.dot ++ r.stamp ∷ []
-  pub others : (other : Dot) → other ≢ r.tx.dot → stamps_at new other ≡ stamps_at old other
-  pub counts : (client : ℕ) → length (of_client new client) ≡ max (length (of_client old client)) (cond (client == r.tx.dot.client) r.tx.dot.number 0)
-
 dot_is : (c m : ℕ) (d : Dot) → c ≡ d.client → m ≡ d.number → same_dot d (record { client = c; number = m }) ≡ true
 dot_is c m d p q = same_dot-same d (record { client = c; number = m }) (λ i. record { client = sym p i; number = sym q i })
 
-module _ (n : ℕ) (A : List Record) (r : Record) (next : IsNext n A r) (there : (d : Dot) → 1 ≤ d.number → d.number ≤ guard d.client A → has d (dots_of A) ≡ true) where
+-- the record can be applied next, after the records A of n centres
+pub record IsAfter (n : ℕ) (A : List Record) (r : Record) : Type 0 where
+  pub centre : (1 ≤ r.stamp.centre) × (r.stamp.centre ≤ n)
+  pub seq : r.stamp.seq ≡ count r.stamp.centre A + 1
+  pub client : (1 ≤ r.tx.dot.client) × (r.tx.dot.client ≤ MOST_CLIENTS)
+  pub low : 1 ≤ r.tx.dot.number
+  pub next : r.tx.dot.number ≤ guard r.tx.dot.client A + 1
+  pub few : length r.tx.updates ≤ MOST_UPDATES
+
+-- whether the record is of a new transaction, after the records A
+abbrev pub is_new : List Record → Record → Bool
+is_new A r = r.tx.dot.number == guard r.tx.dot.client A + 1
+
+-- what is kept tells which record can be next
+pub next_after : (n : ℕ) (x : AppliedView) (A : List Record) (r : Record) → IsApplied n x A → IsNext x r → IsAfter n A r
+next_after n x A r h next =
+    let wide = h.wide in
+    let high = next.centre.1 in
+    let here : r.stamp.centre ≤ n = omega (arith, wide, high) in
+    record {
+      centre = (next.centre.0, here);
+      seq = next.seq ∙ ap (λ m. m + 1) (at-vector n r.stamp.centre x.counts A h.counted next.centre.0 here);
+      client = next.client;
+      low = next.low;
+      next = let number = h.guarded.numbers r.tx.dot.client in let le = next.next in omega (arith, number, le);
+      few = next.few;
+    }
+
+-- and which is new
+pub fresh_after : (n : ℕ) (x : AppliedView) (A : List Record) (r : Record) → IsApplied n x A → is_fresh x r ≡ is_new A r
+fresh_after n x A r h = ap (λ m. r.tx.dot.number == m + 1) (h.guarded.numbers r.tx.dot.client)
+
+module _ (n : ℕ) (A : List Record) (r : Record) (next : IsAfter n A r) (there : (d : Dot) → 1 ≤ d.number → d.number ≤ guard d.client A → has d (dots_of A) ≡ true) where
   -- the dot of a record that is not new is there
-  known_dot : (fresh : Bool) → fresh ≡ is_fresh A r → fresh ≡ false → has r.tx.dot (dots_of A) ≡ true
+  known_dot : (fresh : Bool) → fresh ≡ is_new A r → fresh ≡ false → has r.tx.dot (dots_of A) ≡ true
   known_dot fresh is f =
       let apart : r.tx.dot.number ≢ guard r.tx.dot.client A + 1 = λ e. false≢true (sym f ∙ (is ∙ eq-eqb _ _ e)) in
       there r.tx.dot next.low (let le = next.next in omega (arith, apart, le))
 
-  fresh_number : (fresh : Bool) → fresh ≡ is_fresh A r → fresh ≡ true → r.tx.dot.number ≡ guard r.tx.dot.client A + 1
+  fresh_number : (fresh : Bool) → fresh ≡ is_new A r → fresh ≡ true → r.tx.dot.number ≡ guard r.tx.dot.client A + 1
   fresh_number fresh is t = eqb-true _ _ (sym is ∙ t)
 
   -- the dot of a new one is not
-  fresh_dot : (fresh : Bool) → fresh ≡ is_fresh A r → fresh ≡ true → has r.tx.dot (dots_of A) ≡ false
+  fresh_dot : (fresh : Bool) → fresh ≡ is_new A r → fresh ≡ true → has r.tx.dot (dots_of A) ≡ false
   fresh_dot fresh is t = new_dot r.tx.dot A (let e = fresh_number fresh is t in omega (arith, e))
 
-  low_number : (fresh : Bool) → fresh ≡ is_fresh A r → fresh ≡ false → r.tx.dot.number ≤ guard r.tx.dot.client A
+  low_number : (fresh : Bool) → fresh ≡ is_new A r → fresh ≡ false → r.tx.dot.number ≤ guard r.tx.dot.client A
   low_number fresh is f =
       let apart : r.tx.dot.number ≢ guard r.tx.dot.client A + 1 = λ e. false≢true (sym f ∙ (is ∙ eq-eqb _ _ e)) in
       let le = next.next in omega (arith, apart, le)
@@ -145,7 +181,7 @@ module _ (n : ℕ) (A : List Record) (r : Record) (next : IsNext n A r) (there :
           last is (subst (λ g. d.number ≤ g) (guard_same d.client A r is) high) (⊎_elim (λ lt. inr lt) (λ le. inl le) (cases_lt (guard d.client A) d.number))
       go (inr f) = before (subst (λ g. d.number ≤ g) (guard_other d.client A r f) high)
 
-  guarded_more : (fresh : Bool) (old new : List Last) → fresh ≡ is_fresh A r → IsGuard A old → Noted A r fresh old new → IsGuard (A ++ r ∷ []) new
+  guarded_more : (fresh : Bool) (old new : List Last) → fresh ≡ is_new A r → IsGuard A old → Noted r fresh old new → IsGuard (A ++ r ∷ []) new
   guarded_more fresh old new is g h = record { numbers = numbers; stamps = λ c low. stamps c low (cases_Bool fresh) (cases_Bool (r.tx.dot.client == c)) }
     where
       numbers : (c : ℕ) → number_of new c ≡ guard c (A ++ r ∷ [])
@@ -183,133 +219,117 @@ module _ (n : ℕ) (A : List Record) (r : Record) (next : IsNext n A r) (there :
           kept c (omega (arith, le, more, g)) low (h.others c (λ t. absurd (false≢true (sym f ∙ t))))
       stamps c low (inr f) (inr else) = kept c (guard_other c A r else) low (h.others c (λ t. absurd (false≢true (sym f ∙ t))))
 
-  dotted_more : (old new : List (List (List Stamp))) → IsDots A old → Added r old new → IsDots (A ++ r ∷ []) new
-  dotted_more old new g h = record { stamps = λ d. stamps d (cases_Bool (same_dot r.tx.dot d)); counts = counts }
-    where
-      stamps : (d : Dot) → (same_dot r.tx.dot d ≡ true) ⊎ (same_dot r.tx.dot d ≡ false) → stamps_at new d ≡ stamps_of d (A ++ r ∷ [])
-      stamps d (inl t) =
-          let same : r.tx.dot ≡ d = same_dot-true r.tx.dot d t in
-          let here : stamps_at new d ≡ stamps_at old d ++ r.stamp ∷ [] = subst (λ d. stamps_at new d ≡ stamps_at old d ++ r.stamp ∷ []) same h.here in
-          here ∙ (ap (λ l. l ++ r.stamp ∷ []) (g.stamps d) ∙ sym (stamps_here d A r t))
-      stamps d (inr f) = h.others d (λ e. false≢true (sym f ∙ same_dot-same r.tx.dot d (sym e))) ∙ (g.stamps d ∙ sym (stamps_else d A r f))
-
-      counts : (c : ℕ) → length (of_client new c) ≡ guard c (A ++ r ∷ [])
-      counts c =
-          let is = h.counts c in
-          let was = g.counts c in
-          let turn : cond (c == r.tx.dot.client) r.tx.dot.number 0 ≡ cond (r.tx.dot.client == c) r.tx.dot.number 0 = ap (λ b. cond b r.tx.dot.number 0) (eqb_turn c r.tx.dot.client) in
-          let more = guard_more c A r in
-          omega (arith, is, was, turn, more)
-
-  first_more : (fresh : Bool) (held : List Held) → fresh ≡ is_fresh A r → records_of (filter (λ h. h.fresh) held) ≡ firsts A → records_of (filter (λ h. h.fresh) (held ++ record { item = r; fresh = fresh } ∷ [])) ≡ firsts (A ++ r ∷ [])
-  first_more fresh held is was = grown held ∙ (ap (λ l. l ++ cond fresh (r ∷ []) []) was ∙ (ap (λ l. firsts A ++ l) (same (cases_Bool fresh)) ∙ sym (firsts_more A r)))
-    where
-      grown : (held : List Held) → records_of (filter (λ h. h.fresh) (held ++ record { item = r; fresh = fresh } ∷ [])) ≡ records_of (filter (λ h. h.fresh) held) ++ cond fresh (r ∷ []) []
-      grown [] = ⊎_elim (λ t. rw t refl) (λ f. rw f refl) (cases_Bool fresh)
-      grown (h ∷ held) = ⊎_elim (λ t. rw t (ap (λ l. h.item ∷ l) (grown held))) (λ f. rw f (grown held)) (cases_Bool h.fresh)
-
-      same : (fresh ≡ true) ⊎ (fresh ≡ false) → cond fresh (r ∷ []) [] ≡ cond (has r.tx.dot (dots_of A)) [] (r ∷ [])
-      same (inl t) = rw (t, fresh_dot fresh is t) refl
-      same (inr f) = rw (f, known_dot fresh is f) refl
-
 count_grows : (e : ℕ) (A : List Record) (r : Record) → count e A ≤ count e (A ++ r ∷ [])
 count_grows e A r = let more = count_more e A r in omega (arith, more)
 
 -- each stamp up to the counts is there
-placed_more : (n : ℕ) (A : List Record) (r : Record) → IsNext n A r → ((e k : ℕ) → 1 ≤ k → k ≤ count e A → (q : Record) × In q A × (q.stamp ≡ record { centre = e; seq = k })) → (e k : ℕ) → 1 ≤ k → k ≤ count e (A ++ r ∷ []) → (q : Record) × In q (A ++ r ∷ []) × (q.stamp ≡ record { centre = e; seq = k })
+placed_more : (n : ℕ) (A : List Record) (r : Record) → IsAfter n A r → ((e k : ℕ) → 1 ≤ k → k ≤ count e A → IsPlaced A e k) → (e k : ℕ) → 1 ≤ k → k ≤ count e (A ++ r ∷ []) → IsPlaced (A ++ r ∷ []) e k
 placed_more n A r next placed e k low high = go (cases_lt (count e A) k) (cases_Bool (r.stamp.centre == e))
   where
-    go : (count e A < k) ⊎ (k ≤ count e A) → ((r.stamp.centre == e) ≡ true) ⊎ ((r.stamp.centre == e) ≡ false) → (q : Record) × In q (A ++ r ∷ []) × (q.stamp ≡ record { centre = e; seq = k })
-    go (inr le) _ = let p = placed e k low le in (p.0, In_left A (r ∷ []) p.0 p.1, p.2)
+    go : (count e A < k) ⊎ (k ≤ count e A) → ((r.stamp.centre == e) ≡ true) ⊎ ((r.stamp.centre == e) ≡ false) → IsPlaced (A ++ r ∷ []) e k
+    go (inr le) _ = let p = placed e k low le in record { item = p.item; there = In_left A (r ∷ []) p.item p.there; stamp_is = p.stamp_is }
     go (inl lt) (inl t) =
         let more : count e (A ++ r ∷ []) ≡ count e A + 1 = count_more e A r ∙ ap (λ b. count e A + cond b 1 0) t in
         let same : r.stamp.centre ≡ e = eqb-true _ _ t in
         let counts : count r.stamp.centre A ≡ count e A = ap (λ e. count e A) same in
         let seq = next.seq in
         let number : r.stamp.seq ≡ k = omega (arith, more, lt, high, counts, seq) in
-        (r, In_right A (r ∷ []) r (inl refl), λ i. record { centre = same i; seq = number i })
+        record { item = r; there = In_right A (r ∷ []) r (inl refl); stamp_is = λ i. record { centre = same i; seq = number i } }
     go (inl lt) (inr f) =
         let more : count e (A ++ r ∷ []) ≡ count e A + 0 = count_more e A r ∙ ap (λ b. count e A + cond b 1 0) f in
         absurd (omega (arith, more, lt, high))
 
 -- and no other
-ranged_more : (n : ℕ) (A : List Record) (r : Record) → IsNext n A r → ((q : Record) → In q A → (1 ≤ q.stamp.centre) × (q.stamp.centre ≤ n) × (1 ≤ q.stamp.seq) × (q.stamp.seq ≤ count q.stamp.centre A)) → (q : Record) → In q (A ++ r ∷ []) → (1 ≤ q.stamp.centre) × (q.stamp.centre ≤ n) × (1 ≤ q.stamp.seq) × (q.stamp.seq ≤ count q.stamp.centre (A ++ r ∷ []))
+ranged_more : (n : ℕ) (A : List Record) (r : Record) → IsAfter n A r → ((q : Record) → In q A → IsRanged n A q) → (q : Record) → In q (A ++ r ∷ []) → IsRanged n (A ++ r ∷ []) q
 ranged_more n A r next ranged q i = ⊎_elim before (λ here. ⊎_elim last (λ none. absurd none) here) (In_either A (r ∷ []) q i)
   where
-    before : In q A → (1 ≤ q.stamp.centre) × (q.stamp.centre ≤ n) × (1 ≤ q.stamp.seq) × (q.stamp.seq ≤ count q.stamp.centre (A ++ r ∷ []))
-    before b = let h = ranged q b in (h.0, h.1, h.2, (let le = h.3 in let grows = count_grows q.stamp.centre A r in omega (arith, le, grows)))
+    before : In q A → IsRanged n (A ++ r ∷ []) q
+    before b = let h = ranged q b in record { centre = h.centre; low = h.low; high = let le = h.high in let grows = count_grows q.stamp.centre A r in omega (arith, le, grows) }
 
-    own : (1 ≤ r.stamp.centre) × (r.stamp.centre ≤ n) × (1 ≤ r.stamp.seq) × (r.stamp.seq ≤ count r.stamp.centre (A ++ r ∷ []))
+    own : IsRanged n (A ++ r ∷ []) r
     own =
         let seq = next.seq in
         let more : count r.stamp.centre (A ++ r ∷ []) ≡ count r.stamp.centre A + 1 = count_more r.stamp.centre A r ∙ ap (λ b. count r.stamp.centre A + cond b 1 0) (eq-eqb r.stamp.centre r.stamp.centre refl) in
-        (next.centre.0, next.centre.1, omega (arith, seq), omega (arith, seq, more))
+        record { centre = record { low = next.centre.0; high = next.centre.1 }; low = omega (arith, seq); high = omega (arith, seq, more) }
 
-    last : q ≡ r → (1 ≤ q.stamp.centre) × (q.stamp.centre ≤ n) × (1 ≤ q.stamp.seq) × (q.stamp.seq ≤ count q.stamp.centre (A ++ r ∷ []))
-    last same = subst (λ q. (1 ≤ q.stamp.centre) × (q.stamp.centre ≤ n) × (1 ≤ q.stamp.seq) × (q.stamp.seq ≤ count q.stamp.centre (A ++ r ∷ []))) (sym same) own
+    last : q ≡ r → IsRanged n (A ++ r ∷ []) q
+    last same = subst (λ q. IsRanged n (A ++ r ∷ []) q) (sym same) own
 
--- what is kept beside the applied list, with a record more
-abbrev pub more_kept : Index → Record → Bool → List Last → List (List (List Stamp)) → Index
-more_kept x r fresh lasts dots = record { counts = raised x.counts r.stamp; lasts = lasts; dots = dots; greatest = max r.tx.rank x.greatest; held = x.held ++ record { item = r; fresh = fresh } ∷ [] }
+-- ---- what is kept with one record more
+
+-- a stamp past the counts is past what they cover
+stamp_out : (counts base : List ℕ) (s : Stamp) → Covers counts base → s.seq ≡ at counts s.centre + 1 → within s base ≡ false
+stamp_out counts base s covers seq = false_from_ne_true (within s base) (λ t. let le = leb-true s.seq (at base s.centre) t in let high = covers.holds s.centre in absurd (omega (arith, le, high, seq)))
+
+-- the dot of a new record is not in the log
+pub not_logged : (n : ℕ) (x : AppliedView) (A : List Record) (r : Record) → IsApplied n x A → IsNext x r → is_fresh x r ≡ true → has_dot r.tx.dot x.log.items ≡ false
+not_logged n x A r h next fresh = new_stands A x.point x.log h.stored r.tx.dot (fresh_dot n A r (next_after n x A r h next) h.there (is_fresh x r) (fresh_after n x A r h) fresh)
+
+-- what is kept, with a record more
+abbrev pub more_kept : AppliedView → Record → Bool → List Last → AppliedView
+more_kept x r fresh lasts = record { counts = raised x.counts r.stamp; lasts = lasts; greatest = max r.tx.rank x.greatest; point = x.point; log = with_one x.log r fresh }
 
 -- it is what is to be kept then
-pub applied_more : (n : ℕ) (x : Index) (lasts : List Last) (dots : List (List (List Stamp))) (A : List Record) (r : Record) (fresh : Bool) → IsApplied n x A → IsNext n A r → fresh ≡ is_fresh A r → Noted A r fresh x.lasts lasts → Added r x.dots dots → IsApplied n (more_kept x r fresh lasts dots) (A ++ r ∷ [])
-applied_more n x lasts dots A r fresh h next is noted added = record {
+pub applied_more : (n : ℕ) (x : AppliedView) (lasts : List Last) (A : List Record) (r : Record) → IsApplied n x A → IsNext x r → Noted r (is_fresh x r) x.lasts lasts → IsApplied n (more_kept x r (is_fresh x r) lasts) (A ++ r ∷ [])
+applied_more n x lasts A r h is noted =
+    let next = next_after n x A r h is in
+    let fresh = fresh_after n x A r h in
+    record {
+      width = h.width;
+      wide = length-raised x.counts r.stamp ∙ h.wide;
+      based = h.based;
+      counted = counted_more n x.counts A r h.counted next.seq;
+      guarded = guarded_more n A r next h.there (is_fresh x r) x.lasts lasts fresh h.guarded noted;
+      ranked = let t = top_more A r in let g = h.ranked in omega (arith, t, g);
+      stored = kept_stands A x.point x.log h.stored r (is_fresh x r) (stamp_out x.counts x.point.vector r.stamp h.within is.seq) (λ t. fresh_dot n A r next h.there (is_fresh x r) fresh t) (λ f. known_dot n A r next h.there (is_fresh x r) fresh f);
+      within = Covers_trans (raised x.counts r.stamp) x.counts x.point.vector (Covers-join_left x.counts _) h.within;
+      there = there_more n A r next h.there;
+      updates = All-push (λ (q : Record). HasFewUpdates q.tx) A r h.updates (record { few = next.few });
+      placed = placed_more n A r next h.placed;
+      ranged = ranged_more n A r next h.ranged;
+    }
+
+-- ---- what is kept once more is folded
+
+pub applied_pruned : (n : ℕ) (x : AppliedView) (point : PointView) (log : LogView) (A : List Record) → IsApplied n x A → length point.vector ≡ length x.counts → Covers x.counts point.vector → StandFor A point log → IsApplied n (record x { point = point; log = log }) A
+applied_pruned n x point log A h based within stored = record {
   width = h.width;
-  wide = length-raised x.counts r.stamp ∙ h.wide;
-  counted = counted_more n x.counts A r h.counted next.seq;
-  guarded = guarded_more n A r next h.there fresh x.lasts lasts is h.guarded noted;
-  dotted = dotted_more n A r next h.there x.dots dots h.dotted added;
-  ranked = let t = top_more A r in let g = h.ranked in omega (arith, t, g);
-  first = first_more n A r next h.there fresh x.held is h.first;
-  there = there_more n A r next h.there;
-  stamps = All-append (IsStamped n) A (r ∷ []) h.stamps (All-cons (IsStamped n) r [] (record { low = next.centre.0; high = next.centre.1 }) (All-nil (IsStamped n)));
-  updates = All-append HasFewUpdates A (r ∷ []) h.updates (All-cons HasFewUpdates r [] (record { few = next.few }) (All-nil HasFewUpdates));
-  placed = placed_more n A r next h.placed;
-  ranged = ranged_more n A r next h.ranged;
+  wide = h.wide;
+  based = based ∙ h.wide;
+  counted = h.counted;
+  guarded = h.guarded;
+  ranked = h.ranked;
+  stored = stored;
+  within = within;
+  there = h.there;
+  updates = h.updates;
+  placed = h.placed;
+  ranged = h.ranged;
 }
 
--- ---- the state at a vector
+-- the transactions of the log have few updates
+pub few_logged : (n : ℕ) (x : AppliedView) (A : List Record) → IsApplied n x A → All (λ (l : Logged). HasFewUpdates l.tx) x.log.items
+few_logged n x A h = In-All (λ (l : Logged). HasFewUpdates l.tx) x.log.items (λ l i.
+    let from = (known_stands A x.point x.log h.stored l i).0 in
+    subst HasFewUpdates (sym from.2) (All-In (λ (r : Record). HasFewUpdates r.tx) A from.0 h.updates from.1))
 
-fold_firsts : (o : ObjectId) (q : Record → Bool) (held : List Held) → flat_map (λ h. ops_of o h.item.tx) (filter (λ h. h.fresh && q h.item) held) ≡ flat_map (λ r. ops_of o r.tx) (filter q (records_of (filter (λ h. h.fresh) held)))
-fold_firsts o q [] = refl
-fold_firsts o q (h ∷ held) = go (fold_firsts o q held) (cases_Bool h.fresh) (cases_Bool (q h.item))
-  where
-    go : flat_map (λ h. ops_of o h.item.tx) (filter (λ h. h.fresh && q h.item) held) ≡ flat_map (λ r. ops_of o r.tx) (filter q (records_of (filter (λ h. h.fresh) held))) → (h.fresh ≡ true) ⊎ (h.fresh ≡ false) → (q h.item ≡ true) ⊎ (q h.item ≡ false) → flat_map (λ h. ops_of o h.item.tx) (filter (λ h. h.fresh && q h.item) (h ∷ held)) ≡ flat_map (λ r. ops_of o r.tx) (filter q (records_of (filter (λ h. h.fresh) (h ∷ held))))
-    go rest (inl t) (inl i) = rw (t, i) (ap (λ l. ops_of o h.item.tx ++ l) rest)
-    go rest (inl t) (inr e) = rw (t, e) rest
-    go rest (inr f) _ = rw f rest
-
--- the fold over what is kept is the state that is defined
-pub fold_within_is : (o : ObjectId) (w : List ℕ) (dots : List (List (List Stamp))) (held : List Held) (A : List Record) → IsDots A dots → records_of (filter (λ h. h.fresh) held) ≡ firsts A → fold_within o w dots held ≡ state_at o A w
-fold_within_is o w dots held A d first =
-    ap (λ ops. fold_of (empty_of o.sort) ops)
-    (fold_firsts o (λ r. is_any_within w (stamps_at dots r.tx.dot)) held
-    ∙ (ap (λ B. flat_map (λ r. ops_of o r.tx) (filter (λ r. is_any_within w (stamps_at dots r.tx.dot)) B)) first
-    ∙ ap (λ B. flat_map (λ r. ops_of o r.tx) B) (filter-agree (λ r. is_any_within w (stamps_at dots r.tx.dot)) (λ r. has r.tx.dot (inside A w)) (firsts A) (λ r i. ap (λ l. is_any_within w l) (d.stamps r.tx.dot) ∙ any_inside w r.tx.dot A))))
-
--- all stamps that are kept are of the centres
-pub dots_range : (n : ℕ) (dots : List (List (List Stamp))) (A : List Record) → IsDots A dots → All (IsStamped n) A → (d : Dot) → All (IsCentreOf n) (stamps_at dots d)
-dots_range n dots A is all d = subst (λ l. All (IsCentreOf n) l) (sym (is.stamps d)) (stamps_range n d A all)
-
--- what holds of the records that are held, held by held
-pub each_held : (P : Record → Type 0) (held : List Held) → All P (records_of held) → All (λ h. P h.item) held
-each_held P [] all = All-nil (λ h. P h.item)
-each_held P (h ∷ held) all = All-cons (λ h. P h.item) h held (All-head P h.item (records_of held) all) (each_held P held (All-tail P h.item (records_of held) all))
+-- ---- stamps
 
 -- a stamp is there exactly where it is within the counts
-pub has_within : (n : ℕ) (x : Index) (A : List Record) (s : Stamp) → IsApplied n x A → 1 ≤ s.centre → s.centre ≤ n → 1 ≤ s.seq → s.seq ≤ at x.counts s.centre → (r : Record) × In r A × (r.stamp ≡ s)
+pub has_within : (n : ℕ) (x : AppliedView) (A : List Record) (s : Stamp) → IsApplied n x A → 1 ≤ s.centre → s.centre ≤ length x.counts → 1 ≤ s.seq → s.seq ≤ at x.counts s.centre → (r : Record) × In r A × (r.stamp ≡ s)
 has_within n x A s h low high one le =
-    let is = at-vector n s.centre x.counts A h.counted low high in
+    let wide = h.wide in
+    let is = at-vector n s.centre x.counts A h.counted low (omega (arith, wide, high)) in
     let p = h.placed s.centre s.seq one (omega (arith, le, is)) in
-    (p.0, p.1, p.2)
+    (p.item, p.there, p.stamp_is)
 
-pub within_has : (n : ℕ) (x : Index) (A : List Record) (s : Stamp) → IsApplied n x A → (r : Record) × In r A × (r.stamp ≡ s) → (1 ≤ s.centre) × (s.centre ≤ n) × (1 ≤ s.seq) × (s.seq ≤ at x.counts s.centre)
+pub within_has : (n : ℕ) (x : AppliedView) (A : List Record) (s : Stamp) → IsApplied n x A → (r : Record) × In r A × (r.stamp ≡ s) → (1 ≤ s.centre) × (s.centre ≤ length x.counts) × (1 ≤ s.seq) × (s.seq ≤ at x.counts s.centre)
 within_has n x A s h there =
     let p = h.ranged there.0 there.1 in
-    let q : (1 ≤ s.centre) × (s.centre ≤ n) × (1 ≤ s.seq) × (s.seq ≤ count s.centre A) = subst (λ s. (1 ≤ s.centre) × (s.centre ≤ n) × (1 ≤ s.seq) × (s.seq ≤ count s.centre A)) there.2 p in
+    let q : (1 ≤ s.centre) × (s.centre ≤ n) × (1 ≤ s.seq) × (s.seq ≤ count s.centre A) = subst (λ s. (1 ≤ s.centre) × (s.centre ≤ n) × (1 ≤ s.seq) × (s.seq ≤ count s.centre A)) there.2 (p.centre.low, p.centre.high, p.low, p.high) in
     let is = at-vector n s.centre x.counts A h.counted q.0 q.1 in
-    (q.0, q.1, q.2, (let le = q.3 in omega (arith, le, is)))
+    let wide = h.wide in
+    (q.0, (let high = q.1 in omega (arith, wide, high)), q.2, (let le = q.3 in omega (arith, le, is)))
 
 -- where there is a stamp, there is a number
 stamped_number : (last : Option Last) (s : Stamp) → stamp_in last ≡ Some s → 1 ≤ number_in last
@@ -321,31 +341,22 @@ stamped_number (Some last) s is = go (cases_Bool (last.number == 0))
     go (inr f) = let apart : last.number ≢ 0 = λ e. false≢true (sym f ∙ eq-eqb last.number 0 e) in omega (arith, apart)
 
 -- the stamp that the filter of duplicates has is of one of the centres
-pub guard_stamp_range : (n : ℕ) (x : Index) (A : List Record) (client : ℕ) (s : Stamp) → IsApplied n x A → stamp_of x.lasts client ≡ Some s → IsCentreOf n s
+pub guard_stamp_range : (n : ℕ) (x : AppliedView) (A : List Record) (client : ℕ) (s : Stamp) → IsApplied n x A → stamp_of x.lasts client ≡ Some s → IsCentreOf n s
 guard_stamp_range n x A client s h is =
     let number = h.guarded.numbers client in
     let some = stamped_number (last_at x.lasts client) s is in
     let low : 1 ≤ guard client A = omega (arith, number, some) in
-    first_stamp_range n (record { client = client; number = guard client A }) A s h.stamps (sym (h.guarded.stamps client low) ∙ is)
+    first_stamp_range n (record { client = client; number = guard client A }) A s (λ r i. (h.ranged r i).centre) (sym (h.guarded.stamps client low) ∙ is)
 
 -- where every number is known or the next, one that was not seen is the next
-pub fresh_is : (seen : Bool) (last : ℕ) (A : List Record) (r : Record) → (IsTrue seen ↔ (r.tx.dot.number ≤ last)) → last ≡ guard r.tx.dot.client A → r.tx.dot.number ≤ guard r.tx.dot.client A + 1 → not seen ≡ is_fresh A r
-fresh_is true last A r seen is next = go (cases_Bool (is_fresh A r))
+pub fresh_is : (seen : Bool) (x : AppliedView) (r : Record) → (IsTrue seen ↔ (r.tx.dot.number ≤ number_of x.lasts r.tx.dot.client)) → r.tx.dot.number ≤ number_of x.lasts r.tx.dot.client + 1 → not seen ≡ is_fresh x r
+fresh_is true x r seen next = go (cases_Bool (is_fresh x r))
   where
-    go : (is_fresh A r ≡ true) ⊎ (is_fresh A r ≡ false) → false ≡ is_fresh A r
-    go (inl t) = let same = eqb-true r.tx.dot.number (guard r.tx.dot.client A + 1) t in let le = seen.0 refl in absurd (omega (arith, le, same, is))
+    go : (is_fresh x r ≡ true) ⊎ (is_fresh x r ≡ false) → false ≡ is_fresh x r
+    go (inl t) = let same = eqb-true r.tx.dot.number (number_of x.lasts r.tx.dot.client + 1) t in let le = seen.0 refl in absurd (omega (arith, le, same))
     go (inr f) = sym f
-fresh_is false last A r seen is next = go (cases_lt last r.tx.dot.number)
+fresh_is false x r seen next = go (cases_lt (number_of x.lasts r.tx.dot.client) r.tx.dot.number)
   where
-    go : (last < r.tx.dot.number) ⊎ (r.tx.dot.number ≤ last) → true ≡ is_fresh A r
-    go (inl lt) = sym (eq-eqb r.tx.dot.number (guard r.tx.dot.client A + 1) (omega (arith, lt, is, next)))
+    go : (number_of x.lasts r.tx.dot.client < r.tx.dot.number) ⊎ (r.tx.dot.number ≤ number_of x.lasts r.tx.dot.client) → true ≡ is_fresh x r
+    go (inl lt) = sym (eq-eqb r.tx.dot.number (number_of x.lasts r.tx.dot.client + 1) (omega (arith, lt, next)))
     go (inr le) = absurd (false≢true (seen.1 le))
-
--- all that is kept, once a record was put at its end
-pub applied_pushed : (x y : Index) (r : Record) (fresh : Bool) → IsApplied (length x.counts) x (records_of x.held) → IsNext (length x.counts) (records_of x.held) r → fresh ≡ is_fresh (records_of x.held) r → Noted (records_of x.held) r fresh x.lasts y.lasts → Added r x.dots y.dots → y ≡ more_kept x r fresh y.lasts y.dots → IsApplied (length y.counts) y (records_of y.held)
-applied_pushed x y r fresh h next is noted added pushed =
-    let more = more_kept x r fresh y.lasts y.dots in
-    let made = applied_more (length x.counts) x y.lasts y.dots (records_of x.held) r fresh h next is noted added in
-    let wide : length (raised x.counts r.stamp) ≡ length x.counts = length-raised x.counts r.stamp in
-    let placed : IsApplied (length x.counts) more (records_of more.held) = subst (λ A. IsApplied (length x.counts) more A) (sym (map_push (λ (h : Held). h.item) x.held (record { item = r; fresh = fresh }))) made in
-    subst (λ (z : Index). IsApplied (length z.counts) z (records_of z.held)) (sym pushed) (subst (λ n. IsApplied n more (records_of more.held)) (sym wide) placed)

@@ -1,19 +1,18 @@
--- The dots of records: which are there, which come first, and with which stamps.
+-- The dots of records: which are there, and with which stamp they came first.
 use Rattle.std.proofs.Common.{◌≡◌, ◌<◌, ℕ, max, Bool, true, false, cond, ◌||◌, ◌⊎◌, inl, inr, ⊎_elim, List, [], ◌∷◌, ◌++◌, Some, refl, sym, ap, ◌∙◌, subst, arith}
-use Rattle.std.specs.Prelude.{◌==◌, All}
+use Rattle.std.specs.Prelude.{◌==◌}
 use Rattle.std.proofs.lemmas.Bool.{cases_Bool, false≢true}
 use Rattle.std.proofs.lemmas.Bool.Decides.{Decides-eqb}
-use Rattle.std.proofs.lemmas.List.Elements.{All-nil, All-cons, All-head, All-tail}
 use Rattle.std.proofs.lemmas.Option.{none-some, same_Some}
+use Rattle.list_core.specs.Members.{In}
 use Rattle.ids_core.specs.declared.ids.Dot.{Dot}
 use Rattle.ids_core.specs.Ids.{same_dot}
 use Rattle.ids_core.specs.Same.{same_dot-true, same_dot-same}
 use Rattle.vv_core.specs.declared.stamp.Stamp.{Stamp}
-use Rattle.vv_core.specs.Vectors.{within}
 use Rattle.tx_core.specs.declared.tx.Record.{Record}
-use Rattle.dc_talk.specs.Records.{has, inside, firsts, firsts_past, guard, first_stamp}
-use Rattle.dc_centre.specs.Dots.{stamps_of, is_any_within, IsCentreOf}
-use Rattle.dc_centre.specs.Applied.{dots_of, IsStamped}
+use Rattle.dc_talk.specs.Records.{has, guard, first_stamp}
+use Rattle.point_law.specs.Splits.{dots_of}
+use Rattle.dc_centre.specs.Applied.{IsCentreOf}
 
 -- ---- booleans
 
@@ -87,89 +86,15 @@ first_new d (q ∷ A) r h s =
     let parts = or_false (same_dot d q.tx.dot) (has d (dots_of A)) h in
     rw (turned d q.tx.dot parts.0) (first_new d A r parts.1 s)
 
-first_or_later : (n : ℕ) (d : Dot) (r : Record) (A : List Record) (s : Stamp) → All (IsStamped n) (r ∷ A) → first_stamp d (r ∷ A) ≡ Some s → (first_stamp d A ≡ Some s → IsCentreOf n s) → IsCentreOf n s
-first_or_later n d r A s all is later = go (cases_Bool (same_dot r.tx.dot d))
+-- the first stamp of a dot is that of a record
+first_stamp_there : (d : Dot) (A : List Record) (s : Stamp) → first_stamp d A ≡ Some s → (r : Record) × In r A × (r.stamp ≡ s)
+first_stamp_there d [] s is = absurd (none-some s is)
+first_stamp_there d (r ∷ A) s is = go (λ later. first_stamp_there d A s later) (cases_Bool (same_dot r.tx.dot d))
   where
-    go : (same_dot r.tx.dot d ≡ true) ⊎ (same_dot r.tx.dot d ≡ false) → IsCentreOf n s
-    go (inl t) =
-        let here : r.stamp ≡ s = same_Some r.stamp s (rw t at is) in
-        subst (λ s. IsCentreOf n s) here (All-head (IsStamped n) r A all)
-    go (inr f) = later (rw f at is)
+    go : (first_stamp d A ≡ Some s → (q : Record) × In q A × (q.stamp ≡ s)) → (same_dot r.tx.dot d ≡ true) ⊎ (same_dot r.tx.dot d ≡ false) → (q : Record) × In q (r ∷ A) × (q.stamp ≡ s)
+    go rest (inl t) = (r, inl refl, same_Some r.stamp s (rw t at is))
+    go rest (inr f) = let later = rest (rw f at is) in (later.0, inr later.1, later.2)
 
--- the first stamp of a dot is of one of the centres
-pub first_stamp_range : (n : ℕ) (d : Dot) (A : List Record) (s : Stamp) → All (IsStamped n) A → first_stamp d A ≡ Some s → IsCentreOf n s
-first_stamp_range n d [] s all is = absurd (none-some s is)
-first_stamp_range n d (r ∷ A) s all is = first_or_later n d r A s all is (λ later. first_stamp_range n d A s (All-tail (IsStamped n) r A all) later)
-
--- ---- all stamps
-
--- a record of the dot adds its stamp
-pub stamps_here : (d : Dot) (A : List Record) (r : Record) → same_dot r.tx.dot d ≡ true → stamps_of d (A ++ r ∷ []) ≡ stamps_of d A ++ r.stamp ∷ []
-stamps_here d [] r h = rw h refl
-stamps_here d (q ∷ A) r h =
-    ⊎_elim
-    (λ t. rw t (ap (λ l. q.stamp ∷ l) (stamps_here d A r h)))
-    (λ f. rw f (stamps_here d A r h))
-    (cases_Bool (same_dot q.tx.dot d))
-
--- a record of another dot adds nothing
-pub stamps_else : (d : Dot) (A : List Record) (r : Record) → same_dot r.tx.dot d ≡ false → stamps_of d (A ++ r ∷ []) ≡ stamps_of d A
-stamps_else d [] r h = rw h refl
-stamps_else d (q ∷ A) r h =
-    ⊎_elim
-    (λ t. rw t (ap (λ l. q.stamp ∷ l) (stamps_else d A r h)))
-    (λ f. rw f (stamps_else d A r h))
-    (cases_Bool (same_dot q.tx.dot d))
-
--- they are of the centres
-pub stamps_range : (n : ℕ) (d : Dot) (A : List Record) → All (IsStamped n) A → All (IsCentreOf n) (stamps_of d A)
-stamps_range n d [] all = All-nil (IsCentreOf n)
-stamps_range n d (r ∷ A) all =
-    let rest = stamps_range n d A (All-tail (IsStamped n) r A all) in
-    ⊎_elim
-    (λ t. rw t (All-cons (IsCentreOf n) r.stamp (stamps_of d A) (All-head (IsStamped n) r A all) rest))
-    (λ f. rw f rest)
-    (cases_Bool (same_dot r.tx.dot d))
-
--- a dot is inside a vector exactly where one of its stamps is within it
-pub any_inside : (w : List ℕ) (d : Dot) (A : List Record) → is_any_within w (stamps_of d A) ≡ has d (inside A w)
-any_inside w d [] = refl
-any_inside w d (r ∷ A) = go (any_inside w d A) (cases_Bool (same_dot r.tx.dot d)) (cases_Bool (within r.stamp w))
-  where
-    go : is_any_within w (stamps_of d A) ≡ has d (inside A w) → (same_dot r.tx.dot d ≡ true) ⊎ (same_dot r.tx.dot d ≡ false) → (within r.stamp w ≡ true) ⊎ (within r.stamp w ≡ false) → is_any_within w (stamps_of d (r ∷ A)) ≡ has d (inside (r ∷ A) w)
-    go rest (inl t) (inl i) = rw (t, i, turned_same r.tx.dot d t) refl
-    go rest (inl t) (inr o) = rw (t, o) rest
-    go rest (inr f) (inl i) = rw (f, i, turned r.tx.dot d f) rest
-    go rest (inr f) (inr o) = rw (f, o) rest
-
--- ---- the first record of each dot
-
-first_past_seen : (seen : List Dot) (q r : Dot) → has q seen ≡ true → same_dot r q ≡ true → has r seen ≡ true
-first_past_seen seen q r h s = ap (λ d. has d seen) (same_dot-true r q s) ∙ h
-
-or_mid : (a b c : Bool) → (b ≡ true → a ≡ true) → (a || c) ≡ (a || (b || c))
-or_mid true b c h = refl
-or_mid false true c h = absurd (false≢true (h refl))
-or_mid false false c h = refl
-
-or_turn : (a b c : Bool) → ((b || a) || c) ≡ (a || (b || c))
-or_turn true true c = refl
-or_turn true false c = refl
-or_turn false true c = refl
-or_turn false false c = refl
-
-or_nothing : (a : Bool) → a ≡ (a || false)
-or_nothing true = refl
-or_nothing false = refl
-
-firsts_past_more : (seen : List Dot) (A : List Record) (r : Record) → firsts_past seen (A ++ r ∷ []) ≡ firsts_past seen A ++ cond (has r.tx.dot seen || has r.tx.dot (dots_of A)) [] (r ∷ [])
-firsts_past_more seen [] r = ap (λ b. cond b [] (r ∷ [])) (or_nothing (has r.tx.dot seen))
-firsts_past_more seen (q ∷ A) r = go (firsts_past_more seen A r) (firsts_past_more (q.tx.dot ∷ seen) A r) (cases_Bool (has q.tx.dot seen))
-  where
-    go : firsts_past seen (A ++ r ∷ []) ≡ firsts_past seen A ++ cond (has r.tx.dot seen || has r.tx.dot (dots_of A)) [] (r ∷ []) → firsts_past (q.tx.dot ∷ seen) (A ++ r ∷ []) ≡ firsts_past (q.tx.dot ∷ seen) A ++ cond (has r.tx.dot (q.tx.dot ∷ seen) || has r.tx.dot (dots_of A)) [] (r ∷ []) → (has q.tx.dot seen ≡ true) ⊎ (has q.tx.dot seen ≡ false) → firsts_past seen (q ∷ (A ++ r ∷ [])) ≡ firsts_past seen (q ∷ A) ++ cond (has r.tx.dot seen || (same_dot r.tx.dot q.tx.dot || has r.tx.dot (dots_of A))) [] (r ∷ [])
-    go here past (inl t) = rw t (here ∙ ap (λ b. firsts_past seen A ++ cond b [] (r ∷ [])) (or_mid (has r.tx.dot seen) (same_dot r.tx.dot q.tx.dot) (has r.tx.dot (dots_of A)) (first_past_seen seen q.tx.dot r.tx.dot t)))
-    go here past (inr f) = rw f (ap (λ l. q ∷ l) (past ∙ ap (λ b. firsts_past (q.tx.dot ∷ seen) A ++ cond b [] (r ∷ [])) (or_turn (has r.tx.dot seen) (same_dot r.tx.dot q.tx.dot) (has r.tx.dot (dots_of A)))))
-
--- the record of a new dot is the first of it
-pub firsts_more : (A : List Record) (r : Record) → firsts (A ++ r ∷ []) ≡ firsts A ++ cond (has r.tx.dot (dots_of A)) [] (r ∷ [])
-firsts_more A r = firsts_past_more [] A r
+-- so it is of one of the centres, where all are
+pub first_stamp_range : (n : ℕ) (d : Dot) (A : List Record) (s : Stamp) → ((r : Record) → In r A → IsCentreOf n r.stamp) → first_stamp d A ≡ Some s → IsCentreOf n s
+first_stamp_range n d A s all is = let there = first_stamp_there d A s is in subst (IsCentreOf n) there.2 (all there.0 there.1)

@@ -1,4 +1,5 @@
 pub mod Firsts
 pub mod Applying
-pub mod Records
+pub mod Going
 pub mod Standing
+pub mod Parts

@@ -1,62 +1,90 @@
 -- What a centre holds, which trails it stands for, and what it answers.
-use Rattle.std.specs.Prelude.{◌≡◌, ◌≢◌, ◌≤◌, ℕ, ◌+◌, Bool, ◌&&◌, not, cond, List, [], ◌∷◌, ◌++◌}
+use Rattle.std.specs.Prelude.{◌≡◌, ◌≢◌, ◌≤◌, ℕ, ◌-◌, Bool, ◌&&◌, not, cond, length, take, drop, List}
 use Rattle.std.specs.Option.{unwrap_or}
 use Rattle.ids_core.specs.declared.limits.TheConstants.{MOST_CENTRES, MOST_RECORDS}
-use Rattle.vv_core.specs.declared.stamp.Stamp.{Stamp}
-use Rattle.k_stable.specs.Tables.{Table, IsTable, told_by, stable_of}
-use Rattle.tx_core.specs.declared.tx.Tx.{Tx}
+use Rattle.vv_core.specs.Vectors.{at, join_of, Covers}
+use Rattle.dup_guard.specs.Notes.{number_of}
+use Rattle.k_stable.specs.Tables.{Table, IsTable, told_by, stable_of, all_known_of}
 use Rattle.tx_core.specs.declared.tx.Record.{Record}
+use Rattle.point_law.specs.StandFor.{state_told, mine_told, count_told}
 use Rattle.dc_talk.specs.declared.ask.Ask.{Ask}
-use Rattle.dc_talk.specs.declared.ask.Ask.TheVariants.{Hello, Refresh, Fetch, Commit, Send, Deliver, Report, Learn, Stop, Start}
+use Rattle.dc_talk.specs.declared.ask.Ask.TheVariants.{Hello, Refresh, Fetch, Commit, Send, Deliver, Report, Learn, Prune, Stop, Start}
 use Rattle.dc_talk.specs.declared.say.Say.{Say}
-use Rattle.dc_talk.specs.declared.say.Say.TheVariants.{Down, Vector, Learned, Stopped, Started}
-use Rattle.dc_talk.specs.Entries.{Entry}
-use Rattle.dc_talk.specs.Records.{vector, count, own, deps_of}
-use Rattle.dc_talk.specs.Trails.{applied, grown, told, stopped, taught, taught_in, switched_in}
-use Rattle.dc_talk.specs.Answers.{hello_answer, refresh_answer, fetch_answer, commit_answer, send_answer, deliver_answer, tells, is_switch}
+use Rattle.dc_talk.specs.declared.say.Say.TheVariants.{Down, Snap, Vector, Learned, Base, Stopped, Started}
 use Rattle.dc_talk.specs.declared.settings.Settings.{Settings}
-use Rattle.dc_centre.specs.Applied.{Have}
+use Rattle.dc_talk.specs.Entries.{Entry}
+use Rattle.dc_talk.specs.Records.{own}
+use Rattle.dc_talk.specs.Trails.{applied, grown, told, stopped, taught, taught_in, switched_in, Horizon, horizon}
+use Rattle.dc_talk.specs.Answers.{hello_answer, refresh_answer, fetch_answer, commit_answer, send_answer, deliver_answer, tells, is_switch}
+use Rattle.dc_centre.specs.Applied.{AppliedView, IsApplied}
 
--- its settings, the records that it applied, in order, what it was told of the others, and whether it
--- is stopped
+-- its settings, what it keeps of the records that it applied, what it was told of the others, the vector up to which
+-- the next prune folds, the number up to which it let own records go, the later ones in order, and whether it is
+-- stopped
 pub record CentreView : Type 0 where
   pub settings : Settings
-  pub records : List Record
+  pub applied : AppliedView
   pub told : Table
+  pub mark : List ℕ
+  pub trimmed : ℕ
+  pub outbox : List Record
   pub down : Bool
+
+-- what it holds of the records A that it applied
+pub record Holds (c : CentreView) (A : List Record) : Type 0 where
+  pub applied : IsApplied c.settings.n c.applied A
+  pub outbox : c.outbox ≡ drop c.trimmed (own c.settings.me A)
+
+-- how far it has pruned
+abbrev pub horizon_of : CentreView → Horizon
+horizon_of c = record { base = c.applied.point.vector; mark = c.mark; trimmed = c.trimmed }
 
 -- the centre stands for the trail: each part that it keeps is the trail's
 pub record StandsFor (c : CentreView) (trail : List Entry) : Type 0 where
-  pub records : c.records ≡ applied c.settings.n trail
+  pub holds : Holds c (applied c.settings.n trail)
   pub told : (j : ℕ) → j ≢ c.settings.me → 1 ≤ j → j ≤ c.settings.n → told_by c.told j ≡ told c.settings.n j trail
+  pub pruned : horizon_of c ≡ horizon c.settings trail
   pub down : c.down ≡ stopped trail
 
--- a centre as it may be, with the own records that it keeps
-pub record IsCentre (s : Settings) (a : Have) (mine : List Record) (t : Table) : Type 0 where
+-- a centre as it may be: it is one of its centres, what it will fold is stable and covers what is folded, and what it
+-- let go all are known to have
+pub record IsCentre (s : Settings) (x : AppliedView) (t : Table) (mark : List ℕ) (trimmed : ℕ) : Type 0 where
   pub centre : (1 ≤ s.me) × (s.me ≤ s.n)
   pub few : s.n ≤ MOST_CENTRES
   pub known : (1 ≤ s.k) × (s.k ≤ s.n)
   pub most : s.limit ≤ MOST_RECORDS
-  pub width : a.n ≡ s.n
+  pub width : length x.counts ≡ s.n
   pub table : IsTable t
   pub same : (t.me ≡ s.me) × (t.n ≡ s.n) × (t.k ≡ s.k)
-  pub kept : mine ≡ own s.me a.records
-  pub room : count s.me a.records ≤ s.limit
+  pub room : at x.counts s.me ≤ s.limit
+  pub marked : length mark ≡ s.n
+  pub ahead : Covers mark x.point.vector
+  pub stable : Covers (stable_of t x.counts) mark
+  pub gone : trimmed ≤ at (all_known_of t x.counts) s.me
 
 -- its stable vector
 abbrev pub stable_over : CentreView → List ℕ
-stable_over c = stable_of c.told (vector c.settings.n c.records)
+stable_over c = stable_of c.told c.applied.counts
+
+-- how many of its own records all centres are known to have
+abbrev pub known_over : CentreView → ℕ
+known_over c = at (all_known_of c.told c.applied.counts) c.settings.me
+
+-- the snapshot at a vector, over what it holds
+abbrev pub snap_over : CentreView → ℕ → List ℕ → Say
+snap_over c client w = Snap w (mine_told c.applied.point c.applied.log client w) c.applied.greatest
 
 -- the reply to an ask that fits, of a running centre, over what it holds
 abbrev pub row_over : CentreView → Ask → Say
-row_over c (Hello client need) = hello_answer c.settings.n c.records client need
-row_over c (Refresh client here) = refresh_answer c.settings.n (stable_over c) c.records client here
-row_over c (Fetch object here) = fetch_answer c.settings.n c.records object here
-row_over c (Commit tx) = commit_answer c.settings c.records tx
-row_over c (Send after most) = send_answer c.settings.me c.records after most
-row_over c (Deliver item) = deliver_answer c.settings c.records item
-row_over c Report = Vector (vector c.settings.n c.records)
+row_over c (Hello client need) = hello_answer c.applied.counts (number_of c.applied.lasts client) need
+row_over c (Refresh client here) = refresh_answer c.applied.counts (snap_over c client (join_of here (stable_over c))) here
+row_over c (Fetch object here) = fetch_answer c.applied.counts c.applied.point.vector (state_told c.applied.point c.applied.log object here) here
+row_over c (Commit tx) = commit_answer c.settings c.applied.counts (number_of c.applied.lasts tx.dot.client) (at c.applied.counts c.settings.me) tx
+row_over c (Send after most) = send_answer c.trimmed (take most (drop (after - c.trimmed) c.outbox)) after
+row_over c (Deliver item) = deliver_answer c.settings c.applied.counts (at c.applied.counts item.stamp.centre) (number_of c.applied.lasts item.tx.dot.client) item
+row_over c Report = Vector c.applied.counts
 row_over c (Learn from news) = Learned (tells c.settings.me (told_by c.told from) from news)
+row_over c Prune = Base c.mark (count_told c.applied.point c.applied.log c.mark) (known_over c)
 row_over c Stop = Stopped
 row_over c Start = Started
 
@@ -64,17 +92,15 @@ row_over c Start = Started
 abbrev pub up_over : CentreView → Ask → Say
 up_over c ask = cond (c.down && not (is_switch ask)) Down (row_over c ask)
 
--- the stamp that the centre gives next
-abbrev pub next_stamp : CentreView → Stamp
-next_stamp c = record { centre = c.settings.me; seq = count c.settings.me c.records + 1 }
-
--- the centre once it has stamped a transaction
-abbrev pub with_record : CentreView → Tx → CentreView
-with_record c tx = record c { records = c.records ++ record { stamp = next_stamp c; deps = deps_of c.settings.n c.records tx; tx = tx } ∷ [] }
+-- how far it has pruned after an ask that it answered so
+abbrev pub horizon_over : CentreView → Ask → Say → Horizon
+horizon_over c Prune (Base vector folded trimmed) = record { base = c.mark; mark = stable_over c; trimmed = known_over c }
+horizon_over c _ _ = horizon_of c
 
 -- the centre before and after an ask that it answered so
 pub record Goes (old new : CentreView) (ask : Ask) (say : Say) : Type 0 where
   pub settings : new.settings ≡ old.settings
-  pub records : new.records ≡ grown old.settings.n old.records ask say
+  pub holds : (A : List Record) → Holds old A → Holds new (grown old.settings.n A ask say)
   pub told : (j : ℕ) → j ≢ old.settings.me → told_by new.told j ≡ taught j (told_by old.told j) (taught_in ask say)
+  pub pruned : horizon_of new ≡ horizon_over old ask say
   pub down : new.down ≡ unwrap_or (switched_in ask say) old.down

@@ -1,3 +1,2 @@
-pub mod Dots
 pub mod Applied
 pub mod Centre

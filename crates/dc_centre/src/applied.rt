@@ -1,137 +1,139 @@
-// The applied list of a centre, with what is kept beside it so that it is not searched.
-ghost use Rattle.std.specs.Prelude.{◌≡◌, ◌≢◌, ◌≤◌, ◌+◌, ◌==◌, ◌<◌, ◌++◌, ◌∷◌, [], ◌↔◌, ℕ, true, All, IfOk, OnOk, OnErr, IsTrue, cond, length, max, Some, Option};
+// What a centre keeps of the records that it applied.
+ghost use Rattle.std.specs.Prelude.{◌≡◌, ◌≢◌, ◌≤◌, ◌+◌, ◌==◌, ◌++◌, ◌∷◌, [], ◌↔◌, ℕ, true, IfOk, OnOk, OnErr, IsTrue, cond, length, max, Some, Option, List};
 ghost use Rattle.list_core.specs.Members.{In};
 ghost use Rattle.ids_core.specs.declared.limits.TheConstants.{MOST_CENTRES, MOST_CLIENTS};
-ghost use Rattle.vv_core.specs.Vectors.{at};
+ghost use Rattle.vv_core.specs.Vectors.{at, raised, zeros, Covers};
 ghost use Rattle.vv_core.specs.declared.stamp.Stamp.{Stamp};
 ghost use Rattle.dup_guard.specs.Notes.{number_of, stamp_of};
 ghost use Rattle.tx_core.specs.Checks.{IsFit};
-ghost use Rattle.tx_core.specs.declared.tx.Record.{Record};
-ghost use Rattle.dc_talk.specs.Records.{count, vector as counts, guard as guard_in, first_stamp, top as top_in, mine as mine_in, inside, deps_of as deps};
-ghost use Rattle.dc_talk.specs.Objects.{state_at};
-ghost use Rattle.dc_centre.specs.Dots.{stamps_at, is_any_within, IsCentreOf};
-ghost use Rattle.dc_centre.specs.Applied.{IsNext, is_fresh, records_of, IsStamped, HasFewUpdates, fold_within};
-ghost use Rattle.ids_core.specs.declared.ids.Dot.{Dot};
+ghost use Rattle.tx_core.specs.declared.tx.Record.{Record as RecordOf};
+ghost use Rattle.point_law.specs.StandFor.{state_told, mine_told, count_told};
+ghost use Rattle.dc_talk.specs.Records.{joined};
+ghost use Rattle.dc_centre.specs.Applied.{IsNext, is_fresh, IsApplied};
 
-use crate::dots::Dots;
-use dc_talk::fold_updates;
+use check_point::Point;
 use dup_guard::Guard;
 use ids_core::{Dot, NoMemory, ObjectId};
+use op_log::Log;
+use point_law::{keep, mine_at, prune, state_at};
 use std::alloc::Global;
 use std::marker::Model;
 use tx_core::{Record, State, Tx};
 use vv_core::{Stamp, Vector};
 
-// A record, and whether it is the first of its transaction.
-#[derive(Drop)]
-pub(crate) struct Held {
-    pub(crate) item: Record,
-    pub(crate) fresh: bool,
-}
-
-/// The records that a centre applied, in order, with what would else be searched for in them: how
-/// many there are of each centre, the last number of each client with its first stamp, the stamps of
-/// each transaction, and the greatest rank.
+/// What a centre keeps of the records that it applied: how many there are of each centre, the last
+/// number of each client with its first stamp, the greatest rank, and the transactions, those within a
+/// vector folded into states, and the others in a log.
 #[derive(Drop)]
 pub struct Applied {
     vector: Vector,
     guard: Guard,
-    dots: Dots,
     top: u64,
-    records: Vec<Held>,
+    point: Point,
+    log: Log,
 }
 
 impl Model for Applied {
     ghost use Rattle.std.specs.Prelude.{length};
-    ghost use Rattle.dc_centre.specs.Applied.{Have, IsApplied, records_of};
+    ghost use Rattle.tx_core.specs.States.{state_codes};
+    ghost use Rattle.dc_centre.specs.Applied.{AppliedView, IsSomeApplied};
 
-    ghost Value = { Have };
+    ghost Value = { AppliedView };
 
-    ghost view = { λ a. record { n = length a.vector; records = records_of a.records.items } };
+    ghost coded = { Prim.hlevel state_codes };
 
-    ghost invariant = { λ a. IsApplied (length a.vector) (record { counts = a.vector; lasts = a.guard; dots = a.dots; greatest = a.top; held = a.records.items }) (records_of a.records.items) };
+    ghost view = { λ a. record { counts = a.vector; lasts = a.guard; greatest = a.top; point = a.point; log = a.log } };
+
+    ghost invariant = { λ a. IsSomeApplied (length a.vector) (record { counts = a.vector; lasts = a.guard; greatest = a.top; point = a.point; log = a.log }) };
 }
 
 impl Applied {
     /// Nothing is applied yet, among `n` centres.
     pub fn new(alloc: Global, n: u8) -> Result<Applied, NoMemory>
         requires { (1 ≤ n) × (n ≤ MOST_CENTRES) }
-        ensures { IfOk result (λ a. a ≡ record { n = n; records = [] }) }
+        ensures counts { IfOk result (λ a. a.counts ≡ zeros n) }
+        ensures base { IfOk result (λ a. a.point.vector ≡ zeros n) }
+        ensures none { IfOk result (λ a. IsApplied n a []) }
     {
         Ok(Applied {
             vector: Vector::zero(n),
             guard: Guard::new(alloc)?,
-            dots: Dots::new(alloc)?,
             top: 0,
-            records: Vec::new(alloc),
+            point: Point::new(alloc, n)?,
+            log: Log::new(alloc)?,
         })
     }
 
     /// How many records there are of each centre.
     pub fn vector(&self) -> Vector
-        ensures vector { result ≡ counts self.now.n self.now.records }
-        ensures width { length result ≡ self.now.n }
+        ensures { result ≡ self.now.counts }
     {
         self.vector
     }
 
     /// How many records there are of one centre.
     pub fn count(&self, centre: u8) -> u64
-        requires { (1 ≤ centre) × (centre ≤ self.now.n) }
-        ensures { result ≡ count centre self.now.records }
+        requires { (1 ≤ centre) × (centre ≤ length self.now.counts) }
+        ensures { result ≡ at self.now.counts centre }
     {
         self.vector.get(centre)
     }
 
+    /// The vector within which all is folded.
+    pub fn base(&self) -> Vector
+        ensures vector { result ≡ self.now.point.vector }
+        ensures width { length result ≡ length self.now.counts }
+    {
+        self.point.vector()
+    }
+
+    /// How many transactions are folded.
+    pub fn folded(&self) -> u64
+        ensures { result ≡ self.now.point.folded }
+    {
+        self.point.folded()
+    }
+
     /// Whether a record has the stamp.
     pub fn has(&self, stamp: &Stamp) -> bool
-        ensures { IsTrue result ↔ ((r : Record) × In r self.now.records × (r.stamp ≡ stamp.now)) }
+        ensures { (A : List RecordOf) → IsApplied (length self.now.counts) self.now A → IsTrue result ↔ ((r : RecordOf) × In r A × (r.stamp ≡ stamp.now)) }
     {
         is_counted(&self.vector, stamp)
     }
 
     /// The greatest number of a client's transactions, 0 for none.
     pub fn through(&self, client: u32) -> u64
-        ensures { result ≡ guard_in client self.now.records }
+        ensures { result ≡ number_of self.now.lasts client }
     {
         self.guard.through(client)
     }
 
     /// The greatest rank, 0 for none.
     pub fn top(&self) -> u64
-        ensures { result ≡ top_in self.now.records }
+        ensures { result ≡ self.now.greatest }
     {
         self.top
     }
 
-    /// The greatest number of a client's transactions within a vector, 0 for none: one pass over the
-    /// records.
-    pub fn mine(&self, client: u32, vector: &Vector) -> u64
-        requires { length vector.now ≡ self.now.n }
-        ensures { result ≡ mine_in client (inside self.now.records vector.now) }
+    /// The greatest number of a client's transactions within a vector, 0 for none.
+    pub fn mine(&self, client: u32, at: &Vector) -> u64
+        ensures { result ≡ mine_told self.now.point self.now.log client at.now }
     {
-        mine_of(self.records.as_slice(), client, vector)
+        mine_at(&self.point, &self.log, client, at)
     }
 
-    /// The state of an object at a vector: one pass over the records.
-    pub fn state(
-        &self,
-        alloc: Global,
-        object: &ObjectId,
-        vector: &Vector,
-    ) -> Result<State, NoMemory>
-        requires { length vector.now ≡ self.now.n }
-        ensures { IfOk result (λ state. state ≡ state_at object.now self.now.records vector.now) }
+    /// The state of an object at a vector.
+    pub fn state(&self, alloc: Global, object: &ObjectId, at: &Vector) -> Result<State, NoMemory>
+        ensures { IfOk result (λ state. state ≡ state_told self.now.point self.now.log object.now at.now) }
     {
-        state_of(alloc, self.records.as_slice(), &self.dots, object, vector)
+        state_at(alloc, &self.point, &self.log, object, at)
     }
 
     /// The dependency vector of its client's next transaction.
     pub fn deps_of(&self, tx: &Tx) -> Vector
-        requires fit { IsFit self.now.n tx.now }
-        requires next { tx.now.dot.number ≡ guard_in tx.now.dot.client self.now.records + 1 }
-        ensures entries { result ≡ deps self.now.n self.now.records tx.now }
-        ensures width { length result ≡ self.now.n }
+        requires { IsFit (length self.now.counts) tx.now }
+        ensures entries { result ≡ joined (length self.now.counts) tx.now.snap (stamp_of self.now.lasts tx.now.dot.client) }
+        ensures width { length result ≡ length self.now.counts }
     {
         match self.guard.first_stamp(tx.dot.client) {
             Some(stamp) => tx.snap.raise(&stamp),
@@ -141,23 +143,35 @@ impl Applied {
 
     /// Takes in the next record of its origin. Says whether its transaction is new. Memory is taken
     /// before anything changes.
-    pub fn take(&mut self, alloc: Global, item: Record) -> Result<bool, NoMemory>
-        requires { IsNext self.old.n self.old.records item }
-        ensures fresh { IfOk result (λ fresh. fresh ≡ is_fresh self.old.records item) }
-        ensures ok { OnOk result (self.new ≡ record self.old { records = self.old.records ++ item ∷ [] }) }
+    pub fn take(&mut self, item: &Record) -> Result<bool, NoMemory>
+        requires { IsNext self.old item.now }
+        ensures fresh { IfOk result (λ fresh. fresh ≡ is_fresh self.old item.now) }
+        ensures counts { OnOk result (self.new.counts ≡ raised self.old.counts item.now.stamp) }
+        ensures point { self.new.point ≡ self.old.point }
+        ensures grown { OnOk result ((A : List RecordOf) → IsApplied (length self.old.counts) self.old A → IsApplied (length self.old.counts) self.new (A ++ item.now ∷ [])) }
         ensures err { OnErr result (self.new ≡ self.old) }
     {
-        let stamp = item.stamp;
-        let dot = item.tx.dot;
-        let rank = item.tx.rank;
-        let fresh = !self.guard.seen(&dot);
-        self.records.reserve(1)?;
-        self.dots.add(alloc, &dot, &stamp)?;
-        self.records.push_reserved(Held { item, fresh });
-        note_if(&mut self.guard, fresh, &dot, &stamp);
-        self.vector = self.vector.raise(&stamp);
-        self.top = rank.max(self.top);
+        let fresh = !self.guard.seen(&item.tx.dot);
+        keep(&mut self.log, item, fresh)?;
+        note_if(&mut self.guard, fresh, &item.tx.dot, &item.stamp);
+        self.vector = self.vector.raise(&item.stamp);
+        self.top = item.tx.rank.max(self.top);
         Ok(fresh)
+    }
+
+    /// Folds all that is within a vector, which covers the base and is within what is there. An `Err`
+    /// leaves all as it was.
+    pub fn prune(&mut self, alloc: Global, to: &Vector) -> Result<(), NoMemory>
+        requires width { length to.now ≡ length self.old.counts }
+        requires covers { Covers to.now self.old.point.vector }
+        requires here { Covers self.old.counts to.now }
+        ensures base { OnOk result (self.new.point.vector ≡ to.now) }
+        ensures count { OnOk result (self.new.point.folded ≡ count_told self.old.point self.old.log to.now) }
+        ensures counts { self.new.counts ≡ self.old.counts }
+        ensures same { OnOk result ((A : List RecordOf) → IsApplied (length self.old.counts) self.old A → IsApplied (length self.old.counts) self.new A) }
+        ensures err { OnErr result (self.new ≡ self.old) }
+    {
+        prune(alloc, &mut self.point, &mut self.log, to)
     }
 }
 
@@ -183,42 +197,4 @@ fn note_if(guard: &mut Guard, fresh: bool, dot: &Dot, stamp: &Stamp)
     if fresh {
         guard.note(dot, stamp);
     }
-}
-
-// The greatest number of a client's transactions within a vector, 0 for none.
-fn mine_of(records: &[Held], client: u32, vector: &Vector) -> u64
-    requires { All (λ h. IsStamped (length vector.now) h.item) records.now }
-    ensures { result ≡ mine_in client (inside (records_of records.now) vector.now) }
-{
-    let mut greatest = 0;
-    for held in records {
-        let record = &held.item;
-        if vector.has(&record.stamp) && record.tx.dot.client == client {
-            greatest = record.tx.dot.number.max(greatest);
-        }
-    }
-    greatest
-}
-
-// The state of an object at a vector: the fold over the first records of the transactions that have
-// a stamp within it.
-fn state_of(
-    alloc: Global,
-    records: &[Held],
-    dots: &Dots,
-    object: &ObjectId,
-    vector: &Vector,
-) -> Result<State, NoMemory>
-    requires stamps { (d : Dot) → All (IsCentreOf (length vector.now)) (stamps_at dots.now d) }
-    requires updates { All (λ h. HasFewUpdates h.item) records.now }
-    ensures { IfOk result (λ state. state ≡ fold_within object.now vector.now dots.now records.now) }
-{
-    let mut state = State::empty(alloc, object.sort)?;
-    for held in records {
-        let tx = &held.item.tx;
-        if held.fresh && dots.is_within(&tx.dot, vector) {
-            fold_updates(&mut state, object, tx.rank, &tx.dot, tx.updates.as_slice())?;
-        }
-    }
-    Ok(state)
 }

@@ -1,11 +1,11 @@
 // What a centre answers to clients.
-ghost use Rattle.std.specs.Prelude.{◌≡◌, ◌≤◌, ◌<◌, ◌+◌, ℕ, IfOk, OnOk, OnErr, length};
-ghost use Rattle.dc_talk.specs.Records.{guard, count, deps_of as deps};
-ghost use Rattle.dc_talk.specs.declared.say.Say.TheVariants.{Lacks};
-ghost use Rattle.dc_talk.specs.declared.ask.Ask.TheVariants.{Commit};
-ghost use Rattle.dc_talk.specs.Answers.{hello_answer, refresh_answer, fetch_answer, commit_answer};
+ghost use Rattle.std.specs.Prelude.{◌≡◌, ◌≤◌, ◌<◌, ◌+◌, IfOk, OnErr, length};
+ghost use Rattle.vv_core.specs.Vectors.{at};
+ghost use Rattle.dup_guard.specs.Notes.{number_of};
+ghost use Rattle.dc_talk.specs.declared.say.Say.TheVariants.{Lacks, Pruned, Stamped};
+ghost use Rattle.dc_talk.specs.declared.ask.Ask.TheVariants.{Hello, Refresh, Fetch, Commit};
 ghost use Rattle.tx_core.specs.Checks.{IsFit};
-ghost use Rattle.dc_centre.specs.Centre.{Goes, stable_over, next_stamp, with_record};
+ghost use Rattle.dc_centre.specs.Centre.{Goes, row_over, stable_over};
 
 use crate::centre::Centre;
 use dc_talk::Say;
@@ -18,7 +18,7 @@ impl Centre {
     /// The answer to a hello, in two copies.
     pub(crate) fn welcome(&self, client: u32, need: &Vector) -> (Say, Say)
         requires { length need.now ≡ self.now.settings.n }
-        ensures answer { result.0 ≡ hello_answer self.now.settings.n self.now.records client need.now }
+        ensures answer { result.0 ≡ row_over self.now (Hello client need.now) }
         ensures copy { result.1 ≡ result.0 }
     {
         match Vector::first_lack(&self.applied.vector(), need) {
@@ -41,7 +41,7 @@ impl Centre {
     /// The answer to a refresh, in two copies.
     pub(crate) fn snap(&self, client: u32, at: &Vector) -> (Say, Say)
         requires { length at.now ≡ self.now.settings.n }
-        ensures answer { result.0 ≡ refresh_answer self.now.settings.n (stable_over self.now) self.now.records client at.now }
+        ensures answer { result.0 ≡ row_over self.now (Refresh client at.now) }
         ensures copy { result.1 ≡ result.0 }
     {
         match Vector::first_lack(&self.applied.vector(), at) {
@@ -66,11 +66,14 @@ impl Centre {
         at: &Vector,
     ) -> Result<(Say, Say), NoMemory>
         requires { length at.now ≡ self.now.settings.n }
-        ensures answer { IfOk result (λ says. says.0 ≡ fetch_answer self.now.settings.n self.now.records object.now at.now) }
+        ensures answer { IfOk result (λ says. says.0 ≡ row_over self.now (Fetch object.now at.now)) }
         ensures copy { IfOk result (λ says. says.1 ≡ says.0) }
     {
         if let Some(lack) = Vector::first_lack(&self.applied.vector(), at) {
             return Ok((lacks(lack), lacks(lack)));
+        }
+        if let Some(lack) = Vector::first_lack(at, &self.applied.base()) {
+            return Ok((pruned(lack), pruned(lack)));
         }
         let state = self.applied.state(alloc, object, at)?;
         let copy = state.copy()?;
@@ -79,19 +82,19 @@ impl Centre {
 
     // How many transactions it has stamped.
     fn stamped(&self) -> u64
-        ensures count { result ≡ count self.now.settings.me self.now.records }
+        ensures count { result ≡ at self.now.applied.counts self.now.settings.me }
         ensures most { result ≤ self.now.settings.limit }
     {
         self.applied.count(self.settings.me)
     }
 
     // Stamps a transaction that can be stamped; the memory is taken before anything changes.
-    fn stamp(&mut self, alloc: Global, tx: &Tx) -> Result<Stamp, NoMemory>
+    fn stamp(&mut self, tx: &Tx) -> Result<Stamp, NoMemory>
         requires fit { IsFit self.old.settings.n tx.now }
-        requires next { tx.now.dot.number ≡ guard tx.now.dot.client self.old.records + 1 }
-        requires room { count self.old.settings.me self.old.records < self.old.settings.limit }
-        ensures stamp { IfOk result (λ stamp. stamp ≡ next_stamp self.old) }
-        ensures ok { OnOk result (self.new ≡ with_record self.old tx.now) }
+        requires next { tx.now.dot.number ≡ number_of self.old.applied.lasts tx.now.dot.client + 1 }
+        requires room { at self.old.applied.counts self.old.settings.me < self.old.settings.limit }
+        ensures stamp { IfOk result (λ stamp. stamp ≡ record { centre = self.old.settings.me; seq = at self.old.applied.counts self.old.settings.me + 1 }) }
+        ensures goes { IfOk result (λ stamp. Goes self.old self.new (Commit tx.now) (Stamped stamp)) }
         ensures err { OnErr result (self.new ≡ self.old) }
     {
         let stamp = Stamp {
@@ -103,17 +106,16 @@ impl Centre {
             deps: self.applied.deps_of(tx),
             tx: tx.copy()?,
         };
-        let kept = record.copy()?;
-        self.own.reserve(1)?;
-        self.applied.take(alloc, record)?;
-        self.own.push_reserved(kept);
+        self.outbox.reserve(1)?;
+        self.applied.take(&record)?;
+        self.outbox.push_back_reserved(record);
         Ok(stamp)
     }
 
     /// The answer to a commit that fits, in two copies.
-    pub(crate) fn commit(&mut self, alloc: Global, tx: &Tx) -> Result<(Say, Say), NoMemory>
+    pub(crate) fn commit(&mut self, tx: &Tx) -> Result<(Say, Say), NoMemory>
         requires fit { IsFit self.old.settings.n tx.now }
-        ensures answer { IfOk result (λ says. says.0 ≡ commit_answer self.old.settings self.old.records tx.now) }
+        ensures answer { IfOk result (λ says. says.0 ≡ row_over self.old (Commit tx.now)) }
         ensures copy { IfOk result (λ says. says.1 ≡ says.0) }
         ensures goes { IfOk result (λ says. Goes self.old self.new (Commit tx.now) says.0) }
         ensures err { OnErr result (self.new ≡ self.old) }
@@ -135,7 +137,7 @@ impl Centre {
         if limit <= self.stamped() {
             return Ok((Say::Full { limit }, Say::Full { limit }));
         }
-        let stamp = self.stamp(alloc, tx)?;
+        let stamp = self.stamp(tx)?;
         Ok((Say::Stamped { stamp }, Say::Stamped { stamp }))
     }
 }
@@ -148,5 +150,16 @@ fn lacks(lack: Lack) -> Say
         centre: lack.centre,
         need: lack.need,
         have: lack.have,
+    }
+}
+
+// The refusal that names where the base is above the snapshot.
+fn pruned(lack: Lack) -> Say
+    ensures { result ≡ Pruned lack.centre lack.need lack.have }
+{
+    Say::Pruned {
+        centre: lack.centre,
+        base: lack.need,
+        at: lack.have,
     }
 }

@@ -2,9 +2,10 @@
 ghost use Rattle.std.specs.Prelude.{◌≡◌, ◌&&◌, not, ◌≤◌, ◌↔◌, ℕ, IfOk, OnErr, IsTrue, List, [], ◌∷◌, ◌++◌, true, false};
 ghost use Rattle.list_core.specs.Members.{In};
 ghost use Rattle.ids_core.specs.declared.limits.TheConstants.{MOST_CENTRES, MOST_RECORDS};
-ghost use Rattle.tx_core.specs.declared.tx.Record.{Record};
+ghost use Rattle.tx_core.specs.declared.tx.Record.{Record as RecordOf};
 ghost use Rattle.dc_talk.specs.Answers.{answer, fits, is_switch};
 ghost use Rattle.dc_talk.specs.Entries.{Entry};
+ghost use Rattle.dc_talk.specs.Trails.{applied};
 
 use crate::applied::Applied;
 use dc_talk::{Ask, Say, Settings};
@@ -12,30 +13,37 @@ use hist_lock::Machine;
 use ids_core::NoMemory;
 use k_stable::Told;
 use std::alloc::Global;
+use std::collections::VecDeque;
 use std::marker::Model;
 use tx_core::Record;
-use vv_core::Stamp;
+use vv_core::{Stamp, Vector};
 
 /// A data centre: a full replica that answers one ask after another (Middleware 2015). Contracts see
-/// its settings, its applied list, what it was told of the other centres, and whether it is stopped.
-/// It stands for the trail of what it was asked and answered.
+/// its settings, what it keeps of the records that it applied, what it was told of the other centres,
+/// how far it has pruned, its own records that it did not let go, and whether it is stopped. It keeps no
+/// list of all that it applied, and stands for the trail of what it was asked and answered.
 #[derive(Drop)]
 pub struct Centre {
     pub(crate) settings: Settings,
     pub(crate) applied: Applied,
-    pub(crate) own: Vec<Record>,
     pub(crate) told: Told,
+    pub(crate) mark: Vector,
+    pub(crate) trimmed: u64,
+    pub(crate) outbox: VecDeque<Record>,
     pub(crate) stopped: bool,
 }
 
 impl Model for Centre {
+    ghost use Rattle.tx_core.specs.States.{state_codes};
     ghost use Rattle.dc_centre.specs.Centre.{CentreView, IsCentre};
 
     ghost Value = { CentreView };
 
-    ghost view = { λ c. record { settings = c.settings; records = c.applied.records; told = c.told; down = c.stopped } };
+    ghost coded = { Prim.hlevel state_codes };
 
-    ghost invariant = { λ c. IsCentre c.settings c.applied c.own.items c.told };
+    ghost view = { λ c. record { settings = c.settings; applied = c.applied; told = c.told; mark = c.mark; trimmed = c.trimmed; outbox = c.outbox.items; down = c.stopped } };
+
+    ghost invariant = { λ c. IsCentre c.settings c.applied c.told c.mark c.trimmed };
 }
 
 impl Centre {
@@ -54,23 +62,26 @@ impl Centre {
         Ok(Centre {
             settings: Settings { me, n, k, limit },
             applied: Applied::new(alloc, n)?,
-            own: Vec::new(alloc),
             told: Told::new(me, n, k),
+            mark: Vector::zero(n),
+            trimmed: 0,
+            outbox: VecDeque::new(alloc),
             stopped: false,
         })
     }
 
-    /// Whether the record of a stamp is here.
+    /// Whether the record of a stamp is here, over every trail that the centre stands for.
     pub fn has(&self, stamp: &Stamp) -> bool
-        ensures { IsTrue result ↔ ((r : Record) × In r self.now.records × (r.stamp ≡ stamp.now)) }
+        ensures { (trail : List Entry) → StandsFor self.now trail → IsTrue result ↔ ((r : RecordOf) × In r (applied self.now.settings.n trail) × (r.stamp ≡ stamp.now)) }
     {
         self.applied.has(stamp)
     }
 
     /// Answers an ask, in two equal copies: over every trail that the centre stands for, the answer
     /// is the one that is defined for that trail, and the centre then stands for the trail with this
-    /// entry. Memory is taken before anything changes. Only a fetch and a refresh take time in the
-    /// number of records that are here: one pass.
+    /// entry. Memory is taken before anything changes. Time: a fetch takes that of its object's
+    /// operations that are not folded yet, a prune that of what it folds and lets go, and no other ask
+    /// any that grows with the history.
     pub fn step(&mut self, alloc: Global, ask: &Ask) -> Result<(Say, Say), NoMemory>
         ensures answer { IfOk result (λ says. (trail : List Entry) → StandsFor self.old trail → says.0 ≡ answer self.old.settings trail ask.now) }
         ensures copy { IfOk result (λ says. says.1 ≡ says.0) }
@@ -107,11 +118,12 @@ impl Centre {
             Ask::Hello { client, need } => Ok(self.welcome(*client, need)),
             Ask::Refresh { client, at } => Ok(self.snap(*client, at)),
             Ask::Fetch { object, at } => self.object(alloc, object, at),
-            Ask::Commit { tx } => self.commit(alloc, tx),
+            Ask::Commit { tx } => self.commit(tx),
             Ask::Send { after, most } => self.send(alloc, *after, *most),
-            Ask::Deliver { item } => self.deliver(alloc, item),
+            Ask::Deliver { item } => self.deliver(item),
             Ask::Report => Ok(self.report()),
             Ask::Learn { from, vector } => Ok(self.learn(*from, vector)),
+            Ask::Prune => self.prune(alloc),
             Ask::Stop => Ok(self.stop()),
             Ask::Start => Ok(self.start()),
         }
@@ -142,7 +154,7 @@ impl Machine for Centre {
     ghost stands = { StandsFor };
 
     fn step(&mut self, ask: &Ask) -> Result<(Say, Say), NoMemory> {
-        let alloc = *self.own.allocator();
+        let alloc = *self.outbox.allocator();
         Centre::step(self, alloc, ask)
     }
 

@@ -4,7 +4,7 @@
 mod applied;
 mod asks;
 mod centre;
-mod dots;
+mod outbox;
 mod peers;
 
 pub use centre::Centre;

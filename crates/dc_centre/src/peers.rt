@@ -1,13 +1,12 @@
 // What a centre answers to other centres, and to those who stop and start it.
-ghost use Rattle.std.specs.Prelude.{◌≡◌, ◌≤◌, ◌+◌, ℕ, true, IfOk, OnErr, length, take, drop};
-ghost use Rattle.dc_talk.specs.Records.{vector as counts};
+ghost use Rattle.std.specs.Prelude.{◌≡◌, ◌≤◌, true, IfOk, OnErr, length};
 ghost use Rattle.dc_talk.specs.declared.say.Say.TheVariants as say;
-ghost use Rattle.dc_talk.specs.declared.ask.Ask.TheVariants.{Deliver, Learn, Stop, Start};
-ghost use Rattle.dc_talk.specs.Answers.{is_fit_item, send_answer, deliver_answer, tells};
-ghost use Rattle.k_stable.specs.Tables.{told_by};
-ghost use Rattle.dc_centre.specs.Centre.{Goes};
+ghost use Rattle.dc_talk.specs.declared.ask.Ask.TheVariants.{Send, Deliver, Report, Learn, Prune, Stop, Start};
+ghost use Rattle.dc_talk.specs.Answers.{is_fit_item};
+ghost use Rattle.dc_centre.specs.Centre.{Goes, row_over};
 
 use crate::centre::Centre;
+use crate::outbox::{part, trim};
 use dc_talk::{Records, Say};
 use ids_core::NoMemory;
 use std::alloc::Global;
@@ -17,19 +16,22 @@ use vv_core::{Lack, Vector};
 impl Centre {
     /// The answer to a send, in two copies.
     pub(crate) fn send(&self, alloc: Global, after: u64, most: u32) -> Result<(Say, Say), NoMemory>
-        ensures answer { IfOk result (λ says. says.0 ≡ send_answer self.now.settings.me self.now.records after most) }
+        ensures answer { IfOk result (λ says. says.0 ≡ row_over self.now (Send after most)) }
         ensures copy { IfOk result (λ says. says.1 ≡ says.0) }
     {
-        let asked = part(self.own.as_slice(), after, most);
-        let list = Records::from_vec(asked.to_vec(alloc)?);
+        let from = self.trimmed;
+        if after < from {
+            return Ok((Say::Trimmed { from }, Say::Trimmed { from }));
+        }
+        let list = Records::from_vec(part(&self.outbox, alloc, after - from, most)?);
         let copy = list.copy()?;
         Ok((Say::Records { list: copy }, Say::Records { list }))
     }
 
     /// The answer to a delivery that fits, in two copies.
-    pub(crate) fn deliver(&mut self, alloc: Global, item: &Record) -> Result<(Say, Say), NoMemory>
+    pub(crate) fn deliver(&mut self, item: &Record) -> Result<(Say, Say), NoMemory>
         requires fit { is_fit_item self.old.settings.n item.now ≡ true }
-        ensures answer { IfOk result (λ says. says.0 ≡ deliver_answer self.old.settings self.old.records item.now) }
+        ensures answer { IfOk result (λ says. says.0 ≡ row_over self.old (Deliver item.now)) }
         ensures copy { IfOk result (λ says. says.1 ≡ says.0) }
         ensures goes { IfOk result (λ says. Goes self.old self.new (Deliver item.now) says.0) }
         ensures err { OnErr result (self.new ≡ self.old) }
@@ -49,13 +51,13 @@ impl Centre {
         if number.saturating_sub(have) > 1 {
             return Ok((Say::Orphan { number, have }, Say::Orphan { number, have }));
         }
-        let fresh = self.applied.take(alloc, item.copy()?)?;
+        let fresh = self.applied.take(item)?;
         Ok((Say::Applied { fresh }, Say::Applied { fresh }))
     }
 
     /// The answer to a report, in two copies.
     pub(crate) fn report(&self) -> (Say, Say)
-        ensures answer { result.0 ≡ say.Vector (counts self.now.settings.n self.now.records) }
+        ensures answer { result.0 ≡ row_over self.now Report }
         ensures copy { result.1 ≡ result.0 }
     {
         let vector = self.applied.vector();
@@ -66,12 +68,42 @@ impl Centre {
     pub(crate) fn learn(&mut self, from: u8, vector: &Vector) -> (Say, Say)
         requires from { (1 ≤ from) × (from ≤ self.old.settings.n) }
         requires width { length vector.now ≡ self.old.settings.n }
-        ensures answer { result.0 ≡ say.Learned (tells self.old.settings.me (told_by self.old.told from) from vector.now) }
+        ensures answer { result.0 ≡ row_over self.old (Learn from vector.now) }
         ensures copy { result.1 ≡ result.0 }
         ensures goes { Goes self.old self.new (Learn from vector.now) result.0 }
     {
         let fresh = self.told.learn(from, vector);
         (Say::Learned { fresh }, Say::Learned { fresh })
+    }
+
+    /// The answer to a prune, in two copies: folds what was marked at the one before, marks what is stable
+    /// now, and lets own records go that all centres are known to have. Time: what is folded and let go.
+    pub(crate) fn prune(&mut self, alloc: Global) -> Result<(Say, Say), NoMemory>
+        ensures answer { IfOk result (λ says. says.0 ≡ row_over self.old Prune) }
+        ensures copy { IfOk result (λ says. says.1 ≡ says.0) }
+        ensures goes { IfOk result (λ says. Goes self.old self.new Prune says.0) }
+        ensures err { OnErr result (self.new ≡ self.old) }
+    {
+        let here = self.applied.vector();
+        let vector = self.mark;
+        let trimmed = self.told.all_known(&here).get(self.settings.me);
+        self.applied.prune(alloc, &vector)?;
+        trim(&mut self.outbox, trimmed - self.trimmed);
+        self.trimmed = trimmed;
+        self.mark = self.told.stable(&here);
+        let folded = self.applied.folded();
+        Ok((
+            Say::Base {
+                vector,
+                folded,
+                trimmed,
+            },
+            Say::Base {
+                vector,
+                folded,
+                trimmed,
+            },
+        ))
     }
 
     /// Stops the centre.
@@ -93,21 +125,6 @@ impl Centre {
         self.stopped = false;
         (Say::Started, Say::Started)
     }
-}
-
-// The records after the first so many, and at most so many.
-fn part(records: &[Record], after: u64, most: u32) -> &[Record]
-    ensures { result.now ≡ take most (drop after records.now) }
-{
-    let len = records.len();
-    let start = if after < len as u64 {
-        after as usize
-    } else {
-        len
-    };
-    let rest = &records[start..];
-    let count = rest.len().min(most as usize);
-    &rest[..count]
 }
 
 // The refusal that names what a record has to wait for.

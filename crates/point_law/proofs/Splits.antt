@@ -1,5 +1,5 @@
 -- What a split tells at a vector.
-use Rattle.std.proofs.Common.{◌≡◌, ℕ, ◌+◌, max, List, [], ◌∷◌, length, ◌∙◌}
+use Rattle.std.proofs.Common.{◌≡◌, ℕ, ◌+◌, max, List, [], length, ◌∙◌}
 use Rattle.std.specs.Prelude.{filter, flat_map}
 use Rattle.list_core.proofs.Apart.{apart_map}
 use Rattle.ids_core.specs.declared.object.ObjectId.{ObjectId}

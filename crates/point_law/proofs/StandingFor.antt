@@ -12,7 +12,7 @@ use Rattle.dc_talk.specs.Records.{has, inside, mine}
 use Rattle.dc_talk.specs.Objects.{state_at}
 use Rattle.op_log.specs.declared.logged.Logged.{Logged}
 use Rattle.op_log.specs.Logs as log
-use Rattle.check_point.specs.Points.{PointView, IsPointOf, state_of, number_of}
+use Rattle.check_point.specs.Points.{PointView, IsPointOf}
 use Rattle.point_law.specs.Splits.{first_txs, dots_of, is_inside}
 use Rattle.point_law.specs.LogSplits.{stamps_of, txs_of, ops_in}
 use Rattle.point_law.specs.StandFor.{StandFor, state_told, mine_told, count_told, with_one}

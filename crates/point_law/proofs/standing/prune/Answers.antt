@@ -1,6 +1,5 @@
 use Rattle.std.proofs.Common.{All, subst, sym, ◌∙◌}
 use Rattle.std.proofs.lemmas.List.Elements.{All-filter, All-map}
-use Rattle.tx_core.specs.declared.tx.Tx.{Tx}
 use Rattle.check_point.specs.Points.{HasFewUpdates}
 use Rattle.op_log.specs.declared.logged.Logged.{Logged}
 use Rattle.op_log.specs.Logs.{is_inside, within_of}

@@ -1,25 +1,52 @@
-use Rattle.std.proofs.Common.{◌≡◌, ◌++◌, ◌∷◌, [], Bool, List, length, sym, ap, ◌∙◌, subst}
+use Rattle.std.proofs.Common.{◌≡◌, ◌++◌, ◌∷◌, [], ℕ, Bool, List, length, sym, ap, ◌∙◌, subst}
 use Rattle.std.specs.Prelude.{not}
-use Rattle.dup_guard.specs.Notes.{number_of}
+use Rattle.vv_core.proofs.Entrywise.{length-raised}
 use Rattle.tx_core.specs.declared.tx.Record.{Record}
-use Rattle.dc_centre.specs.declared.applied.Held.{Held}
-use Rattle.dc_centre.specs.Applied.{Have, IsNext, Index, records_of, is_fresh}
-use Rattle.dc_centre.proofs.Applying.{Noted, Added, applied_pushed, fresh_is}
+use Rattle.point_law.specs.StandFor.{with_one}
+use Rattle.dc_centre.specs.Applied.{AppliedView, IsNext, is_fresh, IsApplied}
+use Rattle.dc_centre.proofs.Applying.{Noted, applied_more, not_logged, fresh_is}
 use Rattle.dc_centre.proofs.applied.Applied.take.Goals as goal
+
+pub keep-requires-clause-new : goal.keep-requires-clause-new
+keep-requires-clause-new c t =
+    let kept : AppliedView = record { counts = c.self.inside.vector; lasts = c.self.inside.guard; greatest = c.self.inside.top; point = c.self.inside.point; log = c.self.inside.log } in
+    let next : IsNext kept c.args.item.now = subst (λ (x : AppliedView). IsNext x c.args.item.now) (sym c.self.view_is) c.requires in
+    not_logged (length c.self.inside.vector) kept c.self.invariant.records c.args.item.now c.self.invariant.is next (sym (fresh_is c.seen-fresh.result kept c.args.item.now c.seen-fresh.ensures next.next) ∙ t)
+
+module _ (c : goal.After-self-2-1) where
+  -- what is kept before, and then
+  abbrev kept : AppliedView
+  kept = record { counts = c.self.inside.vector; lasts = c.self.inside.guard; greatest = c.self.inside.top; point = c.self.inside.point; log = c.self.inside.log }
+
+  abbrev more : AppliedView
+  more = record { counts = c.raise-self-inside.result; lasts = c.note_if.new.guard; greatest = c.max-self-inside.result; point = c.self.inside.point; log = c.keep.new.log }
+
+  next : IsNext kept c.args.item.now
+  next = subst (λ (x : AppliedView). IsNext x c.args.item.now) (sym c.self.view_is) c.requires
+
+  fresh : not c.seen-fresh.result ≡ is_fresh kept c.args.item.now
+  fresh = fresh_is c.seen-fresh.result kept c.args.item.now c.seen-fresh.ensures next.next
+
+  noted : Noted c.args.item.now (is_fresh kept c.args.item.now) c.self.inside.guard c.note_if.new.guard
+  noted = subst (λ (f : Bool). Noted c.args.item.now f c.self.inside.guard c.note_if.new.guard) fresh (record { numbers = c.note_if.ensures.numbers; stamp = c.note_if.ensures.stamp; others = c.note_if.ensures.others })
+
+  grows : (A : List Record) → IsApplied (length c.self.inside.vector) kept A → IsApplied (length c.self.inside.vector) more (A ++ c.args.item.now ∷ [])
+  grows A h =
+      let made = applied_more (length c.self.inside.vector) kept c.note_if.new.guard A c.args.item.now h next noted in
+      let counts = c.raise-self-inside.ensures.entries in
+      let greatest = c.max-self-inside.ensures in
+      let log = c.in_ok-keep.ensures.ok ∙ ap (λ (f : Bool). with_one c.self.inside.log c.args.item.now f) fresh in
+      subst (λ (x : AppliedView). IsApplied (length c.self.inside.vector) x (A ++ c.args.item.now ∷ [])) (λ i. record { counts = sym counts i; lasts = c.note_if.new.guard; greatest = sym greatest i; point = c.self.inside.point; log = sym log i }) made
 
 pub invariant_of-self-2 : goal.invariant_of-self-2
 invariant_of-self-2 c =
-    let s = c.self.inside in
-    let A = records_of s.records.items in
-    let r : Record = c.args.item in
-    let next : IsNext (length s.vector) A r = subst (λ (h : Have). IsNext h.n h.records r) (sym c.self.view_is) c.requires in
-    let fresh : Bool = not c.seen-fresh.result in
-    let noted : Noted A r fresh s.guard c.note_if.new.guard = record { numbers = c.note_if.ensures.numbers; stamp = c.note_if.ensures.stamp; others = c.note_if.ensures.others } in
-    let added : Added r s.dots c.add.new.self = record { here = c.in_ok-add.ensures.here; others = c.in_ok-add.ensures.others; counts = c.in_ok-add.ensures.counts } in
-    let items : c.push_reserved.new.self.items ≡ s.records.items ++ record { item = r; fresh = fresh } ∷ [] = c.push_reserved.ensures.items ∙ ap (λ (l : List Held). l ++ record { item = r; fresh = fresh } ∷ []) c.in_ok-reserve.ensures.items in
-    let same : fresh ≡ is_fresh A r = fresh_is c.seen-fresh.result (number_of s.guard r.tx.dot.client) A r c.seen-fresh.ensures (c.self.invariant.guarded.numbers r.tx.dot.client) next.next in
-    let counts = c.raise-self-inside.ensures.entries in
-    let greatest = c.max-self-inside.ensures in
-    let old : Index = record { counts = s.vector; lasts = s.guard; dots = s.dots; greatest = s.top; held = s.records.items } in
-    let new : Index = record { counts = c.raise-self-inside.result; lasts = c.note_if.new.guard; dots = c.add.new.self; greatest = c.max-self-inside.result; held = c.push_reserved.new.self.items } in
-    applied_pushed old new r fresh c.self.invariant next same noted added (λ i. record { counts = counts i; lasts = new.lasts; dots = new.dots; greatest = greatest i; held = items i })
+    let wide : length c.self.inside.vector ≡ length c.raise-self-inside.result = sym (ap (λ (v : List ℕ). length v) c.raise-self-inside.ensures.entries ∙ length-raised c.self.inside.vector c.args.item.now.stamp) in
+    record {
+      records = c.self.invariant.records ++ c.args.item.now ∷ [];
+      is = subst (λ (n : ℕ). IsApplied n (more c) (c.self.invariant.records ++ c.args.item.now ∷ [])) wide (grows c c.self.invariant.records c.self.invariant.is);
+    }
+
+pub returns-clause-grown : goal.returns-clause-grown
+returns-clause-grown c A h =
+    subst (λ (x : AppliedView). IsApplied (length x.counts) (more c) (A ++ c.args.item.now ∷ [])) c.self.view_is
+    (grows c A (subst (λ (x : AppliedView). IsApplied (length x.counts) x A) (sym c.self.view_is) h))

@@ -1,16 +1,32 @@
-use Rattle.std.proofs.Common.{◌≡◌, ℕ, true, ap, ◌∙◌, arith}
+use Rattle.std.proofs.Common.{◌≡◌, true, List, [], ◌∷◌, ◌++◌, sym, ap, ◌∙◌, subst, arith}
+use Rattle.tx_core.specs.declared.tx.Record.{Record}
+use Rattle.dc_talk.specs.declared.ask.Ask.TheVariants.{Deliver}
+use Rattle.dc_talk.specs.declared.say.Say.TheVariants.{Applied}
 use Rattle.dc_talk.specs.Answers.{is_fit_item}
-use Rattle.dc_centre.specs.Centre.{CentreView}
-use Rattle.dc_centre.proofs.Records.{delivered_next}
+use Rattle.dc_centre.specs.Applied.{IsApplied}
+use Rattle.dc_centre.specs.Centre.{CentreView, Goes}
+use Rattle.dc_centre.proofs.Going.{delivered_next, centre_received, goes_delivered}
 use Rattle.dc_centre.proofs.centre.Centre.deliver.Goals as goal
 
 pub take-requires : goal.take-requires
 take-requires c =
     let s = c.self.inside in
-    let n : s.applied.n ≡ c.args.self.now.settings.n = c.self.invariant.width ∙ ap (λ (h : CentreView). h.settings.n) c.self.view_is in
-    let fit : is_fit_item s.applied.n c.args.item.now ≡ true = ap (λ (n : ℕ). is_fit_item n c.args.item.now) n ∙ c.requires.fit in
+    let fit : is_fit_item s.settings.n c.args.item.now ≡ true = ap (λ (h : CentreView). is_fit_item h.settings.n c.args.item.now) c.self.view_is ∙ c.requires.fit in
     let old = c.if-item-have.false in
     let gap = c.if-item-have-gt1.false in
     let orphan = c.if-saturating_sub-gt1.false in
     let sub = c.saturating_sub.ensures in
-    delivered_next s.applied.n s.applied.records c.args.item.now c.in_ok-copy.field-0 c.count-have.result c.through-have.result fit c.in_ok-copy.ensures c.count-have.ensures c.through-have.ensures (omega (arith, old)) (omega (arith, old, gap)) (omega (arith, orphan, sub))
+    delivered_next s.settings.n s.applied c.args.item.now c.count-have.result c.through-have.result c.self.invariant.width fit c.count-have.ensures c.through-have.ensures (omega (arith, old)) (omega (arith, old, gap)) (omega (arith, orphan, sub))
+
+pub invariant_of-self-2 : goal.invariant_of-self-2
+invariant_of-self-2 c =
+    let s = c.self.inside in
+    centre_received s.settings s.applied c.take.new.self s.told s.mark s.trimmed c.args.item.now.stamp c.self.invariant c.in_ok-fresh.ensures.counts c.take.ensures.point c.if-item-self.false
+
+pub returns-clause-goes : goal.returns-clause-goes
+returns-clause-goes c =
+    let s = c.self.inside in
+    let old : CentreView = record { settings = c.self.inside.settings; applied = c.self.inside.applied; told = c.self.inside.told; mark = c.self.inside.mark; trimmed = c.self.inside.trimmed; outbox = c.self.inside.outbox.items; down = c.self.inside.stopped } in
+    let grows : (A : List Record) → IsApplied s.settings.n s.applied A → IsApplied s.settings.n c.take.new.self (A ++ c.args.item.now ∷ []) = λ A h. subst (λ n. IsApplied n c.take.new.self (A ++ c.args.item.now ∷ [])) c.self.invariant.width (c.in_ok-fresh.ensures.grown A (subst (λ n. IsApplied n s.applied A) (sym c.self.invariant.width) h)) in
+    subst (λ (c' : CentreView). Goes c' (record old { applied = c.take.new.self }) (Deliver c.args.item.now) (Applied c.in_ok-fresh.fresh)) c.self.view_is
+    (goes_delivered old c.take.new.self c.args.item.now c.in_ok-fresh.fresh grows c.take.ensures.point c.if-item-self.false)

@@ -1,7 +1,7 @@
 use Rattle.std.proofs.Common.{◌≡◌, true, subst}
 use Rattle.dc_talk.specs.declared.ask.Ask.{Ask}
 use Rattle.dc_talk.specs.Answers.{fits}
-use Rattle.dc_centre.proofs.Records.{commit_fits}
+use Rattle.dc_centre.proofs.Going.{commit_fits}
 use Rattle.dc_centre.proofs.centre.Centre.reply.Goals as goal
 
 pub commit-requires : goal.commit-requires

@@ -1,12 +1,44 @@
-use Rattle.std.proofs.Common.{◌<◌, ◌++◌, ◌∷◌, [], List, refl, sym, ap, ◌∙◌, subst}
-use Rattle.dc_talk.specs.Records.{count}
+use Rattle.std.proofs.Common.{◌≡◌, ◌<◌, ℕ, ◌+◌, List, [], ◌∷◌, ◌++◌, sym, ap, ◌∙◌, subst}
+use Rattle.vv_core.specs.declared.stamp.Stamp.{Stamp}
+use Rattle.vv_core.specs.Vectors.{at}
+use Rattle.dup_guard.specs.Notes.{number_of, stamp_of}
 use Rattle.tx_core.specs.declared.tx.Record.{Record}
-use Rattle.dc_centre.specs.Centre.{CentreView}
-use Rattle.dc_centre.proofs.Records.{centre_stamped}
+use Rattle.dc_talk.specs.declared.ask.Ask.TheVariants.{Commit}
+use Rattle.dc_talk.specs.declared.say.Say.TheVariants.{Stamped}
+use Rattle.dc_talk.specs.Records.{joined}
+use Rattle.dc_centre.specs.Applied.{IsApplied}
+use Rattle.dc_centre.specs.Centre.{CentreView, Goes}
+use Rattle.dc_centre.proofs.Going.{centre_stamped, goes_stamped}
 use Rattle.dc_centre.proofs.centre.Centre.stamp.Goals as goal
+
+module _ (c : goal.After-push_back_reserved) where
+  -- the stamp that is given is the next one
+  stamp_is : ◌≡◌ {A = Stamp} (record { centre = c.self.inside.settings.me; seq = c.stamped.result + 1 }) (record { centre = c.self.inside.settings.me; seq = at c.self.inside.applied.counts c.self.inside.settings.me + 1 })
+  stamp_is =
+      let count : c.stamped.result ≡ at c.self.inside.applied.counts c.self.inside.settings.me = c.stamped.ensures.count ∙ ap (λ (h : CentreView). at h.applied.counts h.settings.me) (sym c.self.view_is) in
+      λ i. record { centre = c.self.inside.settings.me; seq = count i + 1 }
+
+  -- the centre before
+  abbrev old : CentreView
+  old = record { settings = c.self.inside.settings; applied = c.self.inside.applied; told = c.self.inside.told; mark = c.self.inside.mark; trimmed = c.self.inside.trimmed; outbox = c.self.inside.outbox.items; down = c.self.inside.stopped }
+
+  grows : (A : List Record) → IsApplied old.settings.n old.applied A → IsApplied old.settings.n c.take.new.self (A ++ record { stamp = record { centre = c.self.inside.settings.me; seq = c.stamped.result + 1 }; deps = c.deps_of.result; tx = c.in_ok-copy.field-0 } ∷ [])
+  grows A h = subst (λ n. IsApplied n c.take.new.self (A ++ record { stamp = record { centre = c.self.inside.settings.me; seq = c.stamped.result + 1 }; deps = c.deps_of.result; tx = c.in_ok-copy.field-0 } ∷ [])) c.self.invariant.width (c.in_ok-take.ensures.grown A (subst (λ n. IsApplied n old.applied A) (sym c.self.invariant.width) h))
 
 pub invariant_of-self-2 : goal.invariant_of-self-2
 invariant_of-self-2 c =
     let s = c.self.inside in
-    let room : count s.settings.me s.applied.records < s.settings.limit = subst (λ (h : CentreView). count h.settings.me h.records < h.settings.limit) (sym c.self.view_is) c.requires.room in
-    centre_stamped s.settings s.applied c.take.new.self s.own.items c.push_reserved.new.self.items s.told _ c.in_ok-kept.kept c.self.invariant c.in_ok-take.ensures.ok (c.push_reserved.ensures.items ∙ ap (λ (l : List Record). l ++ c.in_ok-kept.kept ∷ []) c.in_ok-reserve.ensures.items) c.in_ok-kept.ensures refl room
+    let room : at s.applied.counts s.settings.me < s.settings.limit = subst (λ (h : CentreView). at h.applied.counts h.settings.me < h.settings.limit) (sym c.self.view_is) c.requires.room in
+    centre_stamped s.settings s.applied c.take.new.self s.told s.mark s.trimmed (record { centre = s.settings.me; seq = c.stamped.result + 1 }) c.self.invariant c.in_ok-take.ensures.counts c.take.ensures.point (stamp_is c) room
+
+pub returns-clause-goes : goal.returns-clause-goes
+returns-clause-goes c =
+    let s = c.self.inside in
+    let r : Record = record { stamp = record { centre = s.settings.me; seq = c.stamped.result + 1 }; deps = c.deps_of.result; tx = c.in_ok-copy.field-0 } in
+    let new : CentreView = record (old c) { applied = c.take.new.self; outbox = c.push_back_reserved.new.self.items } in
+    let next : c.args.tx.now.dot.number ≡ number_of s.applied.lasts c.args.tx.now.dot.client + 1 = subst (λ (h : CentreView). c.args.tx.now.dot.number ≡ number_of h.applied.lasts c.args.tx.now.dot.client + 1) (sym c.self.view_is) c.requires.next in
+    let deps : c.deps_of.result ≡ joined s.settings.n c.args.tx.now.snap (stamp_of s.applied.lasts c.args.tx.now.dot.client) = c.deps_of.ensures.entries ∙ ap (λ (n : ℕ). joined n c.args.tx.now.snap (stamp_of s.applied.lasts c.args.tx.now.dot.client)) c.self.invariant.width in
+    let made : r ≡ record { stamp = record { centre = s.settings.me; seq = at s.applied.counts s.settings.me + 1 }; deps = joined s.settings.n c.args.tx.now.snap (stamp_of s.applied.lasts c.args.tx.now.dot.client); tx = c.args.tx.now } = λ i. record { stamp = stamp_is c i; deps = deps i; tx = c.in_ok-copy.ensures i } in
+    subst (λ (h : CentreView). Goes h new (Commit c.args.tx.now) (Stamped (record { centre = s.settings.me; seq = c.stamped.result + 1 }))) c.self.view_is
+    (subst (λ (given : Stamp). Goes (old c) new (Commit c.args.tx.now) (Stamped given)) (sym (stamp_is c))
+    (goes_stamped (old c) c.take.new.self c.push_back_reserved.new.self.items c.args.tx.now r c.self.invariant next made (grows c) c.take.ensures.point (c.push_back_reserved.ensures.items ∙ ap (λ (l : List Record). l ++ r ∷ []) c.in_ok-reserve.ensures.items)))

@@ -1,6 +1,0 @@
-use Rattle.std.proofs.Common.{◌≡◌, drop}
-use Rattle.dc_centre.specs.Dots.{is_any_within}
-use Rattle.dc_centre.proofs.dots.is_any_within.Given as goal
-
-abbrev pub invariant-loop-stamp : goal.invariant-loop-stamp
-invariant-loop-stamp l = is_any_within l.vector (drop l.stamp-index l.stamps) ≡ is_any_within l.vector l.stamps
