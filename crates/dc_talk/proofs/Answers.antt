@@ -7,8 +7,8 @@ use Rattle.std.proofs.lemmas.Option.{none-some, same_Some}
 use Rattle.list_core.specs.Choices.{when, first_of}
 use Rattle.list_core.proofs.Choices.{EachChoice, first_of_holds, when_holds}
 use Rattle.vv_core.specs.declared.stamp.Lack.{Lack}
-use Rattle.vv_core.specs.Vectors.{Covers, lack_of}
-use Rattle.vv_core.proofs.Covering.{lack_of-none, lack_of_covered, covers-true, covers_from}
+use Rattle.vv_core.specs.Vectors.{Covers, lack_of, IsFirstLack}
+use Rattle.vv_core.proofs.Covering.{lack_of-none, lack_of-some, lack_of_covered, covers-true, covers_from}
 use Rattle.tx_core.specs.declared.tx.Tx.{Tx}
 use Rattle.tx_core.specs.declared.tx.Record.{Record}
 use Rattle.tx_core.specs.declared.state.State.{State}
@@ -31,6 +31,14 @@ lack_holds P refuse each have need say is = go (lack_of have need) is
     go : (o : Option Lack) → option_map (λ (lack : Lack). refuse lack.centre lack.need lack.have) o ≡ Some say → P say
     go None is = absurd (none-some say is)
     go (Some lack) is = subst P (same_Some (refuse lack.centre lack.need lack.have) say is) (each lack.centre lack.need lack.have)
+
+-- what holds of the refusal for a first lack, holds of this one
+pub lack_first : (P : Say → Type 0) (refuse : ℕ → ℕ → ℕ → Say) (have need : List ℕ) → ((lack : Lack) → IsFirstLack have need lack → P (refuse lack.centre lack.need lack.have)) → (say : Say) → lacking refuse have need ≡ Some say → P say
+lack_first P refuse have need each say is = go (lack_of have need) refl is
+  where
+    go : (o : Option Lack) → lack_of have need ≡ o → option_map (λ (lack : Lack). refuse lack.centre lack.need lack.have) o ≡ Some say → P say
+    go None found is = absurd (none-some say is)
+    go (Some lack) found is = subst P (same_Some (refuse lack.centre lack.need lack.have) say is) (each lack (lack_of-some have need lack found))
 
 -- where there is none, all is covered
 pub lack_none : (refuse : ℕ → ℕ → ℕ → Say) (have need : List ℕ) → lacking refuse have need ≡ None → Covers have need
@@ -152,6 +160,11 @@ fitting s trail ask say is fits_not down_not = go (fits s.n ask) refl is
     go : (b : Bool) → fits s.n ask ≡ b → say ≡ cond b (cond (stopped trail && not (is_switch ask)) Down (row s trail ask)) Misfit → (fits s.n ask ≡ true) × (say ≡ row s trail ask)
     go true fit is = (fit, up (stopped trail && not (is_switch ask)) is)
     go false fit is = absurd (fits_not is)
+
+-- an ask that does not fit is answered by a misfit
+pub misfit : (s : Settings) (trail : List Entry) (ask : Ask) → fits s.n ask ≡ false → answer s trail ask ≡ Misfit
+unfolding answer
+misfit s trail ask fit = ap (λ t. cond t (cond (stopped trail && not (is_switch ask)) Down (row s trail ask)) Misfit) fit
 
 -- so it is one that a running centre may give
 pub answers_it : (s : Settings) (trail : List Entry) (ask : Ask) (say : Say) → say ≡ answer s trail ask → (say ≡ Misfit → ⊥) → (say ≡ Down → ⊥) → may_answer ask say ≡ true

@@ -2,3 +2,4 @@ pub mod Entrywise
 pub mod Covering
 pub mod Reaching
 pub mod Sound
+pub mod Least
