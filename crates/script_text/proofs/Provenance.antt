@@ -6,7 +6,7 @@ use Rattle.list_core.specs.Members.{In}
 use Rattle.list_core.proofs.Members.{In_left, In_right}
 use Rattle.tx_core.specs.declared.tx.Record.{Record}
 use Rattle.dc_talk.specs.declared.ask.Ask.{Ask}
-use Rattle.dc_talk.specs.declared.ask.Ask.TheVariants.{Hello, Refresh, Fetch, Commit, Send, Deliver, Report, Learn, Stop, Start}
+use Rattle.dc_talk.specs.declared.ask.Ask.TheVariants.{Hello, Refresh, Fetch, Commit, Send, Deliver, Report, Learn, Prune, Stop, Start}
 use Rattle.dc_talk.specs.declared.say.Say.{Say}
 use Rattle.dc_talk.specs.declared.say.Say.TheVariants.{Records, Vector}
 use Rattle.dc_talk.specs.declared.log.Fate.TheVariants.{Unheard}
@@ -40,6 +40,7 @@ carries_behind front before (Asked i (Deliver item) fate) is = sent_behind front
 carries_behind front before (Asked i (Learn from vector) fate) is = has_behind front before from Report (Vector vector) is
 carries_behind front before (Asked i (Send after most) fate) is = tt
 carries_behind front before (Asked i Report fate) is = tt
+carries_behind front before (Asked i Prune fate) is = tt
 carries_behind front before (Asked i Stop fate) is = tt
 carries_behind front before (Asked i Start fate) is = tt
 carries_behind front before (Asked i (Hello client need) fate) is = absurd is

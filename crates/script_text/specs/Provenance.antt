@@ -3,7 +3,7 @@ use Rattle.std.specs.Prelude.{◌≡◌, ℕ, List, [], ◌∷◌, ◌++◌, Som
 use Rattle.list_core.specs.Members.{In}
 use Rattle.tx_core.specs.declared.tx.Record.{Record}
 use Rattle.dc_talk.specs.declared.ask.Ask.{Ask}
-use Rattle.dc_talk.specs.declared.ask.Ask.TheVariants.{Send, Deliver, Report, Learn, Stop, Start}
+use Rattle.dc_talk.specs.declared.ask.Ask.TheVariants.{Send, Deliver, Report, Learn, Prune, Stop, Start}
 use Rattle.dc_talk.specs.declared.say.Say.{Say}
 use Rattle.dc_talk.specs.declared.say.Say.TheVariants.{Records, Vector}
 use Rattle.dc_talk.specs.declared.log.Deed.{Deed}
@@ -32,6 +32,7 @@ Carries before (Asked i (Deliver item) fate) = WasSent before item
 Carries before (Asked i (Learn from vector) fate) = HasAnswer before from Report (Vector vector)
 Carries before (Asked i (Send after most) fate) = Unit {0}
 Carries before (Asked i Report fate) = Unit {0}
+Carries before (Asked i Prune fate) = Unit {0}
 Carries before (Asked i Stop fate) = Unit {0}
 Carries before (Asked i Start fate) = Unit {0}
 Carries before (Told line) = Unit {0}
