@@ -7,25 +7,26 @@ use Rattle.vv_core.specs.Vectors.{zeros, join_of}
 use Rattle.tx_core.specs.declared.tx.Record.{Record}
 use Rattle.dc_talk.specs.declared.settings.Settings.{Settings}
 use Rattle.dc_talk.specs.declared.ask.Ask.{Ask}
-use Rattle.dc_talk.specs.declared.ask.Ask.TheVariants.{Hello, Refresh, Fetch, Commit, Send, Deliver, Report, Learn, Stop, Start}
+use Rattle.dc_talk.specs.declared.ask.Ask.TheVariants.{Hello, Refresh, Fetch, Commit, Send, Deliver, Report, Learn, Prune, Stop, Start}
 use Rattle.dc_talk.specs.declared.say.Say.{Say}
 use Rattle.dc_talk.specs.declared.say.Say.TheVariants.{Misfit, Down, Applied, Vector, Learned}
 use Rattle.dc_talk.specs.declared.log.Fate.TheVariants.{Unheard}
 use Rattle.dc_talk.specs.declared.log.Deed.TheVariants.{Asked}
 use Rattle.dc_talk.specs.Entries.{Entry}
-use Rattle.dc_talk.specs.Records.{vector}
+use Rattle.dc_talk.specs.Records.{count, vector, guard}
 use Rattle.dc_talk.specs.Clients.{same_vector}
-use Rattle.dc_talk.specs.Trails.{grown, applied, taught_in, taught, told, switched_in, stopped}
-use Rattle.dc_talk.specs.Answers.{fits, send_answer, deliver_answer, tells, answer}
+use Rattle.dc_talk.specs.Trails.{grown, applied, taught_in, taught, told, switched_in, stopped, Horizon, horizon, horizon_after}
+use Rattle.dc_talk.specs.Answers.{fits, own_after, send_answer, deliver_answer, tells, answer}
 use Rattle.dc_talk.proofs.Vectors.{same_vector-true}
+use Rattle.dc_talk.proofs.Horizons.{horizon_more}
 use Rattle.script_text.specs.Carrying.{is_news}
 use Rattle.dc_worker.specs.Settled.{IsAlike}
 
 pub alike_self : (s : Settings) (x : List Entry) → IsAlike s x x
-alike_self s x = record { lists = refl; rows = λ j other. refl; switch = refl }
+alike_self s x = record { lists = refl; rows = λ j other. refl; horizons = refl; switch = refl }
 
 pub alike_then : (s : Settings) (x y z : List Entry) → IsAlike s x y → IsAlike s y z → IsAlike s x z
-alike_then s x y z first more = record { lists = first.lists ∙ more.lists; rows = λ j other. first.rows j other ∙ more.rows j other; switch = first.switch ∙ more.switch }
+alike_then s x y z first more = record { lists = first.lists ∙ more.lists; rows = λ j other. first.rows j other ∙ more.rows j other; horizons = first.horizons ∙ more.horizons; switch = first.switch ∙ more.switch }
 
 -- an ask of this centre by one who carries
 abbrev pub IsCarried : ℕ → Ask → Type 0
@@ -44,14 +45,15 @@ same_reply fit down off by a b switch same = ap (λ down. cond fit (cond (down &
 -- the centre answers a carried ask alike
 pub alike_answer : (s : Settings) (x y : List Entry) (ask : Ask) → IsAlike s x y → IsCarried s.me ask → answer s x ask ≡ answer s y ask
 unfolding answer
-alike_answer s x y (Send after most) alike is = same_reply (fits s.n (Send after most)) (stopped x) (stopped y) true _ _ alike.switch (ap (λ A. send_answer s.me A after most) alike.lists)
-alike_answer s x y (Deliver item) alike is = same_reply (fits s.n (Deliver item)) (stopped x) (stopped y) true _ _ alike.switch (ap (λ A. deliver_answer s A item) alike.lists)
+alike_answer s x y (Send after most) alike is = same_reply (fits s.n (Send after most)) (stopped x) (stopped y) true _ _ alike.switch (ap (λ (h : Horizon). send_answer h.trimmed (own_after s.me (applied s.n x) after most) after) alike.horizons ∙ ap (λ A. send_answer (horizon s y).trimmed (own_after s.me A after most) after) alike.lists)
+alike_answer s x y (Deliver item) alike is = same_reply (fits s.n (Deliver item)) (stopped x) (stopped y) true _ _ alike.switch (ap (λ A. deliver_answer s (vector s.n A) (count item.stamp.centre A) (guard item.tx.dot.client A) item) alike.lists)
 alike_answer s x y Report alike is = same_reply (fits s.n Report) (stopped x) (stopped y) true _ _ alike.switch (ap (λ A. Vector (vector s.n A)) alike.lists)
 alike_answer s x y (Learn from news) alike is = same_reply (fits s.n (Learn from news)) (stopped x) (stopped y) true _ _ alike.switch (ap (λ row. Learned (tells s.me row from news)) (alike.rows from is))
 alike_answer s x y (Hello client need) alike is = absurd is
 alike_answer s x y (Refresh client here) alike is = absurd is
 alike_answer s x y (Fetch object here) alike is = absurd is
 alike_answer s x y (Commit tx) alike is = absurd is
+alike_answer s x y Prune alike is = absurd is
 alike_answer s x y Stop alike is = absurd is
 alike_answer s x y Start alike is = absurd is
 
@@ -68,6 +70,7 @@ quiet_grown n me i A (Hello client need) say is quiet = absurd is
 quiet_grown n me i A (Refresh client here) say is quiet = absurd is
 quiet_grown n me i A (Fetch object here) say is quiet = absurd is
 quiet_grown n me i A (Commit tx) say is quiet = absurd is
+quiet_grown n me i A Prune say is quiet = absurd is
 quiet_grown n me i A Stop say is quiet = absurd is
 quiet_grown n me i A Start say is quiet = absurd is
 
@@ -81,8 +84,23 @@ quiet_switch me down (Hello client need) say is = absurd is
 quiet_switch me down (Refresh client here) say is = absurd is
 quiet_switch me down (Fetch object here) say is = absurd is
 quiet_switch me down (Commit tx) say is = absurd is
+quiet_switch me down Prune say is = absurd is
 quiet_switch me down Stop say is = absurd is
 quiet_switch me down Start say is = absurd is
+
+-- it leaves the horizon
+quiet_horizon : (s : Settings) (x : List Entry) (h : Horizon) (ask : Ask) (say : Say) → IsCarried s.me ask → horizon_after s x h ask say ≡ h
+quiet_horizon s x h (Send after most) say is = refl
+quiet_horizon s x h (Deliver item) say is = refl
+quiet_horizon s x h Report say is = refl
+quiet_horizon s x h (Learn from news) say is = refl
+quiet_horizon s x h (Hello client need) say is = absurd is
+quiet_horizon s x h (Refresh client here) say is = absurd is
+quiet_horizon s x h (Fetch object here) say is = absurd is
+quiet_horizon s x h (Commit tx) say is = absurd is
+quiet_horizon s x h Prune say is = absurd is
+quiet_horizon s x h Stop say is = absurd is
+quiet_horizon s x h Start say is = absurd is
 
 -- a centre that learns says whether it was told more
 learned_by : (s : Settings) (x : List Entry) (from : ℕ) (news : List ℕ) (fresh : Bool) → Learned fresh ≡ answer s x (Learn from news) → fresh ≡ tells s.me (told s.n from x) from news
@@ -121,6 +139,7 @@ quiet_taught s x i j (Hello client need) say is quiet by = absurd is
 quiet_taught s x i j (Refresh client here) say is quiet by = absurd is
 quiet_taught s x i j (Fetch object here) say is quiet by = absurd is
 quiet_taught s x i j (Commit tx) say is quiet by = absurd is
+quiet_taught s x i j Prune say is quiet by = absurd is
 quiet_taught s x i j Stop say is quiet by = absurd is
 quiet_taught s x i j Start say is quiet by = absurd is
 
@@ -129,5 +148,6 @@ pub alike_more : (s : Settings) (x : List Entry) (e : Entry) → IsCarried s.me 
 alike_more s x e is quiet by = record {
   lists = fold_push (λ A (entry : Entry). grown s.n A entry.ask entry.say) [] x e ∙ quiet_grown s.n s.me s.me (applied s.n x) e.ask e.say is quiet;
   rows = λ j other. fold_push (λ row (entry : Entry). taught j row (taught_in entry.ask entry.say)) (zeros s.n) x e ∙ quiet_taught s x s.me j e.ask e.say is quiet by;
+  horizons = horizon_more s x e ∙ quiet_horizon s x (horizon s x) e.ask e.say is;
   switch = fold_push (λ down (entry : Entry). unwrap_or (switched_in entry.ask entry.say) down) false x e ∙ quiet_switch s.me (stopped x) e.ask e.say is;
 }
