@@ -31,6 +31,7 @@ pub mod OneValue
 pub mod FoldedValues
 pub mod Reads
 pub mod ClosedSetValues
+pub mod Pruned
 pub mod Theorem
 pub mod Deliveries
 pub mod Links

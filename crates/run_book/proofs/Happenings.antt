@@ -12,3 +12,4 @@ pub mod Sending
 pub mod Carrying
 pub mod OperatorSteps
 pub mod Again
+pub mod Trimming

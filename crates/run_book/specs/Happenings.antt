@@ -1,20 +1,24 @@
 -- What happens among several centres and their callers, as one list.
-use Rattle.std.specs.Prelude.{◌≡◌, ℕ, ◌+◌, ◌*◌, ◌≤◌, ◌⊎◌, cond, ◌==◌, length, map, List, [], ◌∷◌, ◌++◌, Option, Some, None}
+use Rattle.std.specs.Prelude.{◌≡◌, ℕ, ◌+◌, ◌*◌, ◌≤◌, ◌⊎◌, cond, ◌==◌, length, take, map, slice_get, List, [], ◌∷◌, ◌++◌, Option, Some, None}
 use Rattle.std.specs.List.{filter_map}
 use Rattle.list_core.specs.Members.{In}
 use Rattle.list_core.specs.Moments.{Each}
 use Rattle.ids_core.specs.declared.limits.TheConstants.{MOST_CENTRES, MOST_CLIENTS, MOST_RECORDS}
+use Rattle.vv_core.specs.Vectors.{at}
 use Rattle.tx_core.specs.declared.tx.Record.{Record}
 use Rattle.dc_talk.specs.declared.ask.Ask.{Ask}
-use Rattle.dc_talk.specs.declared.ask.Ask.TheVariants.{Send, Deliver, Report, Learn, Stop, Start}
+use Rattle.dc_talk.specs.declared.ask.Ask.TheVariants.{Send, Deliver, Report, Learn, Prune, Stop, Start}
 use Rattle.dc_talk.specs.declared.say.Say.{Say}
-use Rattle.dc_talk.specs.declared.say.Say.TheVariants.{Records, Vector}
+use Rattle.dc_talk.specs.declared.say.Say.TheVariants.{Trimmed, Records, Vector}
 use Rattle.dc_talk.specs.declared.calls.Connection.{Connection}
+use Rattle.dc_talk.specs.declared.log.Fate.{Fate}
 use Rattle.dc_talk.specs.declared.log.Deed.{Deed}
 use Rattle.dc_talk.specs.declared.log.Deed.TheVariants.{Did, Asked, Told}
 use Rattle.dc_talk.specs.declared.log.Note.{Note}
 use Rattle.dc_talk.specs.Entries.{Entry}
-use Rattle.dc_talk.specs.Logs.{entry_made, entries_made}
+use Rattle.dc_talk.specs.Logs.{answered, entry_made, entries_made}
+use Rattle.dc_talk.specs.Records.{vector}
+use Rattle.dc_talk.specs.Trails.{applied}
 use Rattle.dc_talk.specs.Answers.{History}
 use Rattle.dc_talk.specs.Clients.{Client}
 use Rattle.dc_talk.specs.Rule.{Allows, after, client_after}
@@ -88,6 +92,7 @@ CarrierAsks trails (Deliver item) = WasSent trails item
 CarrierAsks trails (Learn from news) = HasAnswer (trails from) (Vector news)
 CarrierAsks trails (Send after most) = Unit {0}
 CarrierAsks trails Report = Unit {0}
+CarrierAsks trails Prune = Unit {0}
 CarrierAsks trails Stop = Unit {0}
 CarrierAsks trails Start = Unit {0}
 CarrierAsks trails _ = ⊥
@@ -144,6 +149,10 @@ AreHistories n k setup all = (i : ℕ) → 1 ≤ i → i ≤ n → History (sett
 pub record AreTogether (n k : ℕ) (setup : Setup) (all : List Happened) : Type 0 where
   pub histories : AreHistories n k setup all
   pub each : Each (Happens n setup) all
+
+-- a centre that answers that own records were let go up to a number does so when every centre has them
+pub record TrimsInTime (n : ℕ) (all : List Happened) : Type 0 where
+  pub had : (p i after most number j : ℕ) (h : Happened) (fate : Fate) → slice_get all p ≡ Some h → h.note.deed ≡ Asked i (Send after most) fate → answered fate ≡ Some (Trimmed number) → 1 ≤ j → j ≤ n → number ≤ at (vector n (applied n (trail_in j (take p all)))) i
 
 -- ---- the book of it
 

@@ -1,11 +1,11 @@
 -- What K centres are known to have, by the trails and logs of a book.
-use Rattle.std.specs.Prelude.{◌≡◌, ◌≤◌, ◌<◌, ℕ, true, length, take, List, Some, count_by, slice_get}
+use Rattle.std.specs.Prelude.{◌≡◌, ◌≢◌, ◌≤◌, ◌<◌, ℕ, true, length, take, List, Some, count_by, slice_get}
 use Rattle.list_core.specs.Members.{In}
 use Rattle.ids_core.specs.declared.ids.Dot.{Dot}
 use Rattle.vv_core.specs.declared.stamp.Stamp.{Stamp}
 use Rattle.vv_core.specs.Vectors.{within}
 use Rattle.tx_core.specs.declared.tx.Record.{Record}
-use Rattle.dc_talk.specs.declared.say.Say.TheVariants.{Snap}
+use Rattle.dc_talk.specs.declared.say.Say.TheVariants.{Snap, Vector}
 use Rattle.dc_talk.specs.declared.log.Fate.TheVariants.{Heard}
 use Rattle.dc_talk.specs.declared.log.Deed.TheVariants.{Asked}
 use Rattle.dc_talk.specs.declared.log.Note.{Note}
@@ -55,3 +55,22 @@ pub record HasMoment (b : Book) (j : ℕ) (stamp : Stamp) : Type 0 where
   pub place : ℕ
   pub few : place ≤ length (trail_of b j)
   pub covers : within stamp (vector b.n (applied_at b j place)) ≡ true
+
+-- centre j answered a report with its vector, and the vector covers the stamp
+pub record HasReported (b : Book) (j : ℕ) (stamp : Stamp) : Type 0 where
+  pub centre : (1 ≤ j) × (j ≤ b.n)
+  pub place : ℕ
+  pub entry : Entry
+  pub there : slice_get (trail_of b j) place ≡ Some entry
+  pub says : entry.say ≡ Vector (vector b.n (applied_at b j place))
+  pub covers : within stamp (vector b.n (applied_at b j place)) ≡ true
+
+-- every centre has the stamp at a moment of its own trail, and each but the one that gave it has reported so
+pub record IsKnownToAll (b : Book) (stamp : Stamp) : Type 0 where
+  pub moments : (j : ℕ) → 1 ≤ j → j ≤ b.n → HasMoment b j stamp
+  pub reports : (j : ℕ) → 1 ≤ j → j ≤ b.n → j ≢ stamp.centre → HasReported b j stamp
+
+-- at a moment of the trail the centre knew K centres to have the stamp
+pub record WasKnownBy (settings : Settings) (trail : List Entry) (stamp : Stamp) : Type 0 where
+  pub place : ℕ
+  pub known : IsKnownAt settings (take place trail) stamp

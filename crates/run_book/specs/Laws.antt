@@ -4,11 +4,13 @@ use Rattle.list_core.specs.Members.{In}
 use Rattle.ids_core.specs.declared.ids.Dot.{Dot}
 use Rattle.ids_core.specs.declared.object.ObjectId.{ObjectId}
 use Rattle.vv_core.specs.declared.stamp.Stamp.{Stamp}
-use Rattle.vv_core.specs.Vectors.{Covers, within}
+use Rattle.vv_core.specs.Vectors.{at, Covers, within}
 use Rattle.tx_core.specs.declared.tx.Tx.{Tx}
 use Rattle.tx_core.specs.declared.tx.Record.{Record}
 use Rattle.tx_core.specs.declared.state.Value.{Value}
-use Rattle.dc_talk.specs.declared.say.Say.TheVariants.{Snap}
+use Rattle.dc_talk.specs.declared.ask.TheConstants.{MOST_SENT}
+use Rattle.dc_talk.specs.declared.ask.Ask.TheVariants.{Send, Prune}
+use Rattle.dc_talk.specs.declared.say.Say.TheVariants.{Misfit, Snap}
 use Rattle.dc_talk.specs.Entries.{Entry}
 use Rattle.dc_talk.specs.Records.{vector, count, own, inside}
 use Rattle.dc_talk.specs.Trails.{told, rows, stable}
@@ -17,20 +19,23 @@ use Rattle.dc_talk.specs.Rule.{takes}
 use Rattle.run_book.specs.declared.book.Book.{Book}
 use Rattle.tx_graph.specs.Nodes.{Within, Closed, WellMade}
 use Rattle.run_book.specs.Setups.{Setup, centre_settings}
-use Rattle.run_book.specs.Parts.{trail_of, applied_at, IsClient}
+use Rattle.run_book.specs.Parts.{trail_of, applied_at, horizon_at, IsClient}
 use Rattle.tx_graph.specs.Values.{IsValueOver}
 use Rattle.run_book.specs.Graphs.{own_list, cover, graph, basis_at, client_at, commits_at}
 use Rattle.run_book.specs.Sound.{IsSound}
-use Rattle.run_book.specs.Known.{HasMoment, IsKnown}
+use Rattle.run_book.specs.Known.{HasMoment, IsKnown, IsKnownToAll, WasKnownBy}
 use Rattle.run_book.specs.Causal.{ValueRead, Reads, IsValueAt}
-use Rattle.run_book.specs.Refusals.{Exchange, HearsRefresh, IsTimely}
+use Rattle.run_book.specs.Refusals.{IsEntry, Exchange, IsSendAnswer, IsPruneAnswer, HearsRefresh, IsTimely}
 
 -- the vectors of the book are sound at each moment: those of the centres, what centres told one
--- another, the stable vectors, the snapshots that were answered, and those of the sessions
+-- another, the stable vectors, those up to which centres folded and will fold, the snapshots that were answered, and
+-- those of the sessions
 pub record HasSoundVectors (b : Book) (setup : Setup) : Type 0 where
   pub centres : (i p : ℕ) → 1 ≤ i → i ≤ b.n → IsSound b (vector b.n (applied_at b i p))
   pub told_rows : (i j p : ℕ) → 1 ≤ i → i ≤ b.n → IsSound b (told b.n j (take p (trail_of b i)))
   pub stable_vectors : (i p : ℕ) → 1 ≤ i → i ≤ b.n → IsSound b (stable (centre_settings b setup i) (take p (trail_of b i)))
+  pub bases : (i p : ℕ) → 1 ≤ i → i ≤ b.n → IsSound b (horizon_at b setup i p).base
+  pub marks : (i p : ℕ) → 1 ≤ i → i ≤ b.n → IsSound b (horizon_at b setup i p).mark
   pub snapshots : (i p : ℕ) (entry : Entry) (w : List ℕ) (mine top : ℕ) → 1 ≤ i → i ≤ b.n → slice_get (trail_of b i) p ≡ Some entry → entry.say ≡ Snap w mine top → IsSound b w
   pub sessions : (a m : ℕ) → IsClient setup a → IsSound b (client_at b setup a m).vector
 
@@ -78,3 +83,13 @@ pub record Agrees (b : Book) (setup : Setup) : Type 0 where
 pub record TakesSnapshots (b : Book) (setup : Setup) : Type 0 where
   pub exact : (x : Exchange) (number : ℕ) → HearsRefresh b setup x number → (takes (client_at b setup x.actor x.place) x.centre x.ask x.answer ≡ true) ↔ (number ≤ (client_at b setup x.actor x.place).own)
   pub timely : IsTimely b setup → (x : Exchange) (number : ℕ) → HearsRefresh b setup x number → takes (client_at b setup x.actor x.place) x.centre x.ask x.answer ≡ true
+
+-- what is pruned is known: what a centre folded, it knew K centres to have; what it let go of its own records, every
+-- centre has had; a send that asks for what was let go is answered with the number up to which all was, and every other
+-- one that fits with records, where the centre runs; and a prune is no misfit
+pub record KnowsPruned (b : Book) (setup : Setup) : Type 0 where
+  pub folded : (i p : ℕ) (stamp : Stamp) → 1 ≤ i → i ≤ b.n → 1 ≤ stamp.seq → stamp.seq ≤ at (horizon_at b setup i p).base stamp.centre → WasKnownBy (centre_settings b setup i) (take p (trail_of b i)) stamp
+  pub let_go : (i p : ℕ) (stamp : Stamp) → 1 ≤ i → i ≤ b.n → stamp.centre ≡ i → 1 ≤ stamp.seq → stamp.seq ≤ (horizon_at b setup i p).trimmed → IsKnownToAll b stamp
+  pub sends : (i after most : ℕ) (entry : Entry) (stands : IsEntry b i entry) → entry.ask ≡ Send after most → (1 ≤ most) × (most ≤ MOST_SENT) → IsSendAnswer (horizon_at b setup i stands.place).trimmed after entry.say
+  pub misfits : (i after most : ℕ) (entry : Entry) → IsEntry b i entry → entry.ask ≡ Send after most → (entry.say ≡ Misfit) ↔ ((1 ≤ most) × (most ≤ MOST_SENT) → ⊥)
+  pub prunes : (i : ℕ) (entry : Entry) → IsEntry b i entry → entry.ask ≡ Prune → IsPruneAnswer entry.say

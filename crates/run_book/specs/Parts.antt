@@ -7,9 +7,9 @@ use Rattle.dc_talk.specs.declared.say.Say.{Say}
 use Rattle.dc_talk.specs.declared.log.Note.{Note}
 use Rattle.dc_talk.specs.Entries.{Entry}
 use Rattle.dc_talk.specs.Logs.{Logged, exchanged_in}
-use Rattle.dc_talk.specs.Trails.{applied}
+use Rattle.dc_talk.specs.Trails.{Horizon, applied, horizon}
 use Rattle.run_book.specs.declared.book.Book.{Book}
-use Rattle.run_book.specs.Setups.{Setup}
+use Rattle.run_book.specs.Setups.{Setup, centre_settings}
 
 -- the trail of centre i, and no entries for a number that is no centre's
 abbrev pub trail_of : Book → ℕ → List Entry
@@ -19,6 +19,10 @@ trail_of b (suc i) = slice_index_or b.trails i []
 -- the records that centre i has applied by the first p entries of its trail
 abbrev pub applied_at : Book → ℕ → ℕ → List Record
 applied_at b i p = applied b.n (take p (trail_of b i))
+
+-- how far centre i has pruned by the first p entries of its trail
+abbrev pub horizon_at : Book → Setup → ℕ → ℕ → Horizon
+horizon_at b setup i p = horizon (centre_settings b setup i) (take p (trail_of b i))
 
 -- a log without notes
 abbrev pub idle_log : ℕ → Logged

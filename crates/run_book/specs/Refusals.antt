@@ -1,10 +1,10 @@
 -- How the asks of sessions are answered in a book.
-use Rattle.std.specs.Prelude.{◌≡◌, ◌≢◌, ◌≤◌, ◌-◌, ℕ, length, take, List, Some, slice_get}
-use Rattle.vv_core.specs.Vectors.{Covers}
+use Rattle.std.specs.Prelude.{◌≡◌, ◌≢◌, ◌≤◌, ◌<◌, ◌-◌, ℕ, length, take, List, Some, slice_get}
+use Rattle.vv_core.specs.Vectors.{Covers, IsFirstLack}
 use Rattle.dc_talk.specs.declared.ask.Ask.{Ask}
 use Rattle.dc_talk.specs.declared.ask.Ask.TheVariants.{Refresh}
 use Rattle.dc_talk.specs.declared.say.Say.{Say}
-use Rattle.dc_talk.specs.declared.say.Say.TheVariants.{Misfit, Down, Lacks, Known, Full, Stamped, Snap}
+use Rattle.dc_talk.specs.declared.say.Say.TheVariants.{Misfit, Down, Lacks, Known, Full, Stamped, Trimmed, Records, Snap, Pruned, Object, Base}
 use Rattle.dc_talk.specs.declared.calls.Connection.{Connection}
 use Rattle.dc_talk.specs.declared.log.Fate.{Fate}
 use Rattle.dc_talk.specs.declared.log.Fate.TheVariants.{Heard}
@@ -15,7 +15,7 @@ use Rattle.dc_talk.specs.Records.{vector, guard}
 use Rattle.dc_talk.specs.Rule.{Gives}
 use Rattle.run_book.specs.declared.book.Book.{Book}
 use Rattle.run_book.specs.Setups.{Setup}
-use Rattle.run_book.specs.Parts.{trail_of, notes_of, applied_at, entries_by, exchanged, IsClient}
+use Rattle.run_book.specs.Parts.{trail_of, notes_of, applied_at, horizon_at, entries_by, exchanged, IsClient}
 use Rattle.dc_talk.specs.Logs.{answered}
 use Rattle.run_book.specs.Graphs.{client_at}
 
@@ -63,6 +63,34 @@ IsPushAnswer _ = ⊥
 pub record IsNoRefusal (say : Say) : Type 0 where
   pub fits : say ≢ Misfit
   pub lacks : (centre need have : ℕ) → say ≢ Lacks centre need have
+
+-- the answers to a fetch at a vector, of a centre that keeps states from its base on: a state where the vector covers
+-- the base, and else the least centre of which it does not
+abbrev pub IsFetchAnswer : List ℕ → List ℕ → Say → Type 0
+IsFetchAnswer base here (Object state) = Covers here base
+IsFetchAnswer base here (Pruned centre high low) = IsFirstLack here base (record { centre = centre; need = high; have = low })
+IsFetchAnswer base here Down = Unit {0}
+IsFetchAnswer base here _ = ⊥
+
+-- the exchange is that of a fetch at the vector, by the centre's base at its entry
+pub record IsFetched (b : Book) (setup : Setup) (x : Exchange) (here : List ℕ) : Type 0 where
+  pub place : ℕ
+  pub there : slice_get (trail_of b x.centre) place ≡ Some (record { caller = x.actor; ask = x.ask; say = x.answer })
+  pub answer : IsFetchAnswer (horizon_at b setup x.centre place).base here x.answer
+
+-- the answers to a send of what comes after so many own records, of a centre that let them go up to a number: records
+-- where these are not among those, and else the number
+abbrev pub IsSendAnswer : ℕ → ℕ → Say → Type 0
+IsSendAnswer trimmed after (Records list) = trimmed ≤ after
+IsSendAnswer trimmed after (Trimmed from) = (after < trimmed) × (from ≡ trimmed)
+IsSendAnswer trimmed after Down = Unit {0}
+IsSendAnswer trimmed after _ = ⊥
+
+-- the answers to a prune
+abbrev pub IsPruneAnswer : Say → Type 0
+IsPruneAnswer (Base vector folded trimmed) = Unit {0}
+IsPruneAnswer Down = Unit {0}
+IsPruneAnswer _ = ⊥
 
 -- a client hears the answer to a refresh, a snapshot with so many of its commits
 pub record HearsRefresh (b : Book) (setup : Setup) (x : Exchange) (number : ℕ) : Type 0 where

@@ -18,13 +18,13 @@ ghost use Rattle.run_book.specs.Parts.{notes_of, IsClient};
 ghost use Rattle.run_book.specs.Fit.{FitsWith};
 ghost use Rattle.run_book.specs.Graphs.{client_at, commits_at};
 ghost use Rattle.run_book.specs.Causal.{IsCausal};
-ghost use Rattle.run_book.specs.Refusals.{IsEntry, Exchange, Makes, IsPushAnswer, IsNoRefusal, IsReached};
-ghost use Rattle.run_book.specs.Laws.{HasSoundVectors, HasOneList, HasClosedBases, KeepsSessions, HasKnownBases, HasValues, Agrees, TakesSnapshots};
+ghost use Rattle.run_book.specs.Refusals.{IsEntry, Exchange, Makes, IsPushAnswer, IsNoRefusal, IsFetched, IsReached};
+ghost use Rattle.run_book.specs.Laws.{HasSoundVectors, HasOneList, HasClosedBases, KeepsSessions, HasKnownBases, HasValues, Agrees, TakesSnapshots, KnowsPruned};
 ghost use Rattle.run_book.specs.Numbers.{HasNumbers};
 ghost use Rattle.run_book.specs.declared.book.Book.{Book};
 ghost use Rattle.run_book.specs.Refusals.{IsTimely};
 ghost use Rattle.run_book.specs.Scripted.{HasSteps};
-ghost use Rattle.run_book.specs.Happenings.{Happened, AreTogether, InRange, IsBookOf};
+ghost use Rattle.run_book.specs.Happenings.{Happened, AreTogether, TrimsInTime, InRange, IsBookOf};
 ghost use Rattle.run_book.specs.Played.{HavePlayed};
 ghost use Rattle.run_book.specs.Setups.{setup_of};
 ghost use Rattle.script_text.specs.declared.script.Script.{Script};
@@ -87,7 +87,9 @@ pub fn law_agree(book: &Book)
 /// and nothing delivered is an orphan. The commits of sessions are fit, and a session's connected centre
 /// has what the session's vector covers, and its commits up to what the link says. So of the asks that
 /// the session rule gives, a push is answered with a stamp, or as known, for want of room, or by a stopped
-/// centre; a refresh and a fetch neither with a misfit nor for what is lacking; a hello not with a misfit.
+/// centre; a refresh neither with a misfit nor for what is lacking; a fetch with a state where the session's
+/// vector covers the base from which on the centre keeps states, and else with the least centre of which it does
+/// not and both numbers, or by a stopped centre; a hello not with a misfit.
 /// A state is always taken, and a snapshot where it has no more of the session's commits than it had made.
 pub fn law_refusals(book: &Book)
     ensures orphan { (setup : Setup) (i number have : ℕ) (entry : Entry) → FitsWith book.now setup → IsEntry book.now i entry → entry.say ≢ Orphan number have }
@@ -97,10 +99,16 @@ pub fn law_refusals(book: &Book)
     ensures linked { (setup : Setup) (a m : ℕ) (link : Connection) → FitsWith book.now setup → IsClient setup a → (client_at book.now setup a m).link ≡ Some link → IsReached book.now a (take m (notes_of book.now a)) (client_at book.now setup a m).vector link }
     ensures push { (setup : Setup) (x : Exchange) (tx : Tx) → FitsWith book.now setup → Makes book.now setup x → x.ask ≡ Commit tx → IsPushAnswer x.answer }
     ensures refresh { (setup : Setup) (x : Exchange) (client : ℕ) (here : List ℕ) → FitsWith book.now setup → Makes book.now setup x → x.ask ≡ Refresh client here → IsNoRefusal x.answer }
-    ensures fetch { (setup : Setup) (x : Exchange) (o : ObjectId) (here : List ℕ) → FitsWith book.now setup → Makes book.now setup x → x.ask ≡ Fetch o here → IsNoRefusal x.answer }
+    ensures fetch { (setup : Setup) (x : Exchange) (o : ObjectId) (here : List ℕ) → FitsWith book.now setup → Makes book.now setup x → x.ask ≡ Fetch o here → IsFetched book.now setup x here }
     ensures hello { (setup : Setup) (x : Exchange) (client : ℕ) (need : List ℕ) → FitsWith book.now setup → Makes book.now setup x → x.ask ≡ Hello client need → x.answer ≢ Misfit }
     ensures object { (setup : Setup) (x : Exchange) (o : ObjectId) (here : List ℕ) (state : State) → FitsWith book.now setup → Makes book.now setup x → x.ask ≡ Fetch o here → x.answer ≡ Object state → takes (client_at book.now setup x.actor x.place) x.centre x.ask x.answer ≡ true }
     ensures snap { (setup : Setup) → FitsWith book.now setup → TakesSnapshots book.now setup }
+{}
+
+/// Where the book fits, what its centres prune is known: K centres have what is folded into states, as far as the
+/// centre was told, and every centre has had, and reported, the records that their centre let go.
+pub fn law_pruned(book: &Book)
+    ensures { (setup : Setup) → FitsWith book.now setup → KnowsPruned book.now setup }
 {}
 
 /// A book that fits is causal (Zawirski and others, Middleware 2015). Asks and answers may be lost, and
@@ -110,10 +118,12 @@ pub fn law_causal(book: &Book)
 {}
 
 /// What happened among several centres, one thing after another, each by the session rule or by the
-/// operator or a worker, where each trail is a history: the book of it fits and is timely. Where clients
-/// and the operator took the steps of a script, each a section of its own, the book has the script's steps.
+/// operator or a worker, where each trail is a history: the book of it fits and is timely, and each record that a
+/// centre says to have let go, every centre has by then. Where clients and the operator took the steps of a
+/// script, each a section of its own, the book has the script's steps.
 pub fn law_together()
     ensures fits { (b : Book) (n k : ℕ) (setup : Setup) (all : List Happened) → InRange n k setup → IsBookOf b n k setup.clients all → AreTogether n k setup all → FitsWith b setup }
     ensures timely { (b : Book) (n k : ℕ) (setup : Setup) (all : List Happened) → IsBookOf b n k setup.clients all → AreTogether n k setup all → IsTimely b setup }
+    ensures trims { (n k : ℕ) (setup : Setup) (all : List Happened) → AreTogether n k setup all → TrimsInTime n all }
     ensures steps { (script : Script) (b : Book) (n k : ℕ) (all : List Happened) (come : ℕ → Progress) → IsBookOf b n k script.clients all → AreTogether n k (setup_of script) all → HavePlayed n (setup_of script) script.sections all come → HasSteps script b }
 {}

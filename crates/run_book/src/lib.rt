@@ -16,6 +16,6 @@ pub use bare_nodes::BareNode;
 pub use book::{Book, Logs, Trails};
 pub use edits::{Edit, Edits};
 pub use laws::{
-    law_agree, law_causal, law_closed, law_known, law_numbers, law_one_list, law_refusals,
-    law_session, law_sound, law_together, law_value,
+    law_agree, law_causal, law_closed, law_known, law_numbers, law_one_list, law_pruned,
+    law_refusals, law_session, law_sound, law_together, law_value,
 };

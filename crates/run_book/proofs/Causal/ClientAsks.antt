@@ -26,25 +26,25 @@ use Rattle.tx_core.proofs.Folds.{fold_of-sort}
 use Rattle.dc_talk.specs.declared.ask.Ask.{Ask}
 use Rattle.dc_talk.specs.declared.ask.Ask.TheVariants.{Hello, Refresh, Fetch, Commit}
 use Rattle.dc_talk.specs.declared.say.Say.{Say}
-use Rattle.dc_talk.specs.declared.say.Say.TheVariants.{Misfit, Lacks, Object}
+use Rattle.dc_talk.specs.declared.say.Say.TheVariants.{Misfit, Lacks, Pruned, Object}
 use Rattle.dc_talk.specs.declared.calls.Connection.{Connection}
 use Rattle.dc_talk.specs.Entries.{Entry}
-use Rattle.dc_talk.specs.Records.{vector, guard, inside, has, firsts}
+use Rattle.dc_talk.specs.Records.{count, vector, guard, inside, has, firsts}
 use Rattle.dc_talk.specs.Objects.{state_at, ops_of}
 use Rattle.dc_talk.specs.Trails.{stable}
 use Rattle.dc_talk.specs.Answers.{fits, lacking, snap_at, row}
 use Rattle.dc_talk.specs.Clients.{Client, settled, same_vector}
 use Rattle.dc_talk.specs.Rule.{takes, IsLinked, Sends, next_commit}
-use Rattle.dc_talk.proofs.Answers.{lack_fails, commit_holds, answer_holds, no_misfit}
+use Rattle.dc_talk.proofs.Answers.{lack_first, lack_none, lack_fails, commit_holds, answer_holds, no_misfit}
 use Rattle.dc_talk.proofs.ClientAnswers.{object_by}
 use Rattle.dc_talk.proofs.Counts.{in_guard}
 use Rattle.dc_talk.proofs.Growth.{later_covers, later_guard}
 use Rattle.run_book.specs.Setups.{Setup, centre_settings}
 use Rattle.run_book.specs.declared.book.Book.{Book}
-use Rattle.run_book.specs.Parts.{trail_of, notes_of, IsClient, applied_at}
+use Rattle.run_book.specs.Parts.{trail_of, notes_of, IsClient, applied_at, horizon_at}
 use Rattle.run_book.specs.Fit.{FitsWith}
 use Rattle.run_book.specs.Graphs.{cover, client_at, commits_at}
-use Rattle.run_book.specs.Refusals.{Makes, IsPushAnswer, IsNoRefusal}
+use Rattle.run_book.specs.Refusals.{Makes, IsPushAnswer, IsNoRefusal, IsFetchAnswer, IsFetched}
 use Rattle.run_book.proofs.Numbered.{numbered_at}
 use Rattle.run_book.proofs.Held.{Held, dot_at, held_after}
 use Rattle.run_book.proofs.Growth.{wide_after}
@@ -133,7 +133,7 @@ module _ (b : Book) (setup : Setup) (fit : FitsWith b setup) (a m : ℕ) (client
 
   -- the next commit of a session, at the connected centre
   push_at : (link : Connection) (tx : Tx) (say : Say) → (client_at b setup a m).link ≡ Some link → next_commit (client_at b setup a m) link ≡ Some tx → HasEntry b setup link.centre (record { caller = a; ask = Commit tx; say = say }) (take m (notes_of b a)) → IsPushAnswer say
-  push_at link tx say is next x = subst IsPushAnswer (sym x.is) (answer_holds IsPushAnswer (centre_settings b setup link.centre) X (Commit tx) fits_it tt (commit_holds IsPushAnswer (centre_settings b setup link.centre) A tx (
+  push_at link tx say is next x = subst IsPushAnswer (sym x.is) (answer_holds IsPushAnswer (centre_settings b setup link.centre) X (Commit tx) fits_it tt (commit_holds IsPushAnswer (centre_settings b setup link.centre) (vector b.n A) (guard tx.dot.client A) (count link.centre A) tx (
     when_holds _ _ _ (λ t. tt),
     λ known. (
       when_fails _ _ _ (lt-leb (guard tx.dot.client A + 2) tx.dot.number (omega (arith, in_order))),
@@ -186,7 +186,7 @@ module _ (b : Book) (setup : Setup) (fit : FitsWith b setup) (a m : ℕ) (client
       let sends : Sends (client_at b setup a m) i tx = x.gives in
       push_at sends.link tx say sends.linked sends.next (subst (λ i. HasEntry b setup i (record { caller = a; ask = Commit tx; say = say }) (take m (notes_of b a))) (sym sends.centre) (entry_of i (Commit tx) say x))
 
-  -- ---- a refresh and a fetch
+  -- ---- a refresh
 
   -- an ask at the session's vector, of the connected centre, where only what is lacking could be refused
   linked_at : (link : Connection) (ask : Ask) (say last : Say) → (client_at b setup a m).link ≡ Some link → fits b.n ask ≡ true → (x : HasEntry b setup link.centre (record { caller = a; ask = ask; say = say }) (take m (notes_of b a))) → row (centre_settings b setup link.centre) (take x.place (trail_of b link.centre)) ask ≡ first_of (lacking Lacks (vector b.n (applied_at b link.centre x.place)) (client_at b setup a m).vector ∷ []) last → IsNoRefusal last → IsNoRefusal say
@@ -207,15 +207,35 @@ module _ (b : Book) (setup : Setup) (fit : FitsWith b setup) (a m : ℕ) (client
       (ap (λ v. first_of (lacking Lacks (vector b.n (applied_at b g.link.centre x.place)) v ∷ []) (snap_at (applied_at b g.link.centre x.place) c (join_of here (stable (centre_settings b setup g.link.centre) (take x.place (trail_of b g.link.centre)))))) same.1)
       (no_refusal _ (λ e. cc) (λ c n h e. cc))
 
-  -- nor is a fetch
-  pub fetch : (i : ℕ) (o : ObjectId) (here : List ℕ) (say : Say) → Makes b setup (record { actor = a; place = m; centre = i; ask = Fetch o here; answer = say }) → IsNoRefusal say
+  -- ---- a fetch
+
+  -- a fetch at the session's vector, of the connected centre
+  fetch_at : (link : Connection) (o : ObjectId) (here : List ℕ) (say : Say) → (client_at b setup a m).link ≡ Some link → here ≡ (client_at b setup a m).vector → HasEntry b setup link.centre (record { caller = a; ask = Fetch o here; say = say }) (take m (notes_of b a)) → IsFetched b setup (record { actor = a; place = m; centre = link.centre; ask = Fetch o here; answer = say }) here
+  fetch_at link o here say is same x = record {
+    place = x.place;
+    there = x.there;
+    answer = subst (IsFetchAnswer base here) (sym x.is) (answer_holds (IsFetchAnswer base here) (centre_settings b setup link.centre) (take x.place (trail_of b link.centre)) (Fetch o here) (is_wide here same) tt
+        (first_of_holds (IsFetchAnswer base here) (lacking Lacks (vector b.n A) here ∷ lacking Pruned here base ∷ []) (Object (state_at o A here))
+        (lack_fails (IsFetchAnswer base here) Lacks (vector b.n A) here covered, λ none. (lack_first (IsFetchAnswer base here) Pruned here base (λ lack first. first), λ kept. lack_none Pruned here base kept))));
+  }
+    where
+      A : List Record
+      A = applied_at b link.centre x.place
+
+      base : List ℕ
+      base = (horizon_at b setup link.centre x.place).base
+
+      covered : Covers (vector b.n (applied_at b link.centre x.place)) here
+      covered = subst (λ v. Covers (vector b.n (applied_at b link.centre x.place)) v) (sym same) (has_linked link is (Fetch o here) say x).covered
+
+  -- a fetch is answered with a state where the vector covers the centre's base, and else with the least centre of which it
+  -- does not
+  pub fetch : (i : ℕ) (o : ObjectId) (here : List ℕ) (say : Say) → Makes b setup (record { actor = a; place = m; centre = i; ask = Fetch o here; answer = say }) → IsFetched b setup (record { actor = a; place = m; centre = i; ask = Fetch o here; answer = say }) here
   fetch i o here say made =
       let same = same_fetch o o here (client_at b setup a m).vector made.gives.0 in
       let g : IsLinked (client_at b setup a m) i = made.gives.1 in
       let x = subst (λ i. HasEntry b setup i (record { caller = a; ask = Fetch o here; say = say }) (take m (notes_of b a))) (sym g.centre) (entry_of i (Fetch o here) say made) in
-      linked_at g.link (Fetch o here) say _ g.linked (is_wide here same) x
-      (ap (λ v. first_of (lacking Lacks (vector b.n (applied_at b g.link.centre x.place)) v ∷ []) (Object (state_at o (applied_at b g.link.centre x.place) here))) same)
-      (no_refusal _ (λ e. cc) (λ c n h e. cc))
+      subst (λ i. IsFetched b setup (record { actor = a; place = m; centre = i; ask = Fetch o here; answer = say }) here) g.centre (fetch_at g.link o here say g.linked same x)
 
   -- ---- a hello, and a state
 

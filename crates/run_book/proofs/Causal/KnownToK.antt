@@ -34,7 +34,7 @@ use Rattle.dc_talk.specs.declared.settings.Settings.{Settings}
 use Rattle.dc_talk.specs.declared.ask.Ask.TheVariants.{Refresh}
 
 -- what a stable vector covers, the centre knows K centres to have
-stable_known : (settings : Settings) (trail : List Entry) (stamp : Stamp) → 1 ≤ stamp.seq → stamp.seq ≤ at (stable settings trail) stamp.centre → IsKnownAt settings trail stamp
+pub stable_known : (settings : Settings) (trail : List Entry) (stamp : Stamp) → 1 ≤ stamp.seq → stamp.seq ≤ at (stable settings trail) stamp.centre → IsKnownAt settings trail stamp
 stable_known settings trail stamp one high =
     let R = rows settings trail in
     let kept : stamp.seq ≤ at (kth_largest settings.k R) stamp.centre = omega (arith, high, at-meet_of (kth_largest settings.k R) (vector settings.n (applied settings.n trail)) stamp.centre) in

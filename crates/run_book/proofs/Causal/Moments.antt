@@ -19,17 +19,17 @@ use Rattle.run_book.specs.declared.book.Book.{Book}
 use Rattle.run_book.specs.Setups.{Setup, centre_settings}
 use Rattle.run_book.specs.Parts.{trail_of, applied_at}
 use Rattle.run_book.specs.Fit.{FitsWith, IsReported}
-use Rattle.run_book.specs.Known.{HasMoment}
+use Rattle.run_book.specs.Known.{HasMoment, HasReported}
 use Rattle.run_book.proofs.Causal.CentreVectors.{taught_news}
 
 -- ---- what a trail taught
 
 -- a vector of centre j that covers the stamp, among these
-record IsLesson (j : ℕ) (stamp : Stamp) (o : Option (ℕ × List ℕ)) : Type 0 where
-  news : ℕ × List ℕ
-  taught : o ≡ Some news
-  from : news.0 ≡ j
-  covers : stamp.seq ≤ at news.1 stamp.centre
+pub record IsLesson (j : ℕ) (stamp : Stamp) (o : Option (ℕ × List ℕ)) : Type 0 where
+  pub news : ℕ × List ℕ
+  pub taught : o ≡ Some news
+  pub from : news.0 ≡ j
+  pub covers : stamp.seq ≤ at news.1 stamp.centre
 
 -- where a row of what was told covers a stamp after one more lesson, it did before or the lesson covers it
 told_step : (j : ℕ) (stamp : Stamp) (row : List ℕ) (o : Option (ℕ × List ℕ)) → stamp.seq ≤ at (taught j row o) stamp.centre → (stamp.seq ≤ at row stamp.centre) ⊎ IsLesson j stamp o
@@ -44,14 +44,14 @@ told_step j stamp row (Some news) h = go (news.0 == j) refl h
     go false is h = inl h
 
 -- an entry of the trail that taught a vector of centre j which covers the stamp
-record IsTaught (j : ℕ) (stamp : Stamp) (trail : List Entry) : Type 0 where
-  place : ℕ
-  entry : Entry
-  there : slice_get trail place ≡ Some entry
-  lesson : IsLesson j stamp (taught_in entry.ask entry.say)
+pub record IsTaught (j : ℕ) (stamp : Stamp) (trail : List Entry) : Type 0 where
+  pub place : ℕ
+  pub entry : Entry
+  pub there : slice_get trail place ≡ Some entry
+  pub lesson : IsLesson j stamp (taught_in entry.ask entry.say)
 
 -- where the row covers a stamp after a trail, it did before or an entry taught it
-told_fold : (j : ℕ) (stamp : Stamp) (trail : List Entry) (row : List ℕ) → stamp.seq ≤ at (fold (λ row entry. taught j row (taught_in entry.ask entry.say)) row trail) stamp.centre → (stamp.seq ≤ at row stamp.centre) ⊎ IsTaught j stamp trail
+pub told_fold : (j : ℕ) (stamp : Stamp) (trail : List Entry) (row : List ℕ) → stamp.seq ≤ at (fold (λ row entry. taught j row (taught_in entry.ask entry.say)) row trail) stamp.centre → (stamp.seq ≤ at row stamp.centre) ⊎ IsTaught j stamp trail
 told_fold j stamp [] row h = inl h
 told_fold j stamp (entry ∷ trail) row h =
     ⊎_elim
@@ -80,9 +80,16 @@ module _ (b : Book) (setup : Setup) (fit : FitsWith b setup) where
       (λ few. record { centre = (low, high); place = p; few = few; covers = is })
       (cases_lt (length (trail_of b i)) p)
 
-  -- what a centre was told of another, that one had at a moment
-  told_moment : (i p j : ℕ) (stamp : Stamp) → IsTaught j stamp (take p (trail_of b i)) → HasMoment b j stamp
-  told_moment i p j stamp t = subst (λ j. HasMoment b j stamp) l.from (record { centre = r.origin; place = r.place; few = omega (arith, slice_get_within (trail_of b l.news.0) r.place r.entry r.there); covers = subst (λ v. within stamp v ≡ true) (vector_by (centre_settings b setup l.news.0) (take r.place (trail_of b l.news.0)) r.entry.ask l.news.1 is) (le-leb stamp.seq (at l.news.1 stamp.centre) l.covers) })
+  -- what a centre was told of another, that one reported
+  told_report : (i p j : ℕ) (stamp : Stamp) → IsTaught j stamp (take p (trail_of b i)) → HasReported b j stamp
+  told_report i p j stamp t = subst (λ j. HasReported b j stamp) l.from (record {
+    centre = r.origin;
+    place = r.place;
+    entry = r.entry;
+    there = r.there;
+    says = r.says ∙ ap Vector same;
+    covers = subst (λ v. within stamp v ≡ true) same (le-leb stamp.seq (at l.news.1 stamp.centre) l.covers);
+  })
     where
       l : IsLesson j stamp (taught_in t.entry.ask t.entry.say)
       l = t.lesson
@@ -93,21 +100,40 @@ module _ (b : Book) (setup : Setup) (fit : FitsWith b setup) where
       is : Vector l.news.1 ≡ answer (centre_settings b setup l.news.0) (take r.place (trail_of b l.news.0)) r.entry.ask
       is = sym r.says ∙ (fit.histories l.news.0 r.origin.0 r.origin.1).holds r.place r.entry r.there
 
+      same : l.news.1 ≡ vector b.n (applied_at b l.news.0 r.place)
+      same = vector_by (centre_settings b setup l.news.0) (take r.place (trail_of b l.news.0)) r.entry.ask l.news.1 is
+
+  -- what a centre reported, it had at a moment
+  reported_moment : (j : ℕ) (stamp : Stamp) → HasReported b j stamp → HasMoment b j stamp
+  reported_moment j stamp r = record { centre = r.centre; place = r.place; few = omega (arith, slice_get_within (trail_of b j) r.place r.entry r.there); covers = r.covers }
+
+  -- where a centre's row of another covers a stamp that there is, the other has reported so
+  pub row_reported : (i p j : ℕ) (stamp : Stamp) → 1 ≤ stamp.seq → stamp.seq ≤ at (told b.n j (take p (trail_of b i))) stamp.centre → HasReported b j stamp
+  row_reported i p j stamp one high = ⊎_elim
+      (λ none. absurd (omega (arith, one, none, at-zeros b.n stamp.centre)))
+      (λ t. told_report i p j stamp t)
+      (told_fold j stamp (take p (trail_of b i)) (zeros b.n) high)
+
+  -- what a centre was told of another, that one had at a moment
+  told_moment : (i p j : ℕ) (stamp : Stamp) → IsTaught j stamp (take p (trail_of b i)) → HasMoment b j stamp
+  told_moment i p j stamp t = reported_moment j stamp (told_report i p j stamp t)
+
   -- a stamp numbered 0 would be there from the first
   none_moment : (j : ℕ) (stamp : Stamp) → 1 ≤ j → j ≤ b.n → stamp.seq ≤ 0 → HasMoment b j stamp
   none_moment j stamp low high none = record { centre = (low, high); place = 0; few = omega arith; covers = le-leb stamp.seq (at (vector b.n (applied_at b j 0)) stamp.centre) (omega (arith, none)) }
 
-  -- a centre whose row covers the stamp had it at a moment of its own trail
+  -- a centre's row of a centre covers a stamp that this one had at a moment of its own trail
+  pub row_moment : (i p j : ℕ) (stamp : Stamp) → 1 ≤ i → i ≤ b.n → 1 ≤ j → j ≤ b.n → (t : Bool) → (j == i) ≡ t → within stamp (cond t (vector b.n (applied_at b i p)) (told b.n j (take p (trail_of b i)))) ≡ true → HasMoment b j stamp
+  row_moment i p j stamp low high least most true same is = subst (λ j. HasMoment b j stamp) (sym (eqb-true j i same)) (own_moment i p stamp low high is)
+  row_moment i p j stamp low high least most false same is = ⊎_elim
+      (λ none. none_moment j stamp least most (omega (arith, none, at-zeros b.n stamp.centre)))
+      (λ t. told_moment i p j stamp t)
+      (told_fold j stamp (take p (trail_of b i)) (zeros b.n) (leb-true stamp.seq (at (told b.n j (take p (trail_of b i))) stamp.centre) is))
+
+  -- so each centre whose row covers the stamp
   pub moment : (i p j : ℕ) (row : List ℕ) (stamp : Stamp) → 1 ≤ i → i ≤ b.n → slice_get (rows (centre_settings b setup i) (take p (trail_of b i))) j ≡ Some row → within stamp row ≡ true → HasMoment b (j + 1) stamp
   moment i p j row stamp low high there is =
       let X = take p (trail_of b i) in
       let r = get_over_range (λ j. cond (j == i) (vector b.n (applied b.n X)) (told b.n j X)) 1 b.n j row there in
       let which : 1 + j ≡ j + 1 = omega arith in
-      subst (λ j. HasMoment b j stamp) which (go (1 + j) (omega arith) (omega (arith, r.0)) (1 + j == i) refl (subst (λ row. within stamp row ≡ true) (sym r.1) is))
-    where
-      go : (j : ℕ) → 1 ≤ j → j ≤ b.n → (t : Bool) → (j == i) ≡ t → within stamp (cond t (vector b.n (applied_at b i p)) (told b.n j (take p (trail_of b i)))) ≡ true → HasMoment b j stamp
-      go j least most true same is = subst (λ j. HasMoment b j stamp) (sym (eqb-true j i same)) (own_moment i p stamp low high is)
-      go j least most false same is = ⊎_elim
-          (λ none. none_moment j stamp least most (omega (arith, none, at-zeros b.n stamp.centre)))
-          (λ t. told_moment i p j stamp t)
-          (told_fold j stamp (take p (trail_of b i)) (zeros b.n) (leb-true stamp.seq (at (told b.n j (take p (trail_of b i))) stamp.centre) is))
+      subst (λ j. HasMoment b j stamp) which (row_moment i p (1 + j) stamp low high (omega arith) (omega (arith, r.0)) (1 + j == i) refl (subst (λ row. within stamp row ≡ true) (sym r.1) is))

@@ -1,18 +1,18 @@
 -- The laws of a book that fits, and that it is causal.
-use Rattle.std.proofs.Common.{ℕ, ◌+◌, ◌-◌, List, sym, ap, ◌∙◌, subst, arith}
+use Rattle.std.proofs.Common.{ℕ, ◌+◌, ◌-◌, List, take, sym, ap, ◌∙◌, subst, arith}
 use Rattle.std.proofs.lemmas.Option.{slice_get_within}
 use Rattle.list_core.specs.Members.{In}
 use Rattle.list_core.proofs.Members.{In_right}
 use Rattle.list_core.proofs.Gets.{In_get}
 use Rattle.tx_core.specs.declared.tx.Tx.{Tx}
-use Rattle.run_book.specs.Setups.{Setup}
+use Rattle.run_book.specs.Setups.{Setup, centre_settings}
 use Rattle.run_book.specs.declared.book.Book.{Book}
 use Rattle.tx_graph.specs.Nodes.{Node, Within}
-use Rattle.run_book.specs.Parts.{IsClient}
+use Rattle.run_book.specs.Parts.{trail_of, IsClient}
 use Rattle.run_book.specs.Fit.{FitsWith}
 use Rattle.run_book.specs.Graphs.{cover, own_dots, graph, basis_at, client_at, open_node, commits_at}
 use Rattle.run_book.specs.Causal.{IsCausal}
-use Rattle.run_book.specs.Laws.{HasSoundVectors, HasOneList, HasClosedBases, KeepsSessions, HasKnownBases, HasValues, Agrees}
+use Rattle.run_book.specs.Laws.{HasSoundVectors, HasOneList, HasClosedBases, KeepsSessions, HasKnownBases, HasValues, Agrees, KnowsPruned}
 use Rattle.run_book.proofs.Numbered.{numbered_at}
 use Rattle.run_book.proofs.Held.{dot_at}
 use Rattle.run_book.proofs.Dots.{are_own_dots}
@@ -21,6 +21,7 @@ use Rattle.run_book.proofs.Causal.SessionVectors.{session_sound, snap_sound}
 use Rattle.run_book.proofs.Causal.OneList.{front, inside_covered, covered_inside}
 use Rattle.run_book.proofs.Causal.KnownToK.{basis_known}
 use Rattle.run_book.proofs.Causal.Moments.{moment}
+use Rattle.run_book.proofs.Causal.Pruned.{base_known, horizon_sound, trimmed_known, send_misfit, send, prune}
 use Rattle.run_book.proofs.Causal.Commits.{one_tx, applied_commit}
 use Rattle.run_book.proofs.Causal.SessionStates.{standing}
 use Rattle.run_book.proofs.Causal.Closure.{made, closed_basis, basis_grows, session_held}
@@ -40,6 +41,8 @@ module _ (b : Book) (setup : Setup) (fit : FitsWith b setup) where
     centres = vector_sound b setup fit;
     told_rows = λ i j p low high. told_sound b setup fit i j p;
     stable_vectors = stable_sound b setup fit;
+    bases = λ i p low high. (horizon_sound b setup fit i p low high).base;
+    marks = λ i p low high. (horizon_sound b setup fit i p low high).mark;
     snapshots = snap_sound b setup fit;
     sessions = λ a m client. session_sound b setup fit a client m;
   }
@@ -103,6 +106,16 @@ module _ (b : Book) (setup : Setup) (fit : FitsWith b setup) where
   -- reads over equal bases give one value
   pub agrees : Agrees b setup
   agrees = record { reads = reads_agree b setup fit }
+
+  -- what is pruned is known
+  pub pruned : KnowsPruned b setup
+  pruned = record {
+    folded = λ i p stamp low high. base_known (centre_settings b setup i) (take p (trail_of b i)) stamp;
+    let_go = trimmed_known b setup fit;
+    sends = λ i after most entry stands. send b setup fit i entry stands after most;
+    misfits = λ i after most entry stands. send_misfit b setup fit i entry stands after most;
+    prunes = λ i entry stands. prune b setup fit i entry stands;
+  }
 
   -- a book that fits is causal
   pub causal : IsCausal b setup

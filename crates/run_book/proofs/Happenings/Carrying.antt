@@ -10,7 +10,7 @@ use Rattle.list_core.proofs.Members.{In_left, In_right, In_more, In_from_map}
 use Rattle.list_core.proofs.Moments.{each_take}
 use Rattle.list_core.proofs.Passing.{In_filter_map, In_from_filter_map}
 use Rattle.dc_talk.specs.declared.ask.Ask.{Ask}
-use Rattle.dc_talk.specs.declared.ask.Ask.TheVariants.{Hello, Refresh, Fetch, Commit, Send, Deliver, Report, Learn, Stop, Start}
+use Rattle.dc_talk.specs.declared.ask.Ask.TheVariants.{Hello, Refresh, Fetch, Commit, Send, Deliver, Report, Learn, Prune, Stop, Start}
 use Rattle.dc_talk.specs.declared.say.Say.{Say}
 use Rattle.dc_talk.specs.declared.say.Say.TheVariants.{Records, Vector}
 use Rattle.dc_talk.specs.declared.log.Deed.{Deed}
@@ -68,6 +68,7 @@ carries_allowed n k setup all t before done (Asked i (Deliver item) fate) is = s
 carries_allowed n k setup all t before done (Asked i (Learn from news) fate) is = brought_there before all from Report (Vector news) done is
 carries_allowed n k setup all t before done (Asked i (Send after most) fate) is = tt
 carries_allowed n k setup all t before done (Asked i Report fate) is = tt
+carries_allowed n k setup all t before done (Asked i Prune fate) is = tt
 carries_allowed n k setup all t before done (Asked i Stop fate) is = tt
 carries_allowed n k setup all t before done (Asked i Start fate) is = tt
 carries_allowed n k setup all t before done (Asked i (Hello client need) fate) is = absurd is

@@ -34,6 +34,7 @@ asks_as trails others same (ask.Deliver item) h = record { list = h.list; answer
 asks_as trails others same (ask.Learn from news) h = has_as (trails from) (others from) (Vector news) (same from) h
 asks_as trails others same (ask.Send after most) h = tt
 asks_as trails others same ask.Report h = tt
+asks_as trails others same ask.Prune h = tt
 asks_as trails others same ask.Stop h = tt
 asks_as trails others same ask.Start h = tt
 asks_as trails others same (ask.Hello client need) h = absurd h

@@ -1,10 +1,12 @@
-use Rattle.std.proofs.Common.{◌≡◌, ap, ◌∙◌, subst}
+use Rattle.std.proofs.Common.{◌≡◌, Some, sym, ap, ◌∙◌, subst}
+use Rattle.std.specs.Prelude.{slice_get}
 use Rattle.dc_talk.specs.declared.ask.Ask.{Ask}
 use Rattle.dc_talk.specs.declared.ask.Ask.TheVariants.{Hello, Refresh, Fetch, Commit}
 use Rattle.dc_talk.specs.declared.say.Say.TheVariants.{Object}
 use Rattle.dc_talk.specs.Rule.{takes}
 use Rattle.run_book.specs.declared.book.Book.{Book}
 use Rattle.run_book.specs.Setups.{Setup}
+use Rattle.run_book.specs.Parts.{trail_of}
 use Rattle.run_book.specs.Graphs.{client_at}
 use Rattle.run_book.specs.Refusals.{Exchange, Makes}
 use Rattle.run_book.proofs.Causal.Deliveries.{no_orphan, no_misfit_delivery, no_misfit_lesson}
@@ -40,7 +42,10 @@ pub returns-clause-refresh : goal.returns-clause-refresh
 returns-clause-refresh c setup x client here fit made is = refresh c.args.book.now setup fit x.actor x.place made.client x.centre client here x.answer (asked c.args.book.now setup x (Refresh client here) made is)
 
 pub returns-clause-fetch : goal.returns-clause-fetch
-returns-clause-fetch c setup x o here fit made is = fetch c.args.book.now setup fit x.actor x.place made.client x.centre o here x.answer (asked c.args.book.now setup x (Fetch o here) made is)
+returns-clause-fetch c setup x o here fit made is =
+    let b = c.args.book.now in
+    let f = fetch b setup fit x.actor x.place made.client x.centre o here x.answer (asked b setup x (Fetch o here) made is) in
+    record { place = f.place; there = subst (λ ask. slice_get (trail_of b x.centre) f.place ≡ Some (record { caller = x.actor; ask = ask; say = x.answer })) (sym is) f.there; answer = f.answer }
 
 pub returns-clause-hello : goal.returns-clause-hello
 returns-clause-hello c setup x client need fit made is = hello c.args.book.now setup fit x.actor x.place made.client x.centre client need x.answer (asked c.args.book.now setup x (Hello client need) made is)

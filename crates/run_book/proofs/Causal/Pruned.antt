@@ -1,0 +1,150 @@
+-- What centres of a book that fits have folded and let go, and how they answer to those who ask for it.
+use Rattle.std.proofs.Common.{◌≡◌, ℕ, ◌+◌, ◌≤◌, true, false, cond, ⊎_elim, List, [], ◌∷◌, take, refl, sym, ap, ◌∙◌, subst, arith}
+use Rattle.std.specs.Prelude.{◌↔◌, ◌==◌, nat_le, map}
+use Rattle.std.proofs.lemmas.Bool.{cases_Bool, and_parts, and_from, leb-true, leb-false, le-leb, ne_eqb}
+use Rattle.list_core.specs.Members.{In}
+use Rattle.list_core.proofs.Choices.{first_of_holds, when_none, when_holds}
+use Rattle.list_core.proofs.Members.{In_map}
+use Rattle.list_core.proofs.Moments.{by_prefixes}
+use Rattle.list_core.proofs.Ranges.{In_range}
+use Rattle.list_core.specs.Choices.{when}
+use Rattle.vv_core.specs.declared.stamp.Stamp.{Stamp}
+use Rattle.vv_core.specs.Vectors.{at, zeros, centres}
+use Rattle.vv_core.proofs.Entrywise.{at-zeros}
+use Rattle.dc_talk.specs.declared.ask.TheConstants.{MOST_SENT}
+use Rattle.dc_talk.specs.declared.ask.Ask.{Ask}
+use Rattle.dc_talk.specs.declared.ask.Ask.TheVariants.{Send, Prune}
+use Rattle.dc_talk.specs.declared.say.Say.{Say}
+use Rattle.dc_talk.specs.declared.say.Say.TheVariants.{Misfit, Records, Trimmed}
+use Rattle.dc_talk.specs.declared.settings.Settings.{Settings}
+use Rattle.dc_talk.specs.Entries.{Entry}
+use Rattle.dc_talk.specs.Records.{vector}
+use Rattle.dc_talk.specs.Trails.{applied, told, all_known, Horizon, horizon}
+use Rattle.dc_talk.specs.Answers.{fits, own_after, answer}
+use Rattle.dc_talk.proofs.Answers.{answer_holds, no_misfit, misfit}
+use Rattle.dc_talk.proofs.Horizons.{by_prunes, all_known_below}
+use Rattle.run_book.specs.Setups.{Setup, centre_settings}
+use Rattle.run_book.specs.declared.book.Book.{Book}
+use Rattle.run_book.specs.Parts.{trail_of, applied_at, horizon_at}
+use Rattle.run_book.specs.Fit.{FitsWith}
+use Rattle.run_book.specs.Sound.{IsSound}
+use Rattle.run_book.specs.Known.{IsKnownToAll, WasKnownBy}
+use Rattle.run_book.specs.Refusals.{IsEntry, IsSendAnswer, IsPruneAnswer}
+use Rattle.run_book.proofs.Causal.CentreVectors.{zeros_are_sound, stable_sound}
+use Rattle.run_book.proofs.Causal.KnownToK.{stable_known}
+use Rattle.run_book.proofs.Causal.Moments.{row_moment, row_reported}
+
+-- ---- one centre
+
+-- after a trail the centre knew K centres to have what the vector covers, at one of its moments
+record WasStable (s : Settings) (trail : List Entry) (v : List ℕ) : Type 0 where
+  by : (stamp : Stamp) → 1 ≤ stamp.seq → stamp.seq ≤ at v stamp.centre → WasKnownBy s trail stamp
+
+-- so it knew of what its base covers, and of what its mark does
+record WereStable (s : Settings) (trail : List Entry) (h : Horizon) : Type 0 where
+  base : WasStable s trail h.base
+  mark : WasStable s trail h.mark
+
+-- nothing is covered at first
+none_stable : (s : Settings) (trail : List Entry) (n : ℕ) → WasStable s trail (zeros n)
+none_stable s trail n = record { by = λ stamp one high. absurd (omega (arith, one, high, at-zeros n stamp.centre)) }
+
+horizon_stable : (s : Settings) (trail : List Entry) → WereStable s trail (horizon s trail)
+horizon_stable s trail = by_prefixes (λ X. WereStable s trail (horizon s X)) trail
+    (by_prunes s trail (WereStable s trail) (record { base = none_stable s trail s.n; mark = none_stable s trail s.n })
+    (λ p h. record { base = h.mark; mark = record { by = λ stamp one high. record { place = p; known = stable_known s (take p trail) stamp one high } } }))
+
+-- what is folded, the centre knew K centres to have
+pub base_known : (s : Settings) (trail : List Entry) (stamp : Stamp) → 1 ≤ stamp.seq → stamp.seq ≤ at (horizon s trail).base stamp.centre → WasKnownBy s trail stamp
+base_known s trail = (horizon_stable s trail).base.by
+
+-- a send fits where it asks for one record or more, and not for too many
+send_fits : (n after most : ℕ) → (1 ≤ most) × (most ≤ MOST_SENT) → fits n (Send after most) ≡ true
+send_fits n after most is = and_from (nat_le 1 most) (nat_le most MOST_SENT) (le-leb 1 most is.0) (le-leb most MOST_SENT is.1)
+
+fits_send : (n after most : ℕ) → fits n (Send after most) ≡ true → (1 ≤ most) × (most ≤ MOST_SENT)
+fits_send n after most is = let parts = and_parts (nat_le 1 most) (nat_le most MOST_SENT) is in (leb-true 1 most parts.0, leb-true most MOST_SENT parts.1)
+
+module _ (b : Book) (setup : Setup) (fit : FitsWith b setup) where
+  -- ---- what is folded
+
+  -- base and mark are sound
+  pub record IsSoundHorizon (h : Horizon) : Type 0 where
+    pub base : IsSound b h.base
+    pub mark : IsSound b h.mark
+
+  pub horizon_sound : (i p : ℕ) → 1 ≤ i → i ≤ b.n → IsSoundHorizon (horizon_at b setup i p)
+  horizon_sound i p low high = by_prunes (centre_settings b setup i) (trail_of b i) IsSoundHorizon
+      (record { base = zeros_are_sound b b.n; mark = zeros_are_sound b b.n })
+      (λ q h. record { base = h.mark; mark = stable_sound b setup fit i q low high })
+      p
+
+  -- ---- what is let go
+
+  -- what all rows of a centre cover is known to all
+  all_rows : (i q : ℕ) (stamp : Stamp) → 1 ≤ i → i ≤ b.n → stamp.centre ≡ i → 1 ≤ stamp.seq → ((j : ℕ) → 1 ≤ j → j ≤ b.n → stamp.seq ≤ at (cond (j == i) (vector b.n (applied_at b i q)) (told b.n j (take q (trail_of b i)))) stamp.centre) → IsKnownToAll b stamp
+  all_rows i q stamp low high own one covers = record {
+    moments = λ j least most. row_moment b setup fit i q j stamp low high least most (j == i) refl (le-leb stamp.seq (at (cond (j == i) (vector b.n (applied_at b i q)) (told b.n j (take q (trail_of b i)))) stamp.centre) (covers j least most));
+    reports = λ j least most other.
+        let apart : (j == i) ≡ false = ne_eqb j i (λ same. other (same ∙ sym own)) in
+        row_reported b setup fit i q j stamp one (subst (λ t. stamp.seq ≤ at (cond t (vector b.n (applied_at b i q)) (told b.n j (take q (trail_of b i)))) stamp.centre) apart (covers j least most));
+  }
+
+  -- what a centre let go of its own, is known to all
+  pub trimmed_known : (i p : ℕ) (stamp : Stamp) → 1 ≤ i → i ≤ b.n → stamp.centre ≡ i → 1 ≤ stamp.seq → stamp.seq ≤ (horizon_at b setup i p).trimmed → IsKnownToAll b stamp
+  trimmed_known i p stamp low high own one = by_prunes (centre_settings b setup i) (trail_of b i) (λ h. stamp.seq ≤ h.trimmed → IsKnownToAll b stamp)
+      (λ few. absurd (omega (arith, one, few)))
+      (λ q h few. all_rows i q stamp low high own one (λ j least most. row q few j least most))
+      p
+    where
+      s : Settings
+      s = centre_settings b setup i
+
+      row : (q : ℕ) → stamp.seq ≤ at (all_known (centre_settings b setup i) (take q (trail_of b i))) i → (j : ℕ) → 1 ≤ j → j ≤ b.n → stamp.seq ≤ at (cond (j == i) (vector b.n (applied_at b i q)) (told b.n j (take q (trail_of b i)))) stamp.centre
+      row q few j least most =
+          let X = take q (trail_of b i) in
+          let rule : ℕ → List ℕ = λ j. cond (j == i) (vector b.n (applied b.n X)) (told b.n j X) in
+          let there : In (rule j) (map rule (centres b.n)) = In_map rule (centres b.n) j (In_range 1 b.n j least (omega (arith, most))) in
+          let below = all_known_below s X stamp.centre (rule j) there in
+          let at_own : at (all_known s X) i ≡ at (all_known s X) stamp.centre = ap (λ e. at (all_known s X) e) (sym own) in
+          omega (arith, few, at_own, below)
+
+  -- ---- the answers
+
+  module _ (i : ℕ) (entry : Entry) (stands : IsEntry b i entry) where
+    -- the entry is answered as the history says
+    said : entry.say ≡ answer (centre_settings b setup i) (take stands.place (trail_of b i)) entry.ask
+    said = (fit.histories i stands.centre.0 stands.centre.1).holds stands.place entry stands.there
+
+    -- to an ask
+    said_to : (ask : Ask) → entry.ask ≡ ask → entry.say ≡ answer (centre_settings b setup i) (take stands.place (trail_of b i)) ask
+    said_to ask asks = said ∙ ap (answer (centre_settings b setup i) (take stands.place (trail_of b i))) asks
+
+    -- a send is a misfit exactly where it asks for no record or for too many
+    pub send_misfit : (after most : ℕ) → entry.ask ≡ Send after most → (entry.say ≡ Misfit) ↔ ((1 ≤ most) × (most ≤ MOST_SENT) → ⊥)
+    send_misfit after most asks = (
+      λ says is. no_misfit (centre_settings b setup i) X (Send after most) (send_fits b.n after most is) (sym (said_to (Send after most) asks) ∙ says),
+      λ none. said_to (Send after most) asks ∙ misfit (centre_settings b setup i) X (Send after most) (⊎_elim (λ is. absurd (none (fits_send b.n after most is))) (λ not. not) (cases_Bool (fits b.n (Send after most)))),
+    )
+      where
+        X : List Entry
+        X = take stands.place (trail_of b i)
+
+    -- one that fits is answered with records, or with the number up to which these were let go
+    pub send : (after most : ℕ) → entry.ask ≡ Send after most → (1 ≤ most) × (most ≤ MOST_SENT) → IsSendAnswer (horizon_at b setup i stands.place).trimmed after entry.say
+    send after most asks is = subst P (sym (said_to (Send after most) asks)) (answer_holds P (centre_settings b setup i) X (Send after most) (send_fits b.n after most is) tt
+        (first_of_holds P (when (nat_le (after + 1) trimmed) (Trimmed trimmed) ∷ []) (Records (own_after i (applied b.n X) after most))
+        (when_holds P (nat_le (after + 1) trimmed) (Trimmed trimmed) (λ t. (let lt = leb-true (after + 1) trimmed t in omega (arith, lt), refl)), λ none. (let le = leb-false (after + 1) trimmed (when_none _ _ none) in omega (arith, le)))))
+      where
+        X : List Entry
+        X = take stands.place (trail_of b i)
+
+        trimmed : ℕ
+        trimmed = (horizon_at b setup i stands.place).trimmed
+
+        P : Say → Type 0
+        P say = IsSendAnswer (horizon_at b setup i stands.place).trimmed after say
+
+    -- a prune is answered with a base, or by a stopped centre
+    pub prune : entry.ask ≡ Prune → IsPruneAnswer entry.say
+    prune asks = subst IsPruneAnswer (sym (said_to Prune asks)) (answer_holds IsPruneAnswer (centre_settings b setup i) (take stands.place (trail_of b i)) Prune refl tt tt)

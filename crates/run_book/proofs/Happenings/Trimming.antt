@@ -1,0 +1,120 @@
+-- By the time that a centre names the number up to which it let own records go, every centre has them.
+use Rattle.std.proofs.Common.{◌≡◌, ℕ, ◌≤◌, Bool, true, false, cond, ⊎_elim, List, length, take, refl, sym, ap, ◌∙◌, subst, arith}
+use Rattle.std.specs.Prelude.{◌==◌}
+use Rattle.std.proofs.lemmas.Bool.{eqb-true}
+use Rattle.std.proofs.lemmas.Option.{slice_get_within}
+use Rattle.std.proofs.lemmas.List.{length-take}
+use Rattle.list_core.proofs.Gets.{In_get, get_in_take}
+use Rattle.list_core.proofs.Members.{In_map}
+use Rattle.list_core.proofs.Moments.{by_prefixes}
+use Rattle.list_core.proofs.Ranges.{In_range}
+use Rattle.vv_core.specs.declared.stamp.Stamp.{Stamp}
+use Rattle.vv_core.specs.Vectors.{at, zeros, centres, Covers}
+use Rattle.vv_core.proofs.Entrywise.{at-zeros}
+use Rattle.dc_talk.specs.declared.ask.Ask.TheVariants.{Send}
+use Rattle.dc_talk.specs.declared.say.Say.TheVariants.{Trimmed, Vector}
+use Rattle.dc_talk.specs.declared.settings.Settings.{Settings}
+use Rattle.dc_talk.specs.declared.log.Deed.TheVariants.{Asked}
+use Rattle.dc_talk.specs.Entries.{Entry}
+use Rattle.dc_talk.specs.Records.{vector}
+use Rattle.dc_talk.specs.Trails.{applied, told, taught_in, all_known, horizon}
+use Rattle.dc_talk.specs.Answers.{own_after, answer}
+use Rattle.dc_talk.proofs.Answers.{fitting, send_holds}
+use Rattle.dc_talk.proofs.Counts.{vector_front}
+use Rattle.dc_talk.proofs.Growth.{applied_front, later_covers}
+use Rattle.dc_talk.proofs.Horizons.{by_prunes, all_known_below}
+use Rattle.dc_talk.proofs.PeerAnswers.{vector_by}
+use Rattle.run_book.specs.Setups.{Setup, settings_among}
+use Rattle.run_book.specs.Happenings.{Happened, entry_in, trail_in, HasAnswer, AreTogether, TrimsInTime}
+use Rattle.run_book.proofs.Filtered.{from_place, filtered_front, filtered_few}
+use Rattle.run_book.proofs.Happenings.Entries.{made_by}
+use Rattle.run_book.proofs.Happenings.Places.{learned, answered_deed, answered_by_then}
+use Rattle.run_book.proofs.Causal.CentreVectors.{taught_news}
+use Rattle.run_book.proofs.Causal.Moments.{IsLesson, IsTaught, told_fold}
+
+-- equal answers name equal numbers
+same_trimmed : (m o : ℕ) → Trimmed m ≡ Trimmed o → m ≡ o
+same_trimmed m o same = cc
+
+-- the number of such an answer is the one of the centre's last prune
+trimmed_by : (s : Settings) (trail : List Entry) (after most number : ℕ) → Trimmed number ≡ answer s trail (Send after most) → number ≡ (horizon s trail).trimmed
+trimmed_by s trail after most number is = send_holds (λ say. Trimmed number ≡ say → number ≡ (horizon s trail).trimmed) (horizon s trail).trimmed (own_after s.me (applied s.n trail) after most) after
+    (λ e. same_trimmed number (horizon s trail).trimmed e)
+    (λ e. absurd (cc))
+    (fitting s trail (Send after most) (Trimmed number) is (λ e. cc) (λ e. cc)).1
+
+-- a centre has what it had by an earlier entry
+front_covers : (n : ℕ) (trail : List Entry) (q : ℕ) → Covers (vector n (applied n trail)) (vector n (applied n (take q trail)))
+front_covers n trail q = let front = applied_front n trail q in subst (λ A. Covers (vector n A) (vector n (applied n (take q trail)))) (sym front.1) (vector_front n (applied n (take q trail)) front.0)
+
+-- after the first p that happened among n centres, centre j has what the stamp is of
+abbrev HasBy : ℕ → List Happened → ℕ → ℕ → Stamp → Type 0
+HasBy n all p j stamp = stamp.seq ≤ at (vector n (applied n (trail_in j (take p all)))) stamp.centre
+
+module _ (n k : ℕ) (setup : Setup) (all : List Happened) (t : AreTogether n k setup all) where
+  -- a centre that has it, has it later
+  later_by : (q p j : ℕ) (stamp : Stamp) → q ≤ p → HasBy n all q j stamp → HasBy n all p j stamp
+  later_by q p j stamp le has =
+      let T = trail_in j all in
+      let few = filtered_few (entry_in j) all q p le in
+      let covers = later_covers n T (length (trail_in j (take q all))) (length (trail_in j (take p all))) few in
+      let early : at (vector n (applied n (take (length (trail_in j (take q all))) T))) stamp.centre ≡ at (vector n (applied n (trail_in j (take q all)))) stamp.centre = ap (λ X. at (vector n (applied n X)) stamp.centre) (filtered_front (entry_in j) all q) in
+      let late : at (vector n (applied n (take (length (trail_in j (take p all))) T))) stamp.centre ≡ at (vector n (applied n (trail_in j (take p all)))) stamp.centre = ap (λ X. at (vector n (applied n X)) stamp.centre) (filtered_front (entry_in j) all p) in
+      omega (arith, has, early, late, covers.holds stamp.centre)
+
+  -- a centre that reported that it has it, has it
+  reported_by : (q j : ℕ) (news : List ℕ) (stamp : Stamp) → HasAnswer (trail_in j (take q all)) (Vector news) → stamp.seq ≤ at news stamp.centre → HasBy n all q j stamp
+  reported_by q j news stamp has le =
+      let T = trail_in j (take q all) in
+      let g = In_get T has.entry has.there in
+      let is = vector_by (settings_among n k setup j) (take g.0 T) has.entry.ask news (sym has.says ∙ answered_by_then n k setup all t q j g.0 has.entry g.1) in
+      omega (arith, le, ap (λ v. at v stamp.centre) is, (front_covers n T g.0).holds stamp.centre)
+
+  -- a centre of which centre i learned by then that it has it, has it
+  taught_by : (p i q j : ℕ) (stamp : Stamp) → IsTaught j stamp (take q (trail_in i (take p all))) → HasBy n all p j stamp
+  taught_by p i q j stamp taught =
+      let l : IsLesson j stamp (taught_in taught.entry.ask taught.entry.say) = taught.lesson in
+      let r = from_place (entry_in i) (take p all) taught.place taught.entry (get_in_take (trail_in i (take p all)) q taught.place taught.entry taught.there) in
+      let made = made_by i r.item taught.entry r.gives in
+      let asks = taught_news taught.entry.ask taught.entry.say l.news l.taught in
+      let told_it = learned n k setup all t r.place r.item i made.exchange.fate l.news.0 l.news.1 (get_in_take all p r.place r.item r.there) (made.exchange.is ∙ ap (λ ask. Asked i ask made.exchange.fate) asks) in
+      let within = slice_get_within (take p all) r.place r.item r.there in
+      let long = length-take p all in
+      later_by r.place p j stamp (omega (arith, within, long)) (subst (λ j. HasBy n all r.place j stamp) l.from (reported_by r.place l.news.0 l.news.1 stamp told_it l.covers))
+
+  -- what a centre let go by then, every centre has
+  let_go_by : (p i number j : ℕ) → 1 ≤ j → j ≤ n → number ≤ (horizon (settings_among n k setup i) (trail_in i (take p all))).trimmed → HasBy n all p j (record { centre = i; seq = number })
+  let_go_by p i number j least most = by_prefixes (λ X. number ≤ (horizon s X).trimmed → HasBy n all p j stamp) T
+      (by_prunes s T (λ h. number ≤ h.trimmed → HasBy n all p j stamp) (λ few. omega (arith, few)) (λ q h few. row q few (j == i) refl))
+    where
+      s : Settings
+      s = settings_among n k setup i
+
+      T : List Entry
+      T = trail_in i (take p all)
+
+      stamp : Stamp
+      stamp = record { centre = i; seq = number }
+
+      rule : ℕ → ℕ → List ℕ
+      rule q j = cond (j == i) (vector n (applied n (take q (trail_in i (take p all))))) (told n j (take q (trail_in i (take p all))))
+
+      row : (q : ℕ) → number ≤ at (all_known (settings_among n k setup i) (take q (trail_in i (take p all)))) i → (test : Bool) → (j == i) ≡ test → HasBy n all p j (record { centre = i; seq = number })
+      row q few test is = go test is (omega (arith, few, all_known_below s (take q T) i (rule q j) (In_map (rule q) (centres n) j (In_range 1 n j least (omega (arith, most))))))
+        where
+          go : (test : Bool) → (j == i) ≡ test → number ≤ at (cond (j == i) (vector n (applied n (take q (trail_in i (take p all))))) (told n j (take q (trail_in i (take p all))))) i → HasBy n all p j (record { centre = i; seq = number })
+          go true same le =
+              let own : number ≤ at (vector n (applied n (take q T))) i = subst (λ t. number ≤ at (cond t (vector n (applied n (take q T))) (told n j (take q T))) i) same le in
+              subst (λ j. HasBy n all p j stamp) (sym (eqb-true j i same)) (omega (arith, own, (front_covers n T q).holds i))
+          go false other le =
+              let row : number ≤ at (told n j (take q T)) i = subst (λ t. number ≤ at (cond t (vector n (applied n (take q T))) (told n j (take q T))) i) other le in
+              ⊎_elim (λ none. omega (arith, none, at-zeros n i)) (λ taught. taught_by p i q j stamp taught) (told_fold j stamp (take q T) (zeros n) row)
+
+  -- so it is at the time of an answer that names the number
+  pub trims_in_time : TrimsInTime n all
+  trims_in_time = record {
+    had = λ p i after most number j h fate there is tells least most_j.
+        let said = answered_deed n k setup all t p h i (Send after most) fate (Trimmed number) there is tells in
+        let same = trimmed_by (settings_among n k setup i) (trail_in i (take p all)) after most number said in
+        let_go_by p i number j least most_j (omega (arith, same));
+  }
