@@ -87,4 +87,5 @@ fn a_list_door_answers_from_its_list(rt: HostRuntime) -> Result<(), Fail> {
 fn answers_belong_or_do_not(rt: HostRuntime) {
     assert!(rt; belongs(&Ask::Stop, &Say::Stopped) && belongs(&Ask::Stop, &Say::Down));
     assert!(rt; !belongs(&Ask::Start, &Say::Stopped));
+    assert!(rt; belongs(&Ask::Prune, &Say::Down) && !belongs(&Ask::Prune, &Say::Stopped));
 }

@@ -26,6 +26,7 @@ pub fn is_mailed(say: &Say, want: (&str, u64, u64, u64)) -> bool {
     let told = match say {
         Say::Misfit => ("misfit", 0, 0, 0),
         Say::Down => ("down", 0, 0, 0),
+        Say::Trimmed { from } => ("trimmed", *from, 0, 0),
         Say::Records { list } => ("records", list.len() as u64, 0, 0),
         Say::Old { have } => ("old", *have, 0, 0),
         Say::Gap { have } => ("gap", *have, 0, 0),
@@ -33,6 +34,11 @@ pub fn is_mailed(say: &Say, want: (&str, u64, u64, u64)) -> bool {
         Say::Orphan { number, have } => ("orphan", *number, *have, 0),
         Say::Applied { fresh } => ("applied", u64::from(*fresh), 0, 0),
         Say::Learned { fresh } => ("learned", u64::from(*fresh), 0, 0),
+        Say::Base {
+            folded,
+            trimmed,
+            ..
+        } => ("base", *folded, *trimmed, 0),
         Say::Stopped => ("stopped", 0, 0, 0),
         Say::Started => ("started", 0, 0, 0),
         _ => ("", 0, 0, 0),
