@@ -4,13 +4,13 @@ use Rattle.list_core.specs.Members.{In}
 use Rattle.ids_core.specs.declared.ids.Dot.{Dot}
 use Rattle.ids_core.specs.declared.object.ObjectId.{ObjectId}
 use Rattle.vv_core.specs.declared.stamp.Stamp.{Stamp}
-use Rattle.vv_core.specs.Vectors.{at, Covers, within}
+use Rattle.vv_core.specs.Vectors.{at, Covers, within, IsFirstLack}
 use Rattle.tx_core.specs.declared.tx.Tx.{Tx}
 use Rattle.tx_core.specs.declared.tx.Record.{Record}
 use Rattle.tx_core.specs.declared.state.Value.{Value}
 use Rattle.dc_talk.specs.declared.ask.TheConstants.{MOST_SENT}
-use Rattle.dc_talk.specs.declared.ask.Ask.TheVariants.{Send, Prune}
-use Rattle.dc_talk.specs.declared.say.Say.TheVariants.{Misfit, Snap}
+use Rattle.dc_talk.specs.declared.ask.Ask.TheVariants.{Fetch, Send, Prune}
+use Rattle.dc_talk.specs.declared.say.Say.TheVariants.{Misfit, Snap, Pruned}
 use Rattle.dc_talk.specs.Entries.{Entry}
 use Rattle.dc_talk.specs.Records.{vector, count, own, inside}
 use Rattle.dc_talk.specs.Trails.{told, rows, stable}
@@ -84,12 +84,15 @@ pub record TakesSnapshots (b : Book) (setup : Setup) : Type 0 where
   pub exact : (x : Exchange) (number : ℕ) → HearsRefresh b setup x number → (takes (client_at b setup x.actor x.place) x.centre x.ask x.answer ≡ true) ↔ (number ≤ (client_at b setup x.actor x.place).own)
   pub timely : IsTimely b setup → (x : Exchange) (number : ℕ) → HearsRefresh b setup x number → takes (client_at b setup x.actor x.place) x.centre x.ask x.answer ≡ true
 
--- what is pruned is known: what a centre folded, it knew K centres to have; what it let go of its own records, every
--- centre has had; a send that asks for what was let go is answered with the number up to which all was, and every other
+-- what is pruned is known: what a centre folded, it has, and knew K centres to have; what it let go of its own records,
+-- every centre has had; a fetch is refused for what is folded with the least centre of which the base is above its vector,
+-- and both numbers; a send that asks for what was let go is answered with the number up to which all was, and every other
 -- one that fits with records, where the centre runs; and a prune is no misfit
 pub record KnowsPruned (b : Book) (setup : Setup) : Type 0 where
   pub folded : (i p : ℕ) (stamp : Stamp) → 1 ≤ i → i ≤ b.n → 1 ≤ stamp.seq → stamp.seq ≤ at (horizon_at b setup i p).base stamp.centre → WasKnownBy (centre_settings b setup i) (take p (trail_of b i)) stamp
+  pub held : (i p : ℕ) → 1 ≤ i → i ≤ b.n → Covers (vector b.n (applied_at b i p)) (horizon_at b setup i p).base
   pub let_go : (i p : ℕ) (stamp : Stamp) → 1 ≤ i → i ≤ b.n → stamp.centre ≡ i → 1 ≤ stamp.seq → stamp.seq ≤ (horizon_at b setup i p).trimmed → IsKnownToAll b stamp
+  pub refused : (i : ℕ) (o : ObjectId) (here : List ℕ) (centre high low : ℕ) (entry : Entry) (stands : IsEntry b i entry) → entry.ask ≡ Fetch o here → entry.say ≡ Pruned centre high low → IsFirstLack here (horizon_at b setup i stands.place).base (record { centre = centre; need = high; have = low })
   pub sends : (i after most : ℕ) (entry : Entry) (stands : IsEntry b i entry) → entry.ask ≡ Send after most → (1 ≤ most) × (most ≤ MOST_SENT) → IsSendAnswer (horizon_at b setup i stands.place).trimmed after entry.say
   pub misfits : (i after most : ℕ) (entry : Entry) → IsEntry b i entry → entry.ask ≡ Send after most → (entry.say ≡ Misfit) ↔ ((1 ≤ most) × (most ≤ MOST_SENT) → ⊥)
   pub prunes : (i : ℕ) (entry : Entry) → IsEntry b i entry → entry.ask ≡ Prune → IsPruneAnswer entry.say

@@ -8,20 +8,26 @@ use Rattle.list_core.proofs.Members.{In_map}
 use Rattle.list_core.proofs.Moments.{by_prefixes}
 use Rattle.list_core.proofs.Ranges.{In_range}
 use Rattle.list_core.specs.Choices.{when}
+use Rattle.ids_core.specs.declared.object.ObjectId.{ObjectId}
 use Rattle.vv_core.specs.declared.stamp.Stamp.{Stamp}
-use Rattle.vv_core.specs.Vectors.{at, zeros, centres}
-use Rattle.vv_core.proofs.Entrywise.{at-zeros}
+use Rattle.vv_core.specs.declared.stamp.Lack.{Lack}
+use Rattle.vv_core.specs.Vectors.{at, zeros, centres, kth_largest, Covers, IsFirstLack}
+use Rattle.vv_core.proofs.Covering.{Covers_trans}
+use Rattle.vv_core.proofs.Entrywise.{at-zeros, at-meet_of}
 use Rattle.dc_talk.specs.declared.ask.TheConstants.{MOST_SENT}
 use Rattle.dc_talk.specs.declared.ask.Ask.{Ask}
-use Rattle.dc_talk.specs.declared.ask.Ask.TheVariants.{Send, Prune}
+use Rattle.dc_talk.specs.declared.ask.Ask.TheVariants.{Fetch, Send, Prune}
 use Rattle.dc_talk.specs.declared.say.Say.{Say}
-use Rattle.dc_talk.specs.declared.say.Say.TheVariants.{Misfit, Records, Trimmed}
+use Rattle.dc_talk.specs.declared.say.Say.TheVariants.{Misfit, Lacks, Pruned, Object, Records, Trimmed}
 use Rattle.dc_talk.specs.declared.settings.Settings.{Settings}
 use Rattle.dc_talk.specs.Entries.{Entry}
 use Rattle.dc_talk.specs.Records.{vector}
-use Rattle.dc_talk.specs.Trails.{applied, told, all_known, Horizon, horizon}
-use Rattle.dc_talk.specs.Answers.{fits, own_after, answer}
-use Rattle.dc_talk.proofs.Answers.{answer_holds, no_misfit, misfit}
+use Rattle.dc_talk.specs.Trails.{applied, told, rows, stable, all_known, Horizon, horizon}
+use Rattle.dc_talk.specs.Objects.{state_at}
+use Rattle.dc_talk.specs.Answers.{fits, lacking, own_after, answer}
+use Rattle.dc_talk.proofs.Answers.{lack_holds, lack_first, answer_holds, fitting, no_misfit, misfit}
+use Rattle.dc_talk.proofs.Counts.{vector_front}
+use Rattle.dc_talk.proofs.Growth.{applied_front}
 use Rattle.dc_talk.proofs.Horizons.{by_prunes, all_known_below}
 use Rattle.run_book.specs.Setups.{Setup, centre_settings}
 use Rattle.run_book.specs.declared.book.Book.{Book}
@@ -35,6 +41,32 @@ use Rattle.run_book.proofs.Causal.KnownToK.{stable_known}
 use Rattle.run_book.proofs.Causal.Moments.{row_moment, row_reported}
 
 -- ---- one centre
+
+-- a centre has what it had by an earlier entry
+pub front_covers : (n : ℕ) (trail : List Entry) (q : ℕ) → Covers (vector n (applied n trail)) (vector n (applied n (take q trail)))
+front_covers n trail q = let front = applied_front n trail q in subst (λ A. Covers (vector n A) (vector n (applied n (take q trail)))) (sym front.1) (vector_front n (applied n (take q trail)) front.0)
+
+-- a stable vector is within the centre's own
+stable_held : (s : Settings) (trail : List Entry) → Covers (vector s.n (applied s.n trail)) (stable s trail)
+stable_held s trail = record { holds = λ e. omega (arith, at-meet_of (kth_largest s.k (rows s trail)) (vector s.n (applied s.n trail)) e) }
+
+-- after a trail the centre has what base and mark cover
+record AreHeld (s : Settings) (trail : List Entry) (h : Horizon) : Type 0 where
+  base : Covers (vector s.n (applied s.n trail)) h.base
+  mark : Covers (vector s.n (applied s.n trail)) h.mark
+
+-- every vector covers nothing
+none_held : (v : List ℕ) (n : ℕ) → Covers v (zeros n)
+none_held v n = record { holds = λ e. omega (arith, at-zeros n e) }
+
+horizon_held : (s : Settings) (trail : List Entry) → AreHeld s trail (horizon s trail)
+horizon_held s trail = by_prefixes (λ X. AreHeld s trail (horizon s X)) trail
+    (by_prunes s trail (AreHeld s trail) (record { base = none_held (vector s.n (applied s.n trail)) s.n; mark = none_held (vector s.n (applied s.n trail)) s.n })
+    (λ p h. record { base = h.mark; mark = Covers_trans _ _ _ (front_covers s.n trail p) (stable_held s (take p trail)) }))
+
+-- what is folded, the centre has
+pub base_held : (s : Settings) (trail : List Entry) → Covers (vector s.n (applied s.n trail)) (horizon s trail).base
+base_held s trail = (horizon_held s trail).base
 
 -- after a trail the centre knew K centres to have what the vector covers, at one of its moments
 record WasStable (s : Settings) (trail : List Entry) (v : List ℕ) : Type 0 where
@@ -64,6 +96,17 @@ send_fits n after most is = and_from (nat_le 1 most) (nat_le most MOST_SENT) (le
 
 fits_send : (n after most : ℕ) → fits n (Send after most) ≡ true → (1 ≤ most) × (most ≤ MOST_SENT)
 fits_send n after most is = let parts = and_parts (nat_le 1 most) (nat_le most MOST_SENT) is in (leb-true 1 most parts.0, leb-true most MOST_SENT parts.1)
+
+-- equal refusals of a fetch have equal parts
+same_refusal : (c d high more low less : ℕ) → Pruned c high low ≡ Pruned d more less → (c ≡ d) × (high ≡ more) × (low ≡ less)
+same_refusal c d high more low less same = (cc, cc, cc)
+
+-- the refusal of a first lack is of this one
+refusal_is : (here base : List ℕ) (c high low : ℕ) (lack : Lack) → IsFirstLack here base lack → Pruned c high low ≡ Pruned lack.centre lack.need lack.have → IsFirstLack here base (record { centre = c; need = high; have = low })
+refusal_is here base c high low lack first same =
+    let parts = same_refusal c lack.centre high lack.need low lack.have same in
+    let is : lack ≡ record { centre = c; need = high; have = low } = λ j. record { centre = sym parts.0 j; need = sym parts.1 j; have = sym parts.2 j } in
+    subst (IsFirstLack here base) is first
 
 module _ (b : Book) (setup : Setup) (fit : FitsWith b setup) where
   -- ---- what is folded
@@ -119,6 +162,24 @@ module _ (b : Book) (setup : Setup) (fit : FitsWith b setup) where
     -- to an ask
     said_to : (ask : Ask) → entry.ask ≡ ask → entry.say ≡ answer (centre_settings b setup i) (take stands.place (trail_of b i)) ask
     said_to ask asks = said ∙ ap (answer (centre_settings b setup i) (take stands.place (trail_of b i))) asks
+
+    -- a fetch that is refused for the centre's base is told the least centre of which the base is above it
+    pub refused : (o : ObjectId) (here : List ℕ) (c high low : ℕ) → entry.ask ≡ Fetch o here → entry.say ≡ Pruned c high low → IsFirstLack here (horizon_at b setup i stands.place).base (record { centre = c; need = high; have = low })
+    refused o here c high low asks says = first_of_holds Q (lacking Lacks have here ∷ lacking Pruned here base ∷ []) (Object (state_at o (applied b.n X) here))
+        (lack_holds Q Lacks (λ d m h e. absurd (cc)) have here, λ none. (lack_first Q Pruned here base (λ lack first e. refusal_is here base c high low lack first e), λ kept e. absurd (cc)))
+        (fitting (centre_settings b setup i) X (Fetch o here) (Pruned c high low) (sym says ∙ said_to (Fetch o here) asks) (λ e. cc) (λ e. cc)).1
+      where
+        X : List Entry
+        X = take stands.place (trail_of b i)
+
+        have : List ℕ
+        have = vector b.n (applied b.n (take stands.place (trail_of b i)))
+
+        base : List ℕ
+        base = (horizon_at b setup i stands.place).base
+
+        Q : Say → Type 0
+        Q say = Pruned c high low ≡ say → IsFirstLack here (horizon_at b setup i stands.place).base (record { centre = c; need = high; have = low })
 
     -- a send is a misfit exactly where it asks for no record or for too many
     pub send_misfit : (after most : ℕ) → entry.ask ≡ Send after most → (entry.say ≡ Misfit) ↔ ((1 ≤ most) × (most ≤ MOST_SENT) → ⊥)

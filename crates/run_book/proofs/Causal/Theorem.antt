@@ -21,7 +21,7 @@ use Rattle.run_book.proofs.Causal.SessionVectors.{session_sound, snap_sound}
 use Rattle.run_book.proofs.Causal.OneList.{front, inside_covered, covered_inside}
 use Rattle.run_book.proofs.Causal.KnownToK.{basis_known}
 use Rattle.run_book.proofs.Causal.Moments.{moment}
-use Rattle.run_book.proofs.Causal.Pruned.{base_known, horizon_sound, trimmed_known, send_misfit, send, prune}
+use Rattle.run_book.proofs.Causal.Pruned.{base_held, base_known, horizon_sound, trimmed_known, refused, send_misfit, send, prune}
 use Rattle.run_book.proofs.Causal.Commits.{one_tx, applied_commit}
 use Rattle.run_book.proofs.Causal.SessionStates.{standing}
 use Rattle.run_book.proofs.Causal.Closure.{made, closed_basis, basis_grows, session_held}
@@ -111,7 +111,9 @@ module _ (b : Book) (setup : Setup) (fit : FitsWith b setup) where
   pub pruned : KnowsPruned b setup
   pruned = record {
     folded = λ i p stamp low high. base_known (centre_settings b setup i) (take p (trail_of b i)) stamp;
+    held = λ i p low high. base_held (centre_settings b setup i) (take p (trail_of b i));
     let_go = trimmed_known b setup fit;
+    refused = λ i o here centre high low entry stands. refused b setup fit i entry stands o here centre high low;
     sends = λ i after most entry stands. send b setup fit i entry stands after most;
     misfits = λ i after most entry stands. send_misfit b setup fit i entry stands after most;
     prunes = λ i entry stands. prune b setup fit i entry stands;

@@ -20,8 +20,7 @@ use Rattle.dc_talk.specs.Records.{vector}
 use Rattle.dc_talk.specs.Trails.{applied, told, taught_in, all_known, horizon}
 use Rattle.dc_talk.specs.Answers.{own_after, answer}
 use Rattle.dc_talk.proofs.Answers.{fitting, send_holds}
-use Rattle.dc_talk.proofs.Counts.{vector_front}
-use Rattle.dc_talk.proofs.Growth.{applied_front, later_covers}
+use Rattle.dc_talk.proofs.Growth.{later_covers}
 use Rattle.dc_talk.proofs.Horizons.{by_prunes, all_known_below}
 use Rattle.dc_talk.proofs.PeerAnswers.{vector_by}
 use Rattle.run_book.specs.Setups.{Setup, settings_among}
@@ -30,6 +29,7 @@ use Rattle.run_book.proofs.Filtered.{from_place, filtered_front, filtered_few}
 use Rattle.run_book.proofs.Happenings.Entries.{made_by}
 use Rattle.run_book.proofs.Happenings.Places.{learned, answered_deed, answered_by_then}
 use Rattle.run_book.proofs.Causal.CentreVectors.{taught_news}
+use Rattle.run_book.proofs.Causal.Pruned.{front_covers}
 use Rattle.run_book.proofs.Causal.Moments.{IsLesson, IsTaught, told_fold}
 
 -- equal answers name equal numbers
@@ -42,10 +42,6 @@ trimmed_by s trail after most number is = send_holds (λ say. Trimmed number ≡
     (λ e. same_trimmed number (horizon s trail).trimmed e)
     (λ e. absurd (cc))
     (fitting s trail (Send after most) (Trimmed number) is (λ e. cc) (λ e. cc)).1
-
--- a centre has what it had by an earlier entry
-front_covers : (n : ℕ) (trail : List Entry) (q : ℕ) → Covers (vector n (applied n trail)) (vector n (applied n (take q trail)))
-front_covers n trail q = let front = applied_front n trail q in subst (λ A. Covers (vector n A) (vector n (applied n (take q trail)))) (sym front.1) (vector_front n (applied n (take q trail)) front.0)
 
 -- after the first p that happened among n centres, centre j has what the stamp is of
 abbrev HasBy : ℕ → List Happened → ℕ → ℕ → Stamp → Type 0
