@@ -1,6 +1,7 @@
-// Whether a book fits, looked at slowly: by a new centre for each trail, by pairs of entries and notes, by where
-// records and vectors come from, and by the conduct of each client.
+// Whether a book fits, looked at slowly: by a new centre for each trail, by what each prune has to fold and let go, by
+// pairs of entries and notes, by where records and vectors come from, and by the conduct of each client.
 use crate::conduct::follows;
+use crate::horizon::{Seat, tells_prunes};
 use crate::same::{is_same_ask, is_same_record, is_same_say, records_in, vector_in};
 use dc_centre::Centre;
 use dc_talk::{Ask, Deed, Fate, Log, Note, Say};
@@ -83,7 +84,12 @@ fn are_due(alloc: Global, script: &Script, trails: &[Trail<Centre>]) -> Result<b
     let mut me: u8 = 0;
     for trail in trails {
         me = me.saturating_add(1);
-        if !is_due(alloc, script, me, trail.as_slice())? {
+        let seat = Seat {
+            me,
+            n: script.n,
+            k: script.k,
+        };
+        if !tells_prunes(seat, trail.as_slice()) || !is_due(alloc, script, me, trail.as_slice())? {
             return Ok(false);
         }
     }
@@ -238,7 +244,7 @@ fn has_origin(notes: &[Note], place: usize, deed: &Deed) -> bool {
         Deed::Asked { ask, .. } => match ask {
             Ask::Deliver { item } => was_sent(notes, place, item),
             Ask::Learn { from, vector } => was_reported(notes, place, *from, vector),
-            Ask::Send { .. } | Ask::Report | Ask::Stop | Ask::Start => true,
+            Ask::Send { .. } | Ask::Report | Ask::Prune | Ask::Stop | Ask::Start => true,
             _ => false,
         },
     }

@@ -12,7 +12,11 @@ mod events;
 #[cfg(test)]
 mod examples;
 #[cfg(test)]
+mod horizon;
+#[cfg(test)]
 mod kept_door;
+#[cfg(test)]
+mod prunes;
 #[cfg(test)]
 mod same;
 #[cfg(test)]

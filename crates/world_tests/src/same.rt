@@ -90,6 +90,7 @@ fn is_same_order(one: &Ask, other: &Ask) -> bool {
             matches!(other, Ask::Learn { from: also, vector: news } if from == also && vector == news)
         }
         Ask::Report => matches!(other, Ask::Report),
+        Ask::Prune => matches!(other, Ask::Prune),
         Ask::Stop => matches!(other, Ask::Stop),
         Ask::Start => matches!(other, Ask::Start),
         _ => false,
@@ -126,6 +127,11 @@ fn mailed_of(say: &Say) -> (&'static str, u64, u64, u64) {
         Say::Applied { fresh } => ("applied", u64::from(*fresh), 0, 0),
         Say::Vector { .. } => ("vector", 0, 0, 0),
         Say::Learned { fresh } => ("learned", u64::from(*fresh), 0, 0),
+        Say::Base {
+            folded,
+            trimmed,
+            ..
+        } => ("base", *folded, *trimmed, 0),
         Say::Stopped => ("stopped", 0, 0, 0),
         Say::Started => ("started", 0, 0, 0),
         _ => ("", 0, 0, 0),
@@ -135,7 +141,9 @@ fn mailed_of(say: &Say) -> (&'static str, u64, u64, u64) {
 /// The vector that an answer has, if it has one.
 pub fn vector_in(say: &Say) -> Option<Vector> {
     match say {
-        Say::Snap { vector, .. } | Say::Vector { vector } => Some(*vector),
+        Say::Snap { vector, .. } | Say::Vector { vector } | Say::Base { vector, .. } => {
+            Some(*vector)
+        }
         _ => None,
     }
 }
