@@ -1,5 +1,5 @@
 -- What happens among several centres and their callers, as one list.
-use Rattle.std.specs.Prelude.{◌≡◌, ℕ, ◌+◌, ◌*◌, ◌≤◌, ◌⊎◌, cond, ◌==◌, length, take, map, slice_get, List, [], ◌∷◌, ◌++◌, Option, Some, None}
+use Rattle.std.specs.Prelude.{◌≡◌, ◌≢◌, ℕ, ◌+◌, ◌*◌, ◌≤◌, ◌⊎◌, cond, ◌==◌, length, take, map, slice_get, List, [], ◌∷◌, ◌++◌, Option, Some, None}
 use Rattle.std.specs.List.{filter_map}
 use Rattle.list_core.specs.Members.{In}
 use Rattle.list_core.specs.Moments.{Each}
@@ -150,9 +150,11 @@ pub record AreTogether (n k : ℕ) (setup : Setup) (all : List Happened) : Type 
   pub histories : AreHistories n k setup all
   pub each : Each (Happens n setup) all
 
--- a centre that answers that own records were let go up to a number does so when every centre has them
+-- a centre that answers that own records were let go up to a number does so when every centre has them; so it never
+-- answers that to a send from where a centre has no more, by the report of this one just before
 pub record TrimsInTime (n : ℕ) (all : List Happened) : Type 0 where
   pub had : (p i after most number j : ℕ) (h : Happened) (fate : Fate) → slice_get all p ≡ Some h → h.note.deed ≡ Asked i (Send after most) fate → answered fate ≡ Some (Trimmed number) → 1 ≤ j → j ≤ n → number ≤ at (vector n (applied n (trail_in j (take p all)))) i
+  pub ships : (p from to most number : ℕ) (first second : Happened) (v : List ℕ) (fate other : Fate) → slice_get all p ≡ Some first → slice_get all (p + 1) ≡ Some second → first.note.deed ≡ Asked to Report fate → answered fate ≡ Some (Vector v) → second.note.deed ≡ Asked from (Send (at v from) most) other → answered other ≢ Some (Trimmed number)
 
 -- ---- the book of it
 

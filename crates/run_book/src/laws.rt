@@ -119,8 +119,9 @@ pub fn law_causal(book: &Book)
 
 /// What happened among several centres, one thing after another, each by the session rule or by the
 /// operator or a worker, where each trail is a history: the book of it fits and is timely, and each record that a
-/// centre says to have let go, every centre has by then. Where clients and the operator took the steps of a
-/// script, each a section of its own, the book has the script's steps.
+/// centre says to have let go, every centre has by then, so that a send from where the report just before ends
+/// asks for none of them. Where clients and the operator took the steps of a script, each a section of its own, the
+/// book has the script's steps.
 pub fn law_together()
     ensures fits { (b : Book) (n k : ℕ) (setup : Setup) (all : List Happened) → InRange n k setup → IsBookOf b n k setup.clients all → AreTogether n k setup all → FitsWith b setup }
     ensures timely { (b : Book) (n k : ℕ) (setup : Setup) (all : List Happened) → IsBookOf b n k setup.clients all → AreTogether n k setup all → IsTimely b setup }

@@ -1,33 +1,43 @@
 -- By the time that a centre names the number up to which it let own records go, every centre has them.
-use Rattle.std.proofs.Common.{◌≡◌, ℕ, ◌≤◌, Bool, true, false, cond, ⊎_elim, List, length, take, refl, sym, ap, ◌∙◌, subst, arith}
-use Rattle.std.specs.Prelude.{◌==◌}
-use Rattle.std.proofs.lemmas.Bool.{eqb-true}
+use Rattle.std.proofs.Common.{◌≡◌, ℕ, suc, ◌+◌, ◌≤◌, ◌<◌, Bool, true, false, cond, ⊎_elim, List, [], ◌∷◌, ◌++◌, length, take, Some, refl, sym, ap, ◌∙◌, subst, arith}
+use Rattle.std.specs.Prelude.{◌==◌, nat_le, slice_get}
+use Rattle.std.specs.List.{cons_option}
+use Rattle.std.specs.Option.{option_map}
+use Rattle.std.proofs.lemmas.Bool.{eqb-true, leb-true}
 use Rattle.std.proofs.lemmas.Option.{slice_get_within}
 use Rattle.std.proofs.lemmas.List.{length-take}
+use Rattle.std.proofs.lemmas.List.Sums.{fold_push}
+use Rattle.list_core.specs.Choices.{when}
+use Rattle.list_core.proofs.Choices.{first_of_holds, when_holds}
 use Rattle.list_core.proofs.Gets.{In_get, get_in_take}
 use Rattle.list_core.proofs.Members.{In_map}
-use Rattle.list_core.proofs.Moments.{by_prefixes}
+use Rattle.list_core.proofs.Moments.{by_prefixes, take_one_more}
 use Rattle.list_core.proofs.Ranges.{In_range}
 use Rattle.vv_core.specs.declared.stamp.Stamp.{Stamp}
-use Rattle.vv_core.specs.Vectors.{at, zeros, centres, Covers}
+use Rattle.vv_core.specs.Vectors.{at, zeros, centres}
 use Rattle.vv_core.proofs.Entrywise.{at-zeros}
-use Rattle.dc_talk.specs.declared.ask.Ask.TheVariants.{Send}
-use Rattle.dc_talk.specs.declared.say.Say.TheVariants.{Trimmed, Vector}
+use Rattle.dc_talk.specs.declared.ask.Ask.{Ask}
+use Rattle.dc_talk.specs.declared.ask.Ask.TheVariants.{Send, Report}
+use Rattle.dc_talk.specs.declared.say.Say.{Say}
+use Rattle.dc_talk.specs.declared.say.Say.TheVariants.{Trimmed, Records, Vector}
 use Rattle.dc_talk.specs.declared.settings.Settings.{Settings}
+use Rattle.dc_talk.specs.declared.log.Fate.{Fate}
 use Rattle.dc_talk.specs.declared.log.Deed.TheVariants.{Asked}
 use Rattle.dc_talk.specs.Entries.{Entry}
+use Rattle.dc_talk.specs.Logs.{answered, exchanged_in, entry_for}
 use Rattle.dc_talk.specs.Records.{vector}
-use Rattle.dc_talk.specs.Trails.{applied, told, taught_in, all_known, horizon}
+use Rattle.dc_talk.specs.Trails.{grown, applied, told, taught_in, all_known, horizon}
 use Rattle.dc_talk.specs.Answers.{own_after, answer}
-use Rattle.dc_talk.proofs.Answers.{fitting, send_holds}
+use Rattle.dc_talk.proofs.Answers.{fitting}
 use Rattle.dc_talk.proofs.Growth.{later_covers}
 use Rattle.dc_talk.proofs.Horizons.{by_prunes, all_known_below}
 use Rattle.dc_talk.proofs.PeerAnswers.{vector_by}
 use Rattle.run_book.specs.Setups.{Setup, settings_among}
 use Rattle.run_book.specs.Happenings.{Happened, entry_in, trail_in, HasAnswer, AreTogether, TrimsInTime}
+use Rattle.run_book.proofs.Pairing.{exchanges}
 use Rattle.run_book.proofs.Filtered.{from_place, filtered_front, filtered_few}
-use Rattle.run_book.proofs.Happenings.Entries.{made_by}
-use Rattle.run_book.proofs.Happenings.Places.{learned, answered_deed, answered_by_then}
+use Rattle.run_book.proofs.Happenings.Entries.{made_by, trail_more}
+use Rattle.run_book.proofs.Happenings.Places.{learned, reached_one, answered_deed, answered_by_then}
 use Rattle.run_book.proofs.Causal.CentreVectors.{taught_news}
 use Rattle.run_book.proofs.Causal.Pruned.{front_covers}
 use Rattle.run_book.proofs.Causal.Moments.{IsLesson, IsTaught, told_fold}
@@ -36,12 +46,14 @@ use Rattle.run_book.proofs.Causal.Moments.{IsLesson, IsTaught, told_fold}
 same_trimmed : (m o : ℕ) → Trimmed m ≡ Trimmed o → m ≡ o
 same_trimmed m o same = cc
 
--- the number of such an answer is the one of the centre's last prune
-trimmed_by : (s : Settings) (trail : List Entry) (after most number : ℕ) → Trimmed number ≡ answer s trail (Send after most) → number ≡ (horizon s trail).trimmed
-trimmed_by s trail after most number is = send_holds (λ say. Trimmed number ≡ say → number ≡ (horizon s trail).trimmed) (horizon s trail).trimmed (own_after s.me (applied s.n trail) after most) after
-    (λ e. same_trimmed number (horizon s trail).trimmed e)
-    (λ e. absurd (cc))
+-- the number of such an answer is the one of the centre's last prune, and more was asked for
+trimmed_by : (s : Settings) (trail : List Entry) (after most number : ℕ) → Trimmed number ≡ answer s trail (Send after most) → (number ≡ (horizon s trail).trimmed) × (after < number)
+trimmed_by s trail after most number is = first_of_holds (λ say. Trimmed number ≡ say → (number ≡ trimmed) × (after < number)) (when (nat_le (after + 1) trimmed) (Trimmed trimmed) ∷ []) (Records (own_after s.me (applied s.n trail) after most))
+    (when_holds _ _ _ (λ t e. (let same = same_trimmed number trimmed e in (same, omega (arith, same, leb-true (after + 1) trimmed t)))), λ none e. absurd (cc))
     (fitting s trail (Send after most) (Trimmed number) is (λ e. cc) (λ e. cc)).1
+  where
+    trimmed : ℕ
+    trimmed = (horizon s trail).trimmed
 
 -- after the first p that happened among n centres, centre j has what the stamp is of
 abbrev HasBy : ℕ → List Happened → ℕ → ℕ → Stamp → Type 0
@@ -107,10 +119,31 @@ module _ (n k : ℕ) (setup : Setup) (all : List Happened) (t : AreTogether n k 
               ⊎_elim (λ none. omega (arith, none, at-zeros n i)) (λ taught. taught_by p i q j stamp taught) (told_fold j stamp (take q T) (zeros n) row)
 
   -- so it is at the time of an answer that names the number
+  had_by : (p i after most number j : ℕ) (h : Happened) (fate : Fate) → slice_get all p ≡ Some h → h.note.deed ≡ Asked i (Send after most) fate → answered fate ≡ Some (Trimmed number) → 1 ≤ j → j ≤ n → HasBy n all p j (record { centre = i; seq = number }) × (after < number)
+  had_by p i after most number j h fate there is tells least most_j =
+      let said = answered_deed n k setup all t p h i (Send after most) fate (Trimmed number) there is tells in
+      let by = trimmed_by (settings_among n k setup i) (trail_in i (take p all)) after most number said in
+      (let_go_by p i number j least most_j (omega (arith, by.0)), by.1)
+
+  -- a report leaves its centre's records
+  reported_still : (p j : ℕ) (h : Happened) (v : List ℕ) (fate : Fate) → slice_get all p ≡ Some h → h.note.deed ≡ Asked j Report fate → answered fate ≡ Some (Vector v) → v ≡ vector n (applied n (trail_in j (take (suc p) all)))
+  reported_still p j h v fate there is tells =
+      let X = trail_in j (take p all) in
+      let said = answered_deed n k setup all t p h j Report fate (Vector v) there is tells in
+      let pair : Ask × Say = (Report, Vector v) in
+      let made : entry_in j h ≡ Some (entry_for h.actor pair) = ap (λ deed. option_map (entry_for h.actor) (exchanged_in j deed)) is ∙ ap (option_map (entry_for h.actor)) (exchanges j Report (Vector v) fate tells) in
+      let more : trail_in j (take (suc p) all) ≡ X ++ entry_for h.actor pair ∷ [] = ap (trail_in j) (take_one_more all p h there) ∙ (trail_more j (take p all) h ∙ ap (λ o. X ++ cons_option o []) made) in
+      vector_by (settings_among n k setup j) X Report v said
+      ∙ ap (vector n) (sym (ap (applied n) more ∙ fold_push (λ A (entry : Entry). grown n A entry.ask entry.say) [] X (entry_for h.actor pair)))
+
   pub trims_in_time : TrimsInTime n all
   trims_in_time = record {
-    had = λ p i after most number j h fate there is tells least most_j.
-        let said = answered_deed n k setup all t p h i (Send after most) fate (Trimmed number) there is tells in
-        let same = trimmed_by (settings_among n k setup i) (trail_in i (take p all)) after most number said in
-        let_go_by p i number j least most_j (omega (arith, same));
+    had = λ p i after most number j h fate there is tells least most_j. (had_by p i after most number j h fate there is tells least most_j).0;
+    ships = λ p from to most number first second v fate other there next reports tells sends trims.
+        let centre = reached_one n k setup all t p first to Report fate there reports in
+        let by = had_by (p + 1) from (at v from) most number to second other next sends trims centre.0 centre.1 in
+        let one : p + 1 ≡ suc p = omega arith in
+        let now : number ≤ at (vector n (applied n (trail_in to (take (suc p) all)))) from = subst (λ q. number ≤ at (vector n (applied n (trail_in to (take q all)))) from) one by.0 in
+        let same : at v from ≡ at (vector n (applied n (trail_in to (take (suc p) all)))) from = ap (λ v. at v from) (reported_still p to first v fate there reports tells) in
+        omega (arith, by.1, now, same);
   }
