@@ -8,6 +8,5 @@ pub mod Noted
 pub mod Partings
 pub mod Agreeing
 pub mod Logs
-pub mod Lines
 pub mod Scripts
 pub mod Outputs

@@ -2,7 +2,6 @@
 use Rattle.std.proofs.Common.{◌≡◌, inl, inr, ℕ, List, Option, refl, sym, ap, ◌∙◌, subst}
 use Rattle.io_edge.specs.Streams.{puts_behind}
 use Rattle.script_text.specs.declared.script.Script.{Script}
-use Rattle.script_text.specs.Scripts.{IsScript}
 use Rattle.run_book.specs.declared.book.Book.{Book}
 use Rattle.world_core.specs.Runs.{IsRunOf}
 use Rattle.top_call.specs.Runs.{IsOwed, Played, Refused, Misused, Wrote}
@@ -12,7 +11,7 @@ use Rattle.run_laws.specs.OneBook.{AreOne}
 use Rattle.run_laws.specs.Outputs.{given_bytes, AreAlike, IsWhole, IsWholeRun, PrintAlike}
 use Rattle.run_laws.proofs.Agreeing.{AreRuns, same_trails}
 use Rattle.run_laws.proofs.Logs.{same_logs, same_texts}
-use Rattle.run_laws.proofs.Scripts.{one_script}
+use Rattle.run_laws.proofs.Scripts.{one_script, script_said, not_refused, one_refusal}
 
 -- two runs of a script have one book
 pub one_book : (script : Script) (b c : Book) → IsRunOf script b → IsRunOf script c → AreOne b c
@@ -28,14 +27,12 @@ one_self b c same = subst (AreOne b) same (record { n = refl; k = refl; trails =
 -- what is owed for the same words and bytes
 pub one_output : (words : List (List ℕ)) (bytes : List ℕ) (taken again : Option (List ℕ)) (one two : Owed) → IsOwed (given_bytes words bytes taken) one → IsOwed (given_bytes words bytes again) two → AreAlike one two
 one_output words bytes taken again one two (Played p) (Played q) =
-    let script : IsScript bytes p.run.script = subst (λ all. IsScript all p.run.script) (sym p.run.input) p.run.spelled in
-    let other : IsScript bytes q.run.script = subst (λ all. IsScript all q.run.script) (sym q.run.input) q.run.spelled in
-    let same : p.run.script ≡ q.run.script = one_script bytes p.run.script q.run.script script other in
-    let book = one_book p.run.script one.book two.book p.run.run (subst (λ script. IsRunOf script two.book) (sym same) q.run.run) in
+    let same : p.run.read ≡ q.run.read = one_script bytes p.run.read q.run.read (script_said bytes one.book p.run) (script_said bytes two.book q.run) in
+    let book = one_book p.run.read.script one.book two.book p.run.run (subst (λ read. IsRunOf read.script two.book) (sym same) q.run.run) in
     record { status = p.status ∙ sym q.status; text = p.text ∙ (book.texts ∙ sym q.text); book = book }
-one_output words bytes taken again one two (Played p) (Refused q) = absurd (q.input p.run.script (subst (λ all. IsScript all p.run.script) (sym p.run.input) p.run.spelled))
-one_output words bytes taken again one two (Refused p) (Played q) = absurd (p.input q.run.script (subst (λ all. IsScript all q.run.script) (sym q.run.input) q.run.spelled))
-one_output words bytes taken again one two (Refused p) (Refused q) = record { status = p.status ∙ sym q.status; text = p.text ∙ sym q.text; book = one_self one.book two.book (p.book ∙ sym q.book) }
+one_output words bytes taken again one two (Played p) (Refused q) = absurd (not_refused bytes one.book q.line q.cause p.run q.refused)
+one_output words bytes taken again one two (Refused p) (Played q) = absurd (not_refused bytes two.book p.line p.cause q.run p.refused)
+one_output words bytes taken again one two (Refused p) (Refused q) = record { status = p.status ∙ sym q.status; text = p.text ∙ (one_refusal bytes p.line q.line p.cause q.cause p.refused q.refused ∙ sym q.text); book = one_self one.book two.book (p.book ∙ sym q.book) }
 one_output words bytes taken again one two (Misused p) (Misused q) = record { status = p.status ∙ sym q.status; text = p.text ∙ sym q.text; book = one_self one.book two.book (p.book ∙ sym q.book) }
 one_output words bytes taken again one two (Played p) (Misused q) = absurd (q.form p.form)
 one_output words bytes taken again one two (Refused p) (Misused q) = absurd (q.form p.form)

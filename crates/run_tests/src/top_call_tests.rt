@@ -41,7 +41,7 @@ fn an_input_that_is_no_script_is_refused(rt: HostRuntime) -> Result<(), Fail> {
     let mut sink = MemorySink::new(rt.alloc(), 64, Vec::new(rt.alloc()));
     let ended = played(rt.alloc(), b"centres 1 k 1\n", &mut sink)?;
     assert_eq!(rt; ended.status, 3);
-    assert_eq!(rt; sink.bytes(), b"refused input\n".as_slice());
+    assert_eq!(rt; sink.bytes(), b"refused line 2 place\n".as_slice());
     Ok(())
 }
 

@@ -1,15 +1,15 @@
 // A script that is played.
 use print_text::text_of;
 use run_book::Book;
-use script_text::{Input, parse};
+use script_reader::parse;
 use std::alloc::Global;
 use std::test::Fail;
 use world_core::serial;
 
 /// The book of a script.
 pub fn played(alloc: Global, text: &[u8]) -> Result<Book, Fail> {
-    let script = parse(alloc, &Input::of(text.to_vec(alloc)?))?;
-    Ok(serial(alloc, &script)?)
+    let read = parse(alloc, text)?;
+    Ok(serial(alloc, &read.script)?)
 }
 
 #[test]

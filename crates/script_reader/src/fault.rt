@@ -1,6 +1,7 @@
 // Why an input is no script.
 ghost use Rattle.std.specs.Prelude.{◌≡◌};
 ghost use Rattle.script_reader.specs.declared.fault.ScriptFault.TheVariants.{NoMemory as no_memory};
+ghost use Rattle.script_reader.specs.Causes.{cause_text};
 
 use std::alloc::AllocError;
 use thiserror::Error;
@@ -29,6 +30,26 @@ pub enum Cause {
     Kind,
     /// It may not stand here, or repeats a line of the header.
     Place,
+}
+
+impl Cause {
+    /// The word for the cause.
+    pub fn word(self) -> &'static [u8]
+        ensures { result.now ≡ cause_text self }
+    {
+        match self {
+            Cause::Many => b"many",
+            Cause::Long => b"long",
+            Cause::Byte => b"byte",
+            Cause::Word => b"word",
+            Cause::Count => b"count",
+            Cause::Number => b"number",
+            Cause::Range => b"range",
+            Cause::Name => b"name",
+            Cause::Kind => b"kind",
+            Cause::Place => b"place",
+        }
+    }
 }
 
 /// Why an input was not taken.

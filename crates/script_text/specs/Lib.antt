@@ -3,7 +3,6 @@ pub mod LineCounts
 pub mod Lines
 pub mod Steps
 pub mod Rows
-pub mod Readings
 pub mod Scripts
 pub mod Deeds
 pub mod Carrying

@@ -1,7 +1,6 @@
--- The steps of a script and their one spelling.
-use Rattle.std.specs.Prelude.{◌≡◌, ◌≢◌, ◌≤◌, ℕ, ℤ, IsTrue, List, ◌∷◌, ◌++◌, codes, decimal}
+-- The steps of a script, and how objects and the words of steps are spelled.
+use Rattle.std.specs.Prelude.{◌≡◌, ◌≢◌, ◌≤◌, ℕ, ℤ, IsTrue, List, ◌++◌, codes}
 use Rattle.ids_core.specs.declared.limits.TheConstants.{MOST_CENTRES, MOST_CLIENTS, MOST_NUMBER, MOST_RECORDS}
-use Rattle.std.specs.Fmt.{signed_decimal}
 use Rattle.ids_core.specs.Name.{IsName}
 use Rattle.ids_core.specs.declared.object.ObjectId.{ObjectId}
 use Rattle.ids_core.specs.declared.object.Sort.{Sort}
@@ -12,10 +11,7 @@ use Rattle.dc_talk.specs.declared.calls.Change.TheVariants.{Inc, Write, Add, Rem
 use Rattle.dc_talk.specs.Calls.{sort_of_change}
 use Rattle.dc_talk.specs.declared.line.StepWord.{StepWord}
 use Rattle.dc_talk.specs.declared.line.StepWord.TheVariants.{Inc as IncWord, Set as SetWord, Add as AddWord, Del as DelWord, Put as PutWord, Drop as DropWord, Read as ReadWord}
-use Rattle.script_text.specs.Deeds.{word_of}
 use Rattle.script_text.specs.declared.script.Header.{Header}
-use Rattle.script_text.specs.declared.steps.AskFault.{AskFault}
-use Rattle.script_text.specs.declared.steps.AskFault.TheVariants.{LoseAsk, LoseReply, Twice}
 use Rattle.script_text.specs.declared.steps.ClientStep.{ClientStep}
 use Rattle.script_text.specs.declared.steps.ClientStep.TheVariants.{Connect, Begin, Change, Read, Commit, Abort, Push, Flush, Refresh, Again, Arm}
 use Rattle.script_text.specs.declared.steps.OperatorStep.{OperatorStep}
@@ -43,57 +39,6 @@ word_text DelWord = codes "del"
 word_text PutWord = codes "put"
 word_text DropWord = codes "drop"
 word_text ReadWord = codes "read"
-
--- the word of a change
-abbrev pub change_word : ChangeOf → List ℕ
-change_word change = word_text (word_of change)
-
--- what a change says of its object: its delta, its word, its key, or its key and its word
-abbrev pub change_text : ChangeOf → List ℕ
-change_text (Inc delta) = signed_decimal delta
-change_text (Write word) = word
-change_text (Add word) = word
-change_text (Remove word) = word
-change_text (Put key word) = key ++ 32 ∷ word
-change_text (Erase key) = key
-
--- a change of an object: its word, the object, and what it says of it
-abbrev pub change_line : ObjectId → ChangeOf → List ℕ
-change_line object change = change_word change ++ 32 ∷ (object_text object ++ 32 ∷ change_text change)
-
--- a fault for the client's next ask, in words
-abbrev pub fault_text : AskFault → List ℕ
-fault_text LoseAsk = codes "lose ask"
-fault_text LoseReply = codes "lose reply"
-fault_text Twice = codes "twice"
-
--- what a client does, in words
-abbrev pub does_text : ClientStep → List ℕ
-does_text (Connect centre) = codes "connect " ++ decimal centre
-does_text Begin = codes "begin"
-does_text (Change object change) = change_line object change
-does_text (Read object) = codes "read " ++ object_text object
-does_text Commit = codes "commit"
-does_text Abort = codes "abort"
-does_text Push = codes "push"
-does_text Flush = codes "flush"
-does_text Refresh = codes "refresh"
-does_text (Again centre number) = codes "again " ++ (decimal centre ++ 32 ∷ decimal number)
-does_text (Arm fault) = fault_text fault
-
--- what the operator does, in words
-abbrev pub operator_text : OperatorStep → List ℕ
-operator_text (Down centre) = codes "down " ++ decimal centre
-operator_text (Up centre) = codes "up " ++ decimal centre
-operator_text (ShipOne from to seq) = codes "ship " ++ (decimal from ++ 32 ∷ (decimal to ++ 32 ∷ decimal seq))
-operator_text (Ship from to) = codes "ship " ++ (decimal from ++ 32 ∷ decimal to)
-operator_text (Tell from to) = codes "tell " ++ (decimal from ++ 32 ∷ decimal to)
-operator_text Settle = codes "settle"
-
--- the line of a step: the client and what it does, or what the operator does
-abbrev pub spelling : Step → List ℕ
-spelling (Client client step) = codes "c" ++ (decimal client ++ 32 ∷ does_text step)
-spelling (Operator step) = operator_text step
 
 -- no further from 0 than a delta may be
 abbrev pub IsDelta : ℤ → Type 0

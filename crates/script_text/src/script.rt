@@ -1,10 +1,5 @@
-// Scripts, and why an input is none.
-ghost use Rattle.std.specs.Prelude.{◌≡◌};
-ghost use Rattle.script_text.specs.declared.script.ScriptFault.TheVariants.{NoMemory as no_memory};
-
+// Scripts.
 use crate::steps::Sections;
-use std::alloc::AllocError;
-use thiserror::Error;
 
 /// How many objects a client's cache holds where no line says it.
 pub const DEFAULT_CACHE: u32 = 1_024;
@@ -34,23 +29,4 @@ pub struct Script {
     /// How many transactions a centre stamps at most, from 1 to 1,000,000.
     pub limit: u64,
     pub sections: Sections,
-}
-
-/// Why an input was not taken.
-#[derive(Clone, Copy, Debug, Error)]
-pub enum ScriptFault {
-    /// It is no script.
-    #[error("the input is no script")]
-    Refused,
-    /// There is no memory for its steps.
-    #[error("memory ran out")]
-    NoMemory,
-}
-
-impl From<AllocError> for ScriptFault {
-    ghost from_gives = { λ _ e. e ≡ no_memory };
-
-    fn from(_: AllocError) -> Self {
-        ScriptFault::NoMemory
-    }
 }

@@ -1,40 +1,39 @@
 -- What is owed for what is given, and how a run ends.
 use Rattle.std.proofs.Common.{◌≡◌, ◌≢◌, ◌⊎◌, inl, inr, ◌↔◌, Bool, true, false, IsTrue, ◌++◌, ℕ, List, [], Option, Some, None, IfSome, IsSomeAnd, refl, sym, ap, ◌∙◌, subst, arith}
-use Rattle.std.specs.Prelude.{◌≤◌, All, length}
+use Rattle.std.specs.Prelude.{Ok, Err}
 use Rattle.std.proofs.lemmas.List.{append-nil}
-use Rattle.ids_core.specs.declared.limits.TheConstants.{MOST_CACHED, MOST_RECORDS}
 use Rattle.io_edge.specs.Streams.{TookFront, puts_back, puts_behind}
-use Rattle.script_text.specs.declared.script.Script.{Script}
 use Rattle.script_text.specs.Limits.{PassesLimits}
-use Rattle.script_text.specs.Scripts.{IsScript, header_of}
-use Rattle.script_text.specs.declared.limits.TheConstants.{MAX_LINES}
-use Rattle.script_text.specs.Steps.{IsCount, IsHeader}
-use Rattle.script_text.specs.Rows.{IsLine}
-use Rattle.script_text.proofs.LongTexts.{passes_more}
+use Rattle.script_reader.specs.declared.fault.Cause.{Cause}
+use Rattle.script_reader.specs.declared.fault.ScriptFault.TheVariants.{Refused as RefusedAt}
+use Rattle.script_reader.specs.declared.reading.ReadScript.{ReadScript}
+use Rattle.script_reader.specs.Ranges.{IsInRange as IsReadInRange}
+use Rattle.script_reader.specs.Scripts.{script_read}
+use Rattle.script_reader.proofs.CutOff.{cut_off, past_is_none}
 use Rattle.run_book.specs.Setups.{setup_of}
 use Rattle.run_book.proofs.Causal.Theorem.{causal}
 use Rattle.print_text.specs.Text.{text_of}
 use Rattle.world_core.specs.Runs.{IsInRange, IsRunOf}
 use Rattle.top_call.specs.declared.engine.Owed.{Owed}
 use Rattle.top_call.specs.declared.top.Ended.{Ended}
-use Rattle.top_call.specs.Runs.{Given, IsCausalRun, IsNoScript, IsOwed, Played, Refused, Misused, IsPlayable, IsPlayed, IsSomeScript, IsStatus, EndsSo, Wrote, empty_book, given_script, serial_words}
+use Rattle.top_call.specs.Runs.{Given, IsCausalRun, IsRefusedAt, IsOwed, Played, Refused, Misused, IsPlayable, IsPlayed, IsSomeScript, IsStatus, EndsSo, Wrote, empty_book, given_script, serial_words}
 
 -- a script that was read has its numbers in range
-pub in_range : (script : Script) → IsHeader (header_of script) → IsCount MOST_CACHED script.cache → IsCount MOST_RECORDS script.limit → All (IsLine (header_of script)) script.sections → length script.sections ≤ MAX_LINES → IsInRange script
-in_range script header cache limit lines few = record { header = header; cache = cache; limit = limit; lines = lines; few = few }
+pub in_range : (read : ReadScript) → IsReadInRange read → IsInRange read.script
+in_range read is = record { header = is.header; cache = is.cache; limit = is.limit; lines = is.lines; few = is.few }
 
 -- what is owed for a script is a run of its steps
-pub run_plays : (bytes : List ℕ) (script : Script) (owed : Owed) → IsScript bytes script → owed.status ≡ 0 → IsRunOf script owed.book → owed.text.items ≡ text_of owed.book.logs → IsPlayed (given_script (Some bytes)) owed
-run_plays bytes script owed spelled status run text = record {
+pub run_plays : (bytes : List ℕ) (read : ReadScript) (owed : Owed) → script_read bytes ≡ Ok read → owed.status ≡ 0 → IsRunOf read.script owed.book → owed.text.items ≡ text_of owed.book.logs → IsPlayed (given_script (Some bytes)) owed
+run_plays bytes read owed spelled status run text = record {
   form = refl;
   status = status;
   run = record {
     bytes = bytes;
     input = refl;
-    script = script;
+    read = read;
     spelled = spelled;
     run = run;
-    causal = causal owed.book (setup_of script) run.fits;
+    causal = causal owed.book (setup_of read.script) run.fits;
   };
   text = text;
 }
@@ -51,11 +50,20 @@ all_read : (bytes : List ℕ) (new : Option (List ℕ)) → IfSome new (λ rest.
 all_read bytes None whole = tt
 all_read bytes (Some rest) none = ap (λ l. bytes ++ l) none ∙ append-nil bytes
 
--- all that a source had left is no script where the bytes that were read are none
-none_left : (bytes : List ℕ) (past : Bool) (new : Option (List ℕ)) → IsNoScript bytes → (IsTrue past ↔ PassesLimits bytes) → (past ≡ false → IfSome new (λ rest. rest ≡ [])) → IfSome (puts_back bytes new) IsNoScript
-none_left bytes past None none limits whole = tt
-none_left bytes true (Some rest) none limits whole = λ script all. all.limits (passes_more bytes rest (limits.0 refl))
-none_left bytes false (Some rest) none limits whole = subst IsNoScript (sym (ap (λ l. bytes ++ l) (whole refl) ∙ append-nil bytes)) none
+-- all that a source had left, where it tells what is left behind the bytes that were read
+abbrev all_left : List ℕ → Option (List ℕ) → List ℕ
+all_left bytes None = bytes
+all_left bytes (Some rest) = bytes ++ rest
+
+tells_all : (bytes : List ℕ) (new : Option (List ℕ)) → IfSome (puts_back bytes new) (λ all. all ≡ all_left bytes new)
+tells_all bytes None = tt
+tells_all bytes (Some rest) = refl
+
+-- all that a source had left is refused as the bytes that were read are
+refused_left : (bytes : List ℕ) (past : Bool) (new : Option (List ℕ)) (line : ℕ) (cause : Cause) → script_read bytes ≡ Err (RefusedAt line cause) → (IsTrue past ↔ PassesLimits bytes) → (past ≡ false → IfSome new (λ rest. rest ≡ [])) → script_read (all_left bytes new) ≡ Err (RefusedAt line cause)
+refused_left bytes past None line cause fault limits whole = fault
+refused_left bytes true (Some rest) line cause fault limits whole = cut_off bytes rest (limits.0 refl) ∙ fault
+refused_left bytes false (Some rest) line cause fault limits whole = ap script_read (ap (λ l. bytes ++ l) (whole refl) ∙ append-nil bytes) ∙ fault
 
 -- what is owed for the bytes that were read is owed for what the source had left
 pub owed_left : (old new : Option (List ℕ)) (bytes : List ℕ) (past : Bool) (owed : Owed) → old ≡ puts_back bytes new → (IsTrue past ↔ PassesLimits bytes) → (past ≡ false → IfSome new (λ rest. rest ≡ [])) → IsOwed (given_script (Some bytes)) owed → IsOwed (given_script old) owed
@@ -65,7 +73,7 @@ owed_left old new bytes past owed parts limits whole (Played p) = Played (record
   run = record {
     bytes = bytes;
     input = subst (λ left. IfSome left (λ all. all ≡ bytes)) (sym parts) (all_read bytes new (whole_of bytes past new within limits whole));
-    script = p.run.script;
+    read = p.run.read;
     spelled = spelled;
     run = p.run.run;
     causal = p.run.causal;
@@ -73,15 +81,21 @@ owed_left old new bytes past owed parts limits whole (Played p) = Played (record
   text = p.text;
 })
   where
-    spelled : IsScript bytes p.run.script
-    spelled = subst (λ all. IsScript all p.run.script) (sym p.run.input) p.run.spelled
+    spelled : script_read bytes ≡ Ok p.run.read
+    spelled = ap script_read p.run.input ∙ p.run.spelled
 
     within : PassesLimits bytes → ⊥
-    within = spelled.limits
+    within past = past_is_none bytes p.run.read past spelled
 owed_left old new bytes past owed parts limits whole (Refused r) = Refused (record {
   form = refl;
   status = r.status;
-  input = subst (λ left. IfSome left IsNoScript) (sym parts) (none_left bytes past new r.input limits whole);
+  line = r.line;
+  cause = r.cause;
+  refused = record {
+    bytes = all_left bytes new;
+    input = subst (λ left. IfSome left (λ all. all ≡ all_left bytes new)) (sym parts) (tells_all bytes new);
+    fault = refused_left bytes past new r.line r.cause (ap script_read r.refused.input ∙ r.refused.fault) limits whole;
+  };
   text = r.text;
   book = r.book;
 })
@@ -89,14 +103,14 @@ owed_left old new bytes past owed parts limits whole (Misused u) = absurd (u.for
 
 -- where the bytes that were read are played, nothing is left
 pub end_met : (new : Option (List ℕ)) (bytes : List ℕ) (past : Bool) (owed : Owed) → (IsTrue past ↔ PassesLimits bytes) → (past ≡ false → IfSome new (λ rest. rest ≡ [])) → IsOwed (given_script (Some bytes)) owed → owed.status ≡ 0 → IfSome new (λ rest. rest ≡ [])
-end_met new bytes past owed limits whole (Played p) zero = whole_of bytes past new (subst (λ all. PassesLimits all → ⊥) (sym p.run.input) p.run.spelled.limits) limits whole
+end_met new bytes past owed limits whole (Played p) zero = whole_of bytes past new (λ over. past_is_none bytes p.run.read over (ap script_read p.run.input ∙ p.run.spelled)) limits whole
 end_met new bytes past owed limits whole (Refused r) zero = absurd (omega (arith, zero, r.status))
 end_met new bytes past owed limits whole (Misused u) zero = absurd (omega (arith, zero, u.status))
 
 -- what is owed for a script is owed for the words that play it, whatever the sink has
 pub owed_given : (given : Given) (owed : Owed) → given.words ≡ serial_words → IsOwed (given_script given.left) owed → IsOwed given owed
 owed_given given owed form (Played p) = Played (record { form = form; status = p.status; run = p.run; text = p.text })
-owed_given given owed form (Refused r) = Refused (record { form = form; status = r.status; input = r.input; text = r.text; book = r.book })
+owed_given given owed form (Refused r) = Refused (record { form = form; status = r.status; line = r.line; cause = r.cause; refused = r.refused; text = r.text; book = r.book })
 owed_given given owed form (Misused u) = absurd (u.form refl)
 
 -- ---- the ends
@@ -161,10 +175,10 @@ owed_status given owed (Played p) = (λ four. omega (arith, four, p.status), λ 
 owed_status given owed (Refused r) = (λ four. omega (arith, four, r.status), λ five. omega (arith, five, r.status))
 owed_status given owed (Misused u) = (λ four. omega (arith, four, u.status), λ five. omega (arith, five, u.status))
 
--- what a source tells is not both a script and none
-not_both : (left : Option (List ℕ)) → IsSomeAnd left IsSomeScript → IfSome left IsNoScript → ⊥
-not_both None some none = some
-not_both (Some bytes) (script, spelled) none = none script spelled
+-- what a source tells is not both a script and refused
+not_both : (left : Option (List ℕ)) (line : ℕ) (cause : Cause) → IsSomeAnd left IsSomeScript → IsRefusedAt left line cause → ⊥
+not_both None line cause some refused = some
+not_both (Some bytes) line cause (read, spelled) refused = absurd (let both : Ok read ≡ Err (RefusedAt line cause) = sym spelled ∙ (ap script_read refused.input ∙ refused.fault) in cc)
 
 -- a script is played, where no read and no write failed and memory sufficed
 pub ends_complete : (given : Given) (ended : Ended) (taken : Option (List ℕ)) → IsPlayable given → ended.status ≢ 4 → ended.status ≢ 5 → EndsSo given ended taken → (ended.status ≡ 0) ⊎ (ended.status ≡ 6)
@@ -173,7 +187,7 @@ ends_complete given ended taken playable no_read no_write ends = by_status ends.
     by_status : IsStatus ended.status → (ended.status ≡ 0) ⊎ (ended.status ≡ 6)
     by_status (inl zero) = inl zero
     by_status (inr (inl two)) = absurd ((ends.misused two).kind.form playable.form)
-    by_status (inr (inr (inl three))) = absurd (not_both given.left playable.script (ends.refused three).kind.input)
+    by_status (inr (inr (inl three))) = (let kind = (ends.refused three).kind in absurd (not_both given.left kind.line kind.cause playable.script kind.refused))
     by_status (inr (inr (inr (inl four)))) = absurd (no_read four)
     by_status (inr (inr (inr (inr (inl five))))) = absurd (no_write five)
     by_status (inr (inr (inr (inr (inr six))))) = inr six

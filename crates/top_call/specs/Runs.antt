@@ -1,10 +1,13 @@
 -- What a run is given, what it owes, and how it ends.
-use Rattle.std.specs.Prelude.{◌≡◌, ◌≢◌, ◌⊎◌, ℕ, List, [], ◌∷◌, Option, None, IfSome, IsSomeAnd, String, map, codes}
+use Rattle.std.specs.Prelude.{◌≡◌, ◌≢◌, ◌⊎◌, ℕ, List, [], ◌∷◌, ◌++◌, Option, None, Ok, Err, IfSome, IsSomeAnd, String, map, codes, decimal}
 use Rattle.std.specs.Global.{Global}
 use Rattle.std.specs.String.{string_bytes}
 use Rattle.io_edge.specs.Streams.{TookFront, puts_behind}
-use Rattle.script_text.specs.declared.script.Script.{Script}
-use Rattle.script_text.specs.Scripts.{IsScript}
+use Rattle.script_reader.specs.declared.fault.Cause.{Cause}
+use Rattle.script_reader.specs.declared.fault.ScriptFault.TheVariants.{Refused as RefusedAt}
+use Rattle.script_reader.specs.declared.reading.ReadScript.{ReadScript}
+use Rattle.script_reader.specs.Causes.{cause_text}
+use Rattle.script_reader.specs.Scripts.{script_read}
 use Rattle.run_book.specs.declared.book.Book.{Book}
 use Rattle.run_book.specs.Setups.{setup_of}
 use Rattle.run_book.specs.Causal.{IsCausal}
@@ -35,9 +38,9 @@ serial_words = codes "serial" ∷ []
 abbrev pub usage_text : List ℕ
 usage_text = codes "usage: swift_sim run|serial [--trail] or make|load NUM\n"
 
--- the line for an input that is no script
-abbrev pub refusal_text : List ℕ
-refusal_text = codes "refused input\n"
+-- the line for an input that is no script: the number of the first line at fault, and the cause
+abbrev pub refusal_text : ℕ → Cause → List ℕ
+refusal_text line cause = codes "refused line " ++ decimal line ++ codes " " ++ cause_text cause ++ codes "\n"
 
 -- the book of no run
 abbrev pub empty_book : Book
@@ -45,21 +48,24 @@ empty_book = record { n = 1; k = 1; trails = []; logs = [] }
 
 -- the bytes are a script
 abbrev pub IsSomeScript : List ℕ → Type 0
-IsSomeScript bytes = (script : Script) × IsScript bytes script
-
--- the bytes are no script
-abbrev pub IsNoScript : List ℕ → Type 0
-IsNoScript bytes = (script : Script) → IsScript bytes script → ⊥
+IsSomeScript bytes = (read : ReadScript) × (script_read bytes ≡ Ok read)
 
 -- all that a source had left, as far as it tells that, are bytes that are a script, and the book is one
 -- of a run of this script and causal
 pub record IsCausalRun (left : Option (List ℕ)) (book : Book) : Type 0 where
   pub bytes : List ℕ
   pub input : IfSome left (λ all. all ≡ bytes)
-  pub script : Script
-  pub spelled : IsScript bytes script
-  pub run : IsRunOf script book
-  pub causal : IsCausal book (setup_of script)
+  pub read : ReadScript
+  pub spelled : script_read bytes ≡ Ok read
+  pub run : IsRunOf read.script book
+  pub causal : IsCausal book (setup_of read.script)
+
+-- all that a source had left, as far as it tells that, are bytes that are no script: the first line at fault has this
+-- number, and this is why it is refused
+pub record IsRefusedAt (left : Option (List ℕ)) (line : ℕ) (cause : Cause) : Type 0 where
+  pub bytes : List ℕ
+  pub input : IfSome left (λ all. all ≡ bytes)
+  pub fault : script_read bytes ≡ Err (RefusedAt line cause)
 
 -- ---- what is owed: a status, a text and a book
 
@@ -70,12 +76,14 @@ pub record IsPlayed (given : Given) (owed : Owed) : Type 0 where
   pub run : IsCausalRun given.left owed.book
   pub text : owed.text.items ≡ text_of owed.book.logs
 
--- what is owed for an input that is no script: status 3, and the line that says so
+-- what is owed for an input that is no script: status 3, and the line that names the line at fault and the cause
 pub record IsRefusal (given : Given) (owed : Owed) : Type 0 where
   pub form : given.words ≡ serial_words
   pub status : owed.status ≡ 3
-  pub input : IfSome given.left IsNoScript
-  pub text : owed.text.items ≡ refusal_text
+  pub line : ℕ
+  pub cause : Cause
+  pub refused : IsRefusedAt given.left line cause
+  pub text : owed.text.items ≡ refusal_text line cause
   pub book : owed.book ≡ empty_book
 
 -- what is owed for words of no form: status 2, and the line of usage

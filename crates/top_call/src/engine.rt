@@ -1,14 +1,15 @@
 // From an input to a status, a text and a book.
-ghost use Rattle.std.specs.Prelude.{◌≡◌, ◌↔◌, IsTrue, IfOk};
-ghost use Rattle.script_text.specs.Limits.{PassesLimits};
+ghost use Rattle.std.specs.Prelude.{◌≡◌, Some, IfOk};
 ghost use Rattle.print_text.specs.Text.{text_of};
 ghost use Rattle.world_core.specs.Runs.{IsInRange, IsRunOf};
 ghost use Rattle.top_call.specs.Runs.{IsOwed, empty_book, given_script, refusal_text};
 
+use crate::refusal::refusal_line;
 use ids_core::NoMemory;
 use print_text::text_of;
 use run_book::Book;
-use script_text::{Input, Script, ScriptFault, parse};
+use script_reader::{Cause, ScriptFault, parse};
+use script_text::Script;
 use std::alloc::Global;
 use world_core::serial;
 
@@ -20,15 +21,15 @@ pub struct Owed {
     pub book: Book,
 }
 
-// What is owed for an input that is no script.
-fn refusal(alloc: Global) -> Result<Owed, NoMemory>
+// What is owed for an input that is no script, of which this is the first line at fault.
+fn refusal(alloc: Global, line: u32, cause: Cause) -> Result<Owed, NoMemory>
     ensures status { IfOk result (λ owed. owed.status ≡ 3) }
-    ensures text { IfOk result (λ owed. owed.text.items ≡ refusal_text) }
+    ensures text { IfOk result (λ owed. owed.text.items ≡ refusal_text line cause) }
     ensures book { IfOk result (λ owed. owed.book ≡ empty_book) }
 {
     Ok(Owed {
         status: 3,
-        text: Vec::from_slice(alloc, b"refused input\n")?,
+        text: refusal_line(alloc, line, cause)?,
         book: Book::new(alloc, 1, 1),
     })
 }
@@ -50,17 +51,17 @@ fn script_run(alloc: Global, script: &Script) -> Result<Owed, NoMemory>
 }
 
 /// What is owed for an input: a script is played, and other bytes are refused.
-pub fn owed_for(alloc: Global, input: &Input) -> Result<Owed, NoMemory>
-    requires { IsTrue input.now.past_limits ↔ PassesLimits input.now.bytes.items }
-    ensures { IfOk result (IsOwed (given_script (Some input.now.bytes.items))) }
+#[tactic(auto, using(crate::proofs::Owing::in_range))]
+pub fn owed_for(alloc: Global, bytes: &[u8]) -> Result<Owed, NoMemory>
+    ensures { IfOk result (IsOwed (given_script (Some bytes.now))) }
 {
-    match parse(alloc, input) {
-        Ok(script) => {
-            let owed = script_run(alloc, &script)?;
+    match parse(alloc, bytes) {
+        Ok(read) => {
+            let owed = script_run(alloc, &read.script)?;
             Ok(owed)
         }
-        Err(ScriptFault::Refused) => {
-            let owed = refusal(alloc)?;
+        Err(ScriptFault::Refused { line, cause }) => {
+            let owed = refusal(alloc, line, cause)?;
             Ok(owed)
         }
         Err(ScriptFault::NoMemory) => Err(NoMemory),

@@ -2,6 +2,7 @@
 #![tactic(auto)]
 
 mod engine;
+mod refusal;
 mod stream;
 mod top;
 

@@ -6,11 +6,19 @@ ghost use Rattle.top_call.specs.declared.stream.ReadFault.TheVariants.{NoMemory,
 
 use ids_core::NoMemory as OutOfMemory;
 use io_edge::{Failed, Sink, Source, WriteFault};
-use script_text::{Input, LineCount};
+use script_text::LineCount;
 use std::alloc::{AllocError, Global};
 
 /// The most bytes that one read takes.
 pub const PIECE: usize = 4096;
+
+/// The bytes that were read of an input.
+#[derive(Drop)]
+pub struct Input {
+    pub bytes: Vec<u8>,
+    /// Whether the bytes pass the limits of a script. Then more may be left of the input.
+    pub past_limits: bool,
+}
 
 /// Why an input was not read.
 #[derive(Clone, Copy)]

@@ -60,7 +60,7 @@ fn owed_of<S: Source>(alloc: Global, source: &mut S) -> Result<Owed, ReadFault>
     ensures quiet { result ≢ Err ReadFault.Failed → S.faults source.new ≡ S.faults source.old }
 {
     let input = read_input(alloc, source)?;
-    let owed = owed_for(alloc, &input)?;
+    let owed = owed_for(alloc, &input.bytes)?;
     Ok(owed)
 }
 
@@ -142,7 +142,7 @@ pub fn swift_main<S: Source, W: Sink, G: Gate>(
     // centres, and the value is that of the object over the set and the open updates.
     ensures causal { result.status ≡ 0 → IsCausalRun (S.left source.old) result.book }
 
-    // 2: words of no form. 3: an input that is no script.
+    // 2: words of no form. 3: an input that is no script; the text names the first line at fault and the cause.
     ensures words { result.status ≡ 2 → Wrote IsUsage (given_by words.now (S.left source.old) (W.taken sink.old)) result (W.taken sink.new) }
     ensures refused { result.status ≡ 3 → Wrote IsRefusal (given_by words.now (S.left source.old) (W.taken sink.old)) result (W.taken sink.new) }
 

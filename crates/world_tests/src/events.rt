@@ -6,7 +6,8 @@ use crate::dice::{Dice, Order, Plan};
 use crate::scripts::SCRIPTS;
 use ids_core::NoMemory;
 use run_book::Book;
-use script_text::{ClientStep, Input, Script, Step, parse};
+use script_reader::parse;
+use script_text::{ClientStep, Script, Step};
 use std::alloc::Global;
 use std::process::Abort;
 use std::test::Fail;
@@ -210,7 +211,7 @@ fn the_books_of_two_hundred_lists_of_events_fit(rt: HostRuntime) -> Result<(), F
         sizes: (0, 0),
     };
     for text in SCRIPTS {
-        let script = parse(rt.alloc(), &Input::of(text.to_vec(rt.alloc())?))?;
+        let script = parse(rt.alloc(), text)?.script;
         for seed in 1..51 {
             look_at(&rt, rt.alloc(), &script, seed, &mut tally)?;
         }

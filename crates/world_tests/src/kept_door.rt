@@ -16,7 +16,8 @@ use dc_host::{KeptDoor, centres_of};
 use dc_talk::Log;
 use ids_core::NoMemory;
 use print_text::write_deed;
-use script_text::{ClientStep, Input, OperatorStep, Script, Section, Step, parse};
+use script_reader::parse;
+use script_text::{ClientStep, OperatorStep, Script, Section, Step};
 use std::alloc::Global;
 use std::process::Abort;
 use std::test::Fail;
@@ -157,7 +158,7 @@ fn take_lines(
 
 // The text of a script whose lines are taken in their order over one door.
 fn told(rt: &impl Abort, alloc: Global, text: &[u8]) -> Result<Vec<u8>, Fail> {
-    let script = parse(alloc, &Input::of(text.to_vec(alloc)?))?;
+    let script = parse(alloc, text)?.script;
     let centres = centres_of(alloc, script.n, script.k, script.limit)?;
     let mut door = KeptDoor::new(centres, 1);
     let mut desk = Desk {

@@ -1,6 +1,6 @@
 // A world that was refused memory in the midst of an event. Run it with each allocation failing in turn: where none
 // fails, it looks at the book alone.
-use script_text::{Input, parse};
+use script_reader::parse;
 use std::process::Abort;
 use std::test::Fail;
 use world_core::{Event, World};
@@ -20,7 +20,7 @@ c1 read s.a
 #[test]
 fn a_spent_world_plays_no_more_and_gives_no_book(rt: HostRuntime) -> Result<(), Fail> {
     let alloc = rt.alloc();
-    let script = parse(alloc, &Input::of(SCRIPT.to_vec(alloc)?))?;
+    let script = parse(alloc, SCRIPT)?.script;
     let mut world = World::new(alloc, &script)?;
     for section in 1..8 {
         let (client, step) = (1, 1);

@@ -6,7 +6,7 @@ use hist_lock::{Entry, Trail};
 use ids_core::{Dot, NoMemory};
 use run_book::Book;
 use samples::{counter, inc_tx, pair};
-use script_text::{Input, parse};
+use script_reader::parse;
 use std::alloc::Global;
 use std::test::Fail;
 use tx_core::Record;
@@ -189,7 +189,7 @@ fn spoilt(alloc: Global, book: &Book, change: Change) -> Result<Book, Fail> {
 #[test]
 fn each_change_of_a_book_is_found(rt: HostRuntime) -> Result<(), Fail> {
     let alloc = rt.alloc();
-    let script = parse(alloc, &Input::of(SCRIPT.to_vec(alloc)?))?;
+    let script = parse(alloc, SCRIPT)?.script;
     let book = serial(alloc, &script)?;
     for (change, want) in [
         (Change::Nothing, Verdict::Fits),
