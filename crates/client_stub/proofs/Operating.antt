@@ -1,18 +1,21 @@
 -- The steps of the operator: asks, and the line behind them.
-use Rattle.std.proofs.Common.{◌≡◌, ℕ, ◌-◌, List, ◌++◌, Option, Some, refl, ap}
-use Rattle.dc_talk.specs.declared.ask.Ask.TheVariants.{Send}
+use Rattle.std.proofs.Common.{◌≡◌, ℕ, ◌-◌, List, [], ◌∷◌, ◌++◌, Option, Some, refl, ap}
+use Rattle.dc_talk.specs.declared.ask.Ask.TheVariants.{Send, Prune as PruneAsk}
+use Rattle.dc_talk.specs.declared.say.Say.{Say}
+use Rattle.dc_talk.specs.declared.log.Fate.TheVariants.{Unheard}
 use Rattle.dc_talk.specs.declared.line.Line.{Line}
 use Rattle.dc_talk.specs.declared.line.ShipEnd.{ShipEnd}
 use Rattle.dc_talk.specs.declared.line.ShipEnd.TheVariants.{Absent}
 use Rattle.dc_talk.specs.declared.log.Deed.{Deed}
+use Rattle.dc_talk.specs.declared.log.Deed.TheVariants.{Asked}
 use Rattle.dc_talk.specs.Logs.{Logged}
 use Rattle.dc_talk.specs.Acting.{Acting, acting, noted_all}
 use Rattle.script_text.specs.declared.steps.OperatorStep.{OperatorStep}
-use Rattle.script_text.specs.declared.steps.OperatorStep.TheVariants.{ShipOne, Ship, Tell}
+use Rattle.script_text.specs.declared.steps.OperatorStep.TheVariants.{ShipOne, Ship, Tell, Prune}
 use Rattle.script_text.specs.Deeds.{told}
-use Rattle.script_text.specs.Orders.{OperatorDeeds}
+use Rattle.script_text.specs.Orders.{base_line, OperatorDeeds}
 use Rattle.script_text.specs.Carrying.{route, ship_line, Sends, Ships, Tells}
-use Rattle.dc_worker.specs.Work.{CarriesSuch}
+use Rattle.dc_worker.specs.Work.{Adds, CarriesSuch}
 use Rattle.client_stub.specs.Playing.{Operates}
 use Rattle.client_stub.proofs.Growth.{leaves_told}
 
@@ -41,3 +44,11 @@ pub tells_one : (n from to : ℕ) (a b : Acting) (later : Logged) (line : Option
 tells_one n from to a b later line tells told_it =
     operates_told (λ deeds. Tells (route from to) deeds line) n (Tell from to) a b later line
     (λ asks tells. record { asks = asks; line = line; tells = tells; whole = refl }) tells told_it
+
+-- a prune
+pub prunes_one : (n centre : ℕ) (a b : Acting) (later : Logged) (answer : Say) (line : Option Line) → Adds a b (Asked centre PruneAsk (Unheard answer) ∷ []) → line ≡ base_line centre answer → later ≡ noted_all b.log (told line) → Operates n (Prune centre) a (acting b.door later)
+prunes_one n centre a b later answer line adds is told_it = record {
+  deeds = (Asked centre PruneAsk (Unheard answer) ∷ []) ++ told line;
+  such = record { answer = answer; whole = ap (λ line. Asked centre PruneAsk (Unheard answer) ∷ told line) is };
+  leaves = leaves_told a b later (Asked centre PruneAsk (Unheard answer) ∷ []) line adds.leaves told_it;
+}

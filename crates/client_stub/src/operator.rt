@@ -1,6 +1,6 @@
 // The steps of the operator.
 ghost use Rattle.std.specs.Prelude.{◌≡◌, ◌≢◌, ◌≤◌, ℕ, OnOk, OnErr};
-ghost use Rattle.script_text.specs.declared.steps.OperatorStep.TheVariants.{ShipOne, Ship, Tell};
+ghost use Rattle.script_text.specs.declared.steps.OperatorStep.TheVariants.{ShipOne, Ship, Tell, Prune};
 ghost use Rattle.script_text.specs.Steps.{IsOperatorStep};
 ghost use Rattle.dc_talk.specs.Acting.{IsCutShort, acting};
 ghost use Rattle.dc_talk.specs.Doors.{IsBehind};
@@ -8,7 +8,7 @@ ghost use Rattle.client_stub.specs.Playing.{Operates};
 
 use crate::notes;
 use dc_talk::{Ask, Door, Log};
-use dc_worker::{ask_only, settle, ship_all, ship_line, ship_one, tell};
+use dc_worker::{ask_only, ask_unheard, base_line, settle, ship_all, ship_line, ship_one, tell};
 use ids_core::NoMemory;
 use script_text::OperatorStep;
 
@@ -33,6 +33,7 @@ pub fn operate<D: Door>(
         OperatorStep::ShipOne { from, to, seq } => order_ship_one(door, *from, *to, *seq, log),
         OperatorStep::Ship { from, to } => order_ship(door, *from, *to, log),
         OperatorStep::Tell { from, to } => order_tell(door, *from, *to, log),
+        OperatorStep::Prune { centre } => order_prune(door, *centre, log),
         OperatorStep::Settle => {
             settle(door, n, log)?;
             Ok(())
@@ -86,5 +87,17 @@ fn order_tell<D: Door>(door: &mut D, from: u8, to: u8, log: &mut Log) -> Result<
 {
     let line = tell(door, from, to, log)?;
     notes::tell(log, line)?;
+    Ok(())
+}
+
+// The step `prune`.
+fn order_prune<D: Door>(door: &mut D, centre: u8, log: &mut Log) -> Result<(), NoMemory>
+    requires { IsBehind (D.shown door.old) centre }
+    ensures place { D.place door.new ≡ D.place door.old }
+    ensures operates { OnOk result ((n : ℕ) → Operates n (Prune centre) (acting (D.shown door.old) log.old) (acting (D.shown door.new) log.new)) }
+    ensures short { OnErr result (IsCutShort (acting (D.shown door.old) log.old) (acting (D.shown door.new) log.new)) }
+{
+    let say = ask_unheard(door, centre, Ask::Prune, log)?;
+    notes::tell(log, base_line(centre, &say))?;
     Ok(())
 }

@@ -262,4 +262,16 @@ pub enum Line {
         from: u8,
         to: u8,
     },
+    /// The centre pruned: it keeps states from this vector on, within which so many transactions are, and its own
+    /// records from behind this number on.
+    Based {
+        centre: u8,
+        vector: Vector,
+        folded: u64,
+        trimmed: u64,
+    },
+    /// The centre was not pruned: it is stopped.
+    BaseDown {
+        centre: u8,
+    },
 }

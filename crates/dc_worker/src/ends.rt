@@ -2,6 +2,7 @@
 ghost use Rattle.std.specs.Prelude.{◌≡◌};
 ghost use Rattle.tx_core.specs.declared.tx.Record.{Record};
 ghost use Rattle.script_text.specs.Carrying.{route, stopped_end, send_end, delivery_end, is_there, ship_line, tell_line};
+ghost use Rattle.script_text.specs.Orders.{base_line};
 
 use dc_talk::{Line, Say, ShipEnd};
 use vv_core::Lack;
@@ -66,6 +67,26 @@ pub fn ship_line(from: u8, to: u8, end: Option<ShipEnd>) -> Option<Line>
     match end {
         Some(end) => Some(Line::Ship { from, to, end }),
         None => None,
+    }
+}
+
+/// The line of a prune by the centre's answer, where it has one.
+pub fn base_line(centre: u8, say: &Say) -> Option<Line>
+    ensures { result ≡ base_line centre say.now }
+{
+    match say {
+        Say::Base {
+            vector,
+            folded,
+            trimmed,
+        } => Some(Line::Based {
+            centre,
+            vector: *vector,
+            folded: *folded,
+            trimmed: *trimmed,
+        }),
+        Say::Down => Some(Line::BaseDown { centre }),
+        _ => None,
     }
 }
 

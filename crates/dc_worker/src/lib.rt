@@ -14,7 +14,7 @@ mod tells;
 
 pub use asks::{ask_only, ask_unheard};
 pub use deliveries::{deliver, deliver_all};
-pub use ends::{is_there, ship_line};
+pub use ends::{base_line, is_there, ship_line};
 pub use laws::{law_carried, law_settled};
 pub use sends::{Sent, send_for};
 pub use settling::settle;

@@ -150,6 +150,17 @@ pub fn write_line(text: &mut Vec<u8>, line: &Line) -> Result<(), NoMemory>
             text.extend_from_slice(b" misfit")?;
             Ok(())
         }
+        Line::Based {
+            centre,
+            vector,
+            folded,
+            trimmed,
+        } => write_based(text, *centre, vector, *folded, *trimmed),
+        Line::BaseDown { centre } => {
+            write_number(text, u64::from(*centre))?;
+            text.extend_from_slice(b" base down")?;
+            Ok(())
+        }
     }
 }
 
@@ -246,6 +257,22 @@ fn write_sees(text: &mut Vec<u8>, client: u32, vector: &Vector, mine: u64) -> Re
     write_words(text, client, b" sees ")?;
     write_vector(text, vector)?;
     write_named(text, b" own ", mine)
+}
+
+fn write_based(
+    text: &mut Vec<u8>,
+    centre: u8,
+    vector: &Vector,
+    folded: u64,
+    trimmed: u64,
+) -> Result<(), NoMemory>
+    ensures { OnOk result (text.new.items ≡ text.old.items ++ (decimal centre ++ codes " base " ++ vector_text vector.now ++ codes " folded " ++ decimal folded ++ codes " trimmed " ++ decimal trimmed)) }
+{
+    write_number(text, u64::from(centre))?;
+    text.extend_from_slice(b" base ")?;
+    write_vector(text, vector)?;
+    write_named(text, b" folded ", folded)?;
+    write_named(text, b" trimmed ", trimmed)
 }
 
 // A client with the words and the centre behind it.

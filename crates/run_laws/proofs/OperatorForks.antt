@@ -7,7 +7,7 @@ use Rattle.std.proofs.lemmas.List.{append-nil}
 use Rattle.vv_core.specs.Vectors.{at}
 use Rattle.tx_core.specs.declared.tx.Record.{Record}
 use Rattle.dc_talk.specs.declared.ask.Ask.{Ask}
-use Rattle.dc_talk.specs.declared.ask.Ask.TheVariants.{Send, Deliver, Report, Learn, Stop, Start}
+use Rattle.dc_talk.specs.declared.ask.Ask.TheVariants.{Send, Deliver, Report, Learn, Prune as PruneAsk, Stop, Start}
 use Rattle.dc_talk.specs.declared.ask.TheConstants.{MOST_SENT}
 use Rattle.dc_talk.specs.declared.say.Say.{Say}
 use Rattle.dc_talk.specs.declared.say.Say.TheVariants.{Records, Vector}
@@ -18,10 +18,10 @@ use Rattle.dc_talk.specs.declared.line.Line.{Line}
 use Rattle.dc_talk.specs.declared.line.ShipEnd.{ShipEnd}
 use Rattle.dc_talk.specs.declared.line.ShipEnd.TheVariants.{Absent}
 use Rattle.script_text.specs.declared.steps.OperatorStep.{OperatorStep}
-use Rattle.script_text.specs.declared.steps.OperatorStep.TheVariants.{Down, Up, ShipOne, Ship, Tell, Settle}
+use Rattle.script_text.specs.declared.steps.OperatorStep.TheVariants.{Down, Up, ShipOne, Ship, Tell, Prune, Settle}
 use Rattle.script_text.specs.Deeds.{told}
 use Rattle.script_text.specs.Carrying.{Route, route, is_there, delivery_end, send_end, stopped_end, ship_line, tell_line, Delivers, AfterSend, Sends, AfterReport, Ships, AfterTold, Tells, routes, InTurn, no_turn, next_turn, Passes, is_news, Settles, last_pass, one_pass}
-use Rattle.script_text.specs.Orders.{Orders, OperatorDeeds}
+use Rattle.script_text.specs.Orders.{Orders, base_line, OperatorDeeds}
 use Rattle.run_laws.specs.Forks.{IsFork, AreOneOrFork}
 use Rattle.run_laws.proofs.Forks.{OneWith, Same, fork_as, fork_front, with_as, with_then, one_or_fork, by_unheard}
 
@@ -158,6 +158,9 @@ order_same n (Ship from to) ds es one two =
 order_same n (Tell from to) ds es one two =
     with_line ds es one.asks two.asks one.line two.line (λ line. line) one.whole two.whole
     (tells_fork (route from to) one.asks two.asks one.line two.line one.tells two.tells)
+order_same n (Prune centre) ds es one two =
+    begun centre PruneAsk one.answer two.answer ds es (told (base_line centre one.answer)) (told (base_line centre two.answer)) (Unit {0}) one.whole two.whole
+    (λ same. inl (ap (λ say. told (base_line centre say)) same, tt))
 order_same n Settle ds es one two = settles_fork n ds es one two
 
 -- the deeds of an operator's step are the same, or part at an answer

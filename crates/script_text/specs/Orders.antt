@@ -1,18 +1,33 @@
 -- What a step of the operator leaves in its log.
-use Rattle.std.specs.Prelude.{◌≡◌, ℕ, List, [], ◌∷◌}
+use Rattle.std.specs.Prelude.{◌≡◌, ℕ, List, [], ◌∷◌, Option, Some, None}
 use Rattle.dc_talk.specs.declared.ask.Ask.{Ask}
-use Rattle.dc_talk.specs.declared.ask.Ask.TheVariants.{Stop, Start}
+use Rattle.dc_talk.specs.declared.ask.Ask.TheVariants.{Prune as PruneAsk, Stop, Start}
 use Rattle.dc_talk.specs.declared.say.Say.{Say}
+use Rattle.dc_talk.specs.declared.say.Say.TheVariants as say
 use Rattle.dc_talk.specs.declared.log.Fate.TheVariants.{Unheard}
 use Rattle.dc_talk.specs.declared.log.Deed.{Deed}
 use Rattle.dc_talk.specs.declared.log.Deed.TheVariants.{Asked}
+use Rattle.dc_talk.specs.declared.line.Line.{Line}
+use Rattle.dc_talk.specs.declared.line.Line.TheVariants as line
 use Rattle.script_text.specs.declared.steps.OperatorStep.{OperatorStep}
-use Rattle.script_text.specs.declared.steps.OperatorStep.TheVariants.{Down, Up, ShipOne, Ship, Tell, Settle}
+use Rattle.script_text.specs.declared.steps.OperatorStep.TheVariants.{Down, Up, ShipOne, Ship, Tell, Prune, Settle}
+use Rattle.script_text.specs.Deeds.{told}
 use Rattle.script_text.specs.Carrying.{route, ShipsOne, ShipsAll, TellsOne, Settles}
 
 -- an ask of the operator, whose answer no session hears
 abbrev pub Orders : ℕ → Ask → List Deed → Type 0
 Orders centre ask deeds = (say : Say) × (deeds ≡ Asked centre ask (Unheard say) ∷ [])
+
+-- the line of a prune by the centre's answer; none where an answer is to an ask of another kind
+abbrev pub base_line : ℕ → Say → Option Line
+base_line centre (say.Base vector folded trimmed) = Some (line.Based centre vector folded trimmed)
+base_line centre say.Down = Some (line.BaseDown centre)
+base_line centre _ = None
+
+-- a prune
+pub record PrunesOne (centre : ℕ) (deeds : List Deed) : Type 0 where
+  pub answer : Say
+  pub whole : deeds ≡ Asked centre PruneAsk (Unheard answer) ∷ told (base_line centre answer)
 
 -- the deeds are those of the operator's step among n centres
 abbrev pub OperatorDeeds : ℕ → OperatorStep → List Deed → Type 0
@@ -21,4 +36,5 @@ OperatorDeeds n (Up centre) deeds = Orders centre Start deeds
 OperatorDeeds n (ShipOne from to seq) deeds = ShipsOne (route from to) seq deeds
 OperatorDeeds n (Ship from to) deeds = ShipsAll (route from to) deeds
 OperatorDeeds n (Tell from to) deeds = TellsOne (route from to) deeds
+OperatorDeeds n (Prune centre) deeds = PrunesOne centre deeds
 OperatorDeeds n Settle deeds = Settles n deeds

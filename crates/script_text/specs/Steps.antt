@@ -15,7 +15,7 @@ use Rattle.script_text.specs.declared.script.Header.{Header}
 use Rattle.script_text.specs.declared.steps.ClientStep.{ClientStep}
 use Rattle.script_text.specs.declared.steps.ClientStep.TheVariants.{Connect, Begin, Change, Read, Commit, Abort, Push, Flush, Refresh, Again, Arm}
 use Rattle.script_text.specs.declared.steps.OperatorStep.{OperatorStep}
-use Rattle.script_text.specs.declared.steps.OperatorStep.TheVariants.{Down, Up, ShipOne, Ship, Tell, Settle}
+use Rattle.script_text.specs.declared.steps.OperatorStep.TheVariants.{Down, Up, ShipOne, Ship, Tell, Prune, Settle}
 use Rattle.script_text.specs.declared.steps.Step.{Step}
 use Rattle.script_text.specs.declared.steps.Step.TheVariants.{Client, Operator}
 
@@ -91,6 +91,7 @@ IsOperatorStep n (Up centre) = IsCount n centre
 IsOperatorStep n (ShipOne from to seq) = IsRoute n from to × IsCount MOST_RECORDS seq
 IsOperatorStep n (Ship from to) = IsRoute n from to
 IsOperatorStep n (Tell from to) = IsRoute n from to
+IsOperatorStep n (Prune centre) = IsCount n centre
 IsOperatorStep n Settle = Unit {0}
 
 -- a step of one of the clients, or of the operator

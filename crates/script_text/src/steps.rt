@@ -56,6 +56,8 @@ pub enum OperatorStep {
     Ship { from: u8, to: u8 },
     /// Tells a centre what another one has.
     Tell { from: u8, to: u8 },
+    /// Has the centre fold what may be folded, and let go of its own records that all centres have.
+    Prune { centre: u8 },
     /// Delivers and tells between all centres until nothing is new to any that is running.
     Settle,
 }

@@ -8,7 +8,7 @@ use Rattle.list_core.proofs.Ranges.{In_from_range}
 use Rattle.vv_core.specs.Vectors.{centres}
 use Rattle.tx_core.specs.declared.tx.Record.{Record}
 use Rattle.dc_talk.specs.declared.ask.Ask.{Ask}
-use Rattle.dc_talk.specs.declared.ask.Ask.TheVariants.{Stop, Start, Report, Learn}
+use Rattle.dc_talk.specs.declared.ask.Ask.TheVariants.{Stop, Start, Report, Learn, Prune as PruneAsk}
 use Rattle.dc_talk.specs.declared.say.Say.{Say}
 use Rattle.dc_talk.specs.declared.say.Say.TheVariants.{Records, Vector}
 use Rattle.dc_talk.specs.declared.log.Fate.TheVariants.{Unheard}
@@ -18,11 +18,11 @@ use Rattle.dc_talk.specs.declared.line.ShipEnd.{ShipEnd}
 use Rattle.dc_talk.specs.declared.line.Line.{Line}
 use Rattle.dc_talk.specs.Logs.{marked}
 use Rattle.script_text.specs.declared.steps.OperatorStep.{OperatorStep}
-use Rattle.script_text.specs.declared.steps.OperatorStep.TheVariants.{Down, Up, ShipOne, Ship, Tell, Settle}
+use Rattle.script_text.specs.declared.steps.OperatorStep.TheVariants.{Down, Up, ShipOne, Ship, Tell, Prune, Settle}
 use Rattle.script_text.specs.Steps.{IsCount, IsOperatorStep}
 use Rattle.script_text.specs.Deeds.{told}
 use Rattle.script_text.specs.Carrying.{Route, route, routes, ship_line, is_there, delivery_end, Delivers, AfterSend, Sends, AfterReport, Ships, AfterTold, Tells, InTurn, no_turn, next_turn, Passes, Settles, last_pass, one_pass}
-use Rattle.script_text.specs.Orders.{OperatorDeeds}
+use Rattle.script_text.specs.Orders.{base_line, OperatorDeeds}
 use Rattle.script_text.specs.Provenance.{CarriesAll}
 use Rattle.script_text.proofs.Provenance.{carries_both, sends_carry, ships_carry, tells_carry, settles_carry}
 use Rattle.run_book.specs.Setups.{Setup}
@@ -114,6 +114,7 @@ module _ (n : ℕ) where
   order_go (ShipOne from to seq) deeds is are = line_go are.asks (ship_line (route from to) are.end) deeds are.whole (sends_go (route from to) _ _ are.asks are.end (is.0.from_there, is.0.to_there) are.sends)
   order_go (Ship from to) deeds is are = line_go are.asks (ship_line (route from to) are.end) deeds are.whole (ships_go (route from to) are.asks are.end (is.from_there, is.to_there) are.ships)
   order_go (Tell from to) deeds is are = line_go are.asks are.line deeds are.whole (tells_go (route from to) are.asks are.line (is.from_there, is.to_there) are.tells)
+  order_go (Prune centre) deeds is are = ask_go centre PruneAsk are.answer (told (base_line centre are.answer)) deeds is are.whole (told_go n (base_line centre are.answer))
   order_go Settle deeds is are = settles_go deeds are
 
 -- ---- what is carried
@@ -133,6 +134,7 @@ order_carries n (Up centre) deeds are = subst (CarriesAll []) (sym are.1) (tt, t
 order_carries n (ShipOne from to seq) deeds are = line_carries are.asks (ship_line (route from to) are.end) deeds are.whole (sends_carry [] (route from to) _ _ _ are.asks are.end are.sends)
 order_carries n (Ship from to) deeds are = line_carries are.asks (ship_line (route from to) are.end) deeds are.whole (ships_carry (route from to) are.asks are.end are.ships)
 order_carries n (Tell from to) deeds are = line_carries are.asks are.line deeds are.whole (tells_carry (route from to) are.asks are.line are.tells)
+order_carries n (Prune centre) deeds are = line_carries (Asked centre PruneAsk (Unheard are.answer) ∷ []) (base_line centre are.answer) deeds are.whole (tt, tt)
 order_carries n Settle deeds are = settles_carry n deeds are
 
 -- so the operator does it as a carrier, where the trails with it are histories
