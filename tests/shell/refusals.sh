@@ -34,7 +34,6 @@ word|c01 jump 1 2
 name|c1 put s.a K v
 place|phase
 place|end
-place|prune 1
 count|phase 1
 range|prune 2
 count|link 1

@@ -120,7 +120,7 @@ fn a_line_stands_in_its_place(rt: HostRuntime) -> Result<(), Fail> {
     assert!(rt; is_refused_of_three(alloc, b"rounds 1001", Cause::Range)?);
     assert!(rt; is_refused_of_three(alloc, b"phase", Cause::Place)?);
     assert!(rt; is_refused_of_three(alloc, b"end", Cause::Place)?);
-    assert!(rt; is_refused_of_three(alloc, b"prune 3", Cause::Place)?);
+    assert!(rt; is_refused_of_three(alloc, b"prune", Cause::Count)?);
     assert!(rt; is_refused_of_three(alloc, b"prune 4", Cause::Range)?);
     assert!(rt; is_refused_of_three(alloc, b"link 1 2 drop 1", Cause::Place)?);
     Ok(())

@@ -92,7 +92,7 @@ does_in_range h form.Up said is counted route kind = is.centre
 does_in_range h form.ShipOne said is counted route kind = (record { from_there = is.centre; to_there = route.0; apart = route.1 }, counted)
 does_in_range h form.Ship said is counted route kind = record { from_there = is.centre; to_there = route.0; apart = route.1 }
 does_in_range h form.Tell said is counted route kind = record { from_there = is.centre; to_there = route.0; apart = route.1 }
-does_in_range h form.Prune said is counted route kind = tt
+does_in_range h form.Prune said is counted route kind = is.centre
 does_in_range h form.LinkDrop said is counted route kind = tt
 does_in_range h form.LinkTwice said is counted route kind = tt
 does_in_range h form.LinkHold said is counted route kind = tt

@@ -10,7 +10,7 @@ use Rattle.script_text.specs.declared.steps.AskFault.TheVariants as fault
 use Rattle.script_text.specs.declared.steps.ClientStep.{ClientStep}
 use Rattle.script_text.specs.declared.steps.ClientStep.TheVariants.{Connect, Begin, Change, Read, Commit, Abort, Push, Flush, Refresh, Again, Arm}
 use Rattle.script_text.specs.declared.steps.OperatorStep.{OperatorStep}
-use Rattle.script_text.specs.declared.steps.OperatorStep.TheVariants.{Down, Up, ShipOne, Ship, Tell, Settle}
+use Rattle.script_text.specs.declared.steps.OperatorStep.TheVariants.{Down, Up, ShipOne, Ship, Tell, Prune, Settle}
 use Rattle.script_text.specs.declared.steps.Step.TheVariants.{Client, Operator}
 use Rattle.script_reader.specs.declared.fault.Cause.{Cause}
 use Rattle.script_reader.specs.declared.fault.Cause.TheVariants as cause
@@ -66,7 +66,7 @@ row_of form.Up said = operator_row (Up said.centre)
 row_of form.ShipOne said = operator_row (ShipOne said.centre said.other said.count)
 row_of form.Ship said = operator_row (Ship said.centre said.other)
 row_of form.Tell said = operator_row (Tell said.centre said.other)
-row_of form.Prune said = row.Later
+row_of form.Prune said = operator_row (Prune said.centre)
 row_of form.LinkDrop said = row.Later
 row_of form.LinkTwice said = row.Later
 row_of form.LinkHold said = row.Later

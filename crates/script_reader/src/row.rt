@@ -151,9 +151,11 @@ pub fn row_of(form: Form, said: &Said) -> Row
             from: said.centre,
             to: said.other,
         }),
+        Form::Prune => operator_row(OperatorStep::Prune {
+            centre: said.centre,
+        }),
         Form::Settle => operator_row(OperatorStep::Settle),
-        Form::Prune
-        | Form::LinkDrop
+        Form::LinkDrop
         | Form::LinkTwice
         | Form::LinkHold
         | Form::LinkClean

@@ -32,6 +32,8 @@ enum Answer {
     Orphan,
     Fresh,
     Stale,
+    // The base is that of two of the first centre's records, with as many transactions.
+    Based,
     Down,
     Misfit,
 }
@@ -58,6 +60,11 @@ fn said(alloc: Global, answer: Answer) -> Result<Say, Fail> {
         },
         Answer::Orphan => Say::Orphan { number: 5, have: 2 },
         Answer::Fresh => Say::Learned { fresh: true },
+        Answer::Based => Say::Base {
+            vector: pair(2, 0),
+            folded: 2,
+            trimmed: 1,
+        },
         Answer::Stale => Say::Learned { fresh: false },
         Answer::Down => Say::Down,
         Answer::Misfit => Say::Misfit,
@@ -216,6 +223,23 @@ fn a_tell_by_its_answers(rt: HostRuntime) -> Result<(), Fail> {
     ] {
         assert!(rt;
             told(alloc, &step, [Answer::Has(1), answer, Answer::Down], want)?,
+            "{want}"
+        );
+    }
+    Ok(())
+}
+
+#[test]
+fn a_prune_by_its_answer(rt: HostRuntime) -> Result<(), Fail> {
+    let alloc = rt.alloc();
+    let step = OperatorStep::Prune { centre: 2 };
+    for (answer, want) in [
+        (Answer::Based, "2 base 2,0 folded 2 trimmed 1\n"),
+        (Answer::Down, "2 base down\n"),
+        (Answer::Misfit, ""),
+    ] {
+        assert!(rt;
+            told(alloc, &step, [answer, Answer::Down, Answer::Down], want)?,
             "{want}"
         );
     }
