@@ -87,7 +87,7 @@ pub record TakesSnapshots (b : Book) (setup : Setup) : Type 0 where
 -- what is pruned is known: what a centre folded, it has, and knew K centres to have; what it let go of its own records,
 -- every centre has had; a fetch is refused for what is folded with the least centre of which the base is above its vector,
 -- and both numbers; a send that asks for what was let go is answered with the number up to which all was, and every other
--- one that fits with records, where the centre runs; and a prune is no misfit
+-- one that fits with records, where the centre runs; and a prune is answered with how far the centre then has pruned
 pub record KnowsPruned (b : Book) (setup : Setup) : Type 0 where
   pub folded : (i p : ℕ) (stamp : Stamp) → 1 ≤ i → i ≤ b.n → 1 ≤ stamp.seq → stamp.seq ≤ at (horizon_at b setup i p).base stamp.centre → WasKnownBy (centre_settings b setup i) (take p (trail_of b i)) stamp
   pub held : (i p : ℕ) → 1 ≤ i → i ≤ b.n → Covers (vector b.n (applied_at b i p)) (horizon_at b setup i p).base
@@ -95,4 +95,4 @@ pub record KnowsPruned (b : Book) (setup : Setup) : Type 0 where
   pub refused : (i : ℕ) (o : ObjectId) (here : List ℕ) (centre high low : ℕ) (entry : Entry) (stands : IsEntry b i entry) → entry.ask ≡ Fetch o here → entry.say ≡ Pruned centre high low → IsFirstLack here (horizon_at b setup i stands.place).base (record { centre = centre; need = high; have = low })
   pub sends : (i after most : ℕ) (entry : Entry) (stands : IsEntry b i entry) → entry.ask ≡ Send after most → (1 ≤ most) × (most ≤ MOST_SENT) → IsSendAnswer (horizon_at b setup i stands.place).trimmed after entry.say
   pub misfits : (i after most : ℕ) (entry : Entry) → IsEntry b i entry → entry.ask ≡ Send after most → (entry.say ≡ Misfit) ↔ ((1 ≤ most) × (most ≤ MOST_SENT) → ⊥)
-  pub prunes : (i : ℕ) (entry : Entry) → IsEntry b i entry → entry.ask ≡ Prune → IsPruneAnswer entry.say
+  pub prunes : (i : ℕ) (entry : Entry) (stands : IsEntry b i entry) → entry.ask ≡ Prune → IsPruneAnswer (horizon_at b setup i stands.place) (horizon_at b setup i (stands.place + 1)) entry.say

@@ -12,6 +12,7 @@ use Rattle.dc_talk.specs.declared.log.Deed.TheVariants.{Asked}
 use Rattle.dc_talk.specs.declared.log.Note.{Note}
 use Rattle.dc_talk.specs.Entries.{Entry}
 use Rattle.dc_talk.specs.Records.{vector, guard}
+use Rattle.dc_talk.specs.Trails.{Horizon}
 use Rattle.dc_talk.specs.Rule.{Gives}
 use Rattle.run_book.specs.declared.book.Book.{Book}
 use Rattle.run_book.specs.Setups.{Setup}
@@ -86,11 +87,12 @@ IsSendAnswer trimmed after (Trimmed from) = (after < trimmed) × (from ≡ trimm
 IsSendAnswer trimmed after Down = Unit {0}
 IsSendAnswer trimmed after _ = ⊥
 
--- the answers to a prune
-abbrev pub IsPruneAnswer : Say → Type 0
-IsPruneAnswer (Base vector folded trimmed) = Unit {0}
-IsPruneAnswer Down = Unit {0}
-IsPruneAnswer _ = ⊥
+-- the answers to a prune, of a centre that had pruned so far, and now so far: the new base, which was the mark before,
+-- and the new number up to which own records were let go; a stopped centre prunes nothing
+abbrev pub IsPruneAnswer : Horizon → Horizon → Say → Type 0
+IsPruneAnswer old new (Base vector folded trimmed) = (vector ≡ new.base) × (new.base ≡ old.mark) × (trimmed ≡ new.trimmed)
+IsPruneAnswer old new Down = new ≡ old
+IsPruneAnswer old new _ = ⊥
 
 -- a client hears the answer to a refresh, a snapshot with so many of its commits
 pub record HearsRefresh (b : Book) (setup : Setup) (x : Exchange) (number : ℕ) : Type 0 where

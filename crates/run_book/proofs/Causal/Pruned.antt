@@ -1,11 +1,11 @@
 -- What centres of a book that fits have folded and let go, and how they answer to those who ask for it.
-use Rattle.std.proofs.Common.{◌≡◌, ℕ, ◌+◌, ◌≤◌, true, false, cond, ⊎_elim, List, [], ◌∷◌, take, refl, sym, ap, ◌∙◌, subst, arith}
+use Rattle.std.proofs.Common.{◌≡◌, ℕ, suc, ◌+◌, ◌≤◌, true, false, cond, ⊎_elim, List, [], ◌∷◌, take, refl, sym, ap, ◌∙◌, subst, arith}
 use Rattle.std.specs.Prelude.{◌↔◌, ◌==◌, nat_le, map}
 use Rattle.std.proofs.lemmas.Bool.{cases_Bool, and_parts, and_from, leb-true, leb-false, le-leb, ne_eqb}
 use Rattle.list_core.specs.Members.{In}
 use Rattle.list_core.proofs.Choices.{first_of_holds, when_none, when_holds}
 use Rattle.list_core.proofs.Members.{In_map}
-use Rattle.list_core.proofs.Moments.{by_prefixes}
+use Rattle.list_core.proofs.Moments.{by_prefixes, take_one_more}
 use Rattle.list_core.proofs.Ranges.{In_range}
 use Rattle.list_core.specs.Choices.{when}
 use Rattle.ids_core.specs.declared.object.ObjectId.{ObjectId}
@@ -22,13 +22,13 @@ use Rattle.dc_talk.specs.declared.say.Say.TheVariants.{Misfit, Lacks, Pruned, Ob
 use Rattle.dc_talk.specs.declared.settings.Settings.{Settings}
 use Rattle.dc_talk.specs.Entries.{Entry}
 use Rattle.dc_talk.specs.Records.{vector}
-use Rattle.dc_talk.specs.Trails.{applied, told, rows, stable, all_known, Horizon, horizon}
+use Rattle.dc_talk.specs.Trails.{applied, told, rows, stable, all_known, Horizon, horizon, horizon_after}
 use Rattle.dc_talk.specs.Objects.{state_at}
 use Rattle.dc_talk.specs.Answers.{fits, lacking, own_after, answer}
 use Rattle.dc_talk.proofs.Answers.{lack_holds, lack_first, answer_holds, fitting, no_misfit, misfit}
 use Rattle.dc_talk.proofs.Counts.{vector_front}
 use Rattle.dc_talk.proofs.Growth.{applied_front}
-use Rattle.dc_talk.proofs.Horizons.{by_prunes, all_known_below}
+use Rattle.dc_talk.proofs.Horizons.{horizon_more, by_prunes, all_known_below}
 use Rattle.run_book.specs.Setups.{Setup, centre_settings}
 use Rattle.run_book.specs.declared.book.Book.{Book}
 use Rattle.run_book.specs.Parts.{trail_of, applied_at, horizon_at}
@@ -206,6 +206,27 @@ module _ (b : Book) (setup : Setup) (fit : FitsWith b setup) where
         P : Say → Type 0
         P say = IsSendAnswer (horizon_at b setup i stands.place).trimmed after say
 
-    -- a prune is answered with a base, or by a stopped centre
-    pub prune : entry.ask ≡ Prune → IsPruneAnswer entry.say
-    prune asks = subst IsPruneAnswer (sym (said_to Prune asks)) (answer_holds IsPruneAnswer (centre_settings b setup i) (take stands.place (trail_of b i)) Prune refl tt tt)
+    -- the next horizon of the trail is the one after the entry
+    next_horizon : horizon_at b setup i (suc stands.place) ≡ horizon_after (centre_settings b setup i) (take stands.place (trail_of b i)) (horizon_at b setup i stands.place) entry.ask entry.say
+    next_horizon = ap (horizon (centre_settings b setup i)) (take_one_more (trail_of b i) stands.place entry stands.there) ∙ horizon_more (centre_settings b setup i) (take stands.place (trail_of b i)) entry
+
+    -- a prune is answered with how far the centre then has pruned, or by a stopped centre
+    pub prune : entry.ask ≡ Prune → IsPruneAnswer (horizon_at b setup i stands.place) (horizon_at b setup i (stands.place + 1)) entry.say
+    prune asks =
+        let after : horizon_after s X h Prune entry.say ≡ horizon_at b setup i (stands.place + 1) = ap (λ ask. horizon_after s X h ask entry.say) (sym asks) ∙ (sym next_horizon ∙ ap (horizon_at b setup i) (sym one)) in
+        subst (λ new. IsPruneAnswer h new entry.say) after (subst P (sym (said_to Prune asks)) (answer_holds P s X Prune refl refl (refl, refl, refl)))
+      where
+        s : Settings
+        s = centre_settings b setup i
+
+        X : List Entry
+        X = take stands.place (trail_of b i)
+
+        h : Horizon
+        h = horizon_at b setup i stands.place
+
+        one : stands.place + 1 ≡ suc stands.place
+        one = omega arith
+
+        P : Say → Type 0
+        P say = IsPruneAnswer (horizon_at b setup i stands.place) (horizon_after (centre_settings b setup i) (take stands.place (trail_of b i)) (horizon_at b setup i stands.place) Prune say) say
