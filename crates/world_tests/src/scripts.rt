@@ -126,6 +126,8 @@ c2 push
 c3 push
 c4 push
 settle
+prune 1
+prune 2
 c1 refresh
 c2 refresh
 c3 connect 1
@@ -149,6 +151,7 @@ c2 push
 c3 abort
 c4 commit
 settle
+prune 1
 c1 push
 c2 refresh
 c3 flush
@@ -182,6 +185,7 @@ c3 push
 c4 commit
 c1 push
 settle
+prune 2
 c4 push
 c1 connect 2
 c2 again 1 1
@@ -192,6 +196,7 @@ c2 refresh
 c3 read c.a
 c4 again 2 1
 ship 2 3
+prune 2
 c1 begin
 c2 begin
 c3 begin
