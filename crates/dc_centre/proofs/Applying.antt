@@ -13,6 +13,7 @@ use Rattle.ids_core.specs.Ids.{same_dot}
 use Rattle.ids_core.specs.Same.{same_dot-true, same_dot-same}
 use Rattle.vv_core.specs.declared.stamp.Stamp.{Stamp}
 use Rattle.vv_core.specs.Vectors.{zeros, at, raised}
+use Rattle.vv_core.specs.Stamps.{is_any_within}
 use Rattle.vv_core.proofs.Entrywise.{length-zeros, is_tabulate, at-tabulate, at-zeros, raised-tabulate, same_tabulate, length-raised}
 use Rattle.dup_guard.specs.declared.guard.Last.{Last}
 use Rattle.std.proofs.lemmas.Option.{none-some}
@@ -20,13 +21,17 @@ use Rattle.list_core.proofs.Members.{In_left, In_right, In_either, filter-agree}
 use Rattle.dup_guard.specs.Notes.{last_at, number_in, stamp_in, number_of, stamp_of}
 use Rattle.tx_core.specs.declared.tx.Record.{Record}
 use Rattle.tx_core.specs.States.{empty_of, fold_of}
+use Rattle.tx_core.specs.Operations.{ops_of}
 use Rattle.dc_talk.specs.Records.{count, vector, guard, first_stamp, top, has, firsts, inside}
+use Rattle.dc_talk.specs.Dots.{dots_of, stamps_of}
+use Rattle.dc_talk.specs.Objects.{state_at}
 use Rattle.dc_talk.proofs.Counts.{count_more, guard_more}
-use Rattle.dc_talk.specs.Objects.{ops_of, state_at}
+use Rattle.dc_talk.proofs.Firsts.{firsts_more}
+use Rattle.dc_talk.proofs.Stamps.{any_inside}
 use Rattle.dc_centre.specs.declared.applied.Held.{Held}
-use Rattle.dc_centre.specs.Dots.{of_client, stamps_of, stamps_at, is_any_within, IsCentreOf}
-use Rattle.dc_centre.specs.Applied.{records_of, dots_of, IsNext, IsStamped, HasFewUpdates, is_fresh, IsGuard, IsDots, Index, IsApplied, fold_within}
-use Rattle.dc_centre.proofs.Firsts.{new_dot, has_before, has_last, first_had, first_new, first_stamp_range, stamps_here, stamps_else, stamps_range, any_inside, firsts_more}
+use Rattle.dc_centre.specs.Dots.{of_client, stamps_at, IsCentreOf}
+use Rattle.dc_centre.specs.Applied.{records_of, IsNext, IsStamped, HasFewUpdates, is_fresh, IsGuard, IsDots, Index, IsApplied, fold_within}
+use Rattle.dc_centre.proofs.Firsts.{new_dot, has_before, has_last, first_had, first_new, first_stamp_range, stamps_here, stamps_else, stamps_range}
 
 -- ---- at first
 

@@ -1,4 +1,4 @@
--- The dots of records: which are there, which come first, and with which stamps.
+-- The dots of records: which are there, and with which stamps.
 use Rattle.std.proofs.Common.{◌≡◌, ◌<◌, ℕ, max, Bool, true, false, cond, ◌||◌, ◌⊎◌, inl, inr, ⊎_elim, List, [], ◌∷◌, ◌++◌, Some, refl, sym, ap, ◌∙◌, subst, arith}
 use Rattle.std.specs.Prelude.{◌==◌, All}
 use Rattle.std.proofs.lemmas.Bool.{cases_Bool, false≢true}
@@ -7,13 +7,14 @@ use Rattle.std.proofs.lemmas.List.Elements.{All-nil, All-cons, All-head, All-tai
 use Rattle.std.proofs.lemmas.Option.{none-some, same_Some}
 use Rattle.ids_core.specs.declared.ids.Dot.{Dot}
 use Rattle.ids_core.specs.Ids.{same_dot}
-use Rattle.ids_core.specs.Same.{same_dot-true, same_dot-same}
+use Rattle.ids_core.specs.Same.{same_dot-true}
+use Rattle.ids_core.proofs.Dots.{same_dot-turned}
 use Rattle.vv_core.specs.declared.stamp.Stamp.{Stamp}
-use Rattle.vv_core.specs.Vectors.{within}
 use Rattle.tx_core.specs.declared.tx.Record.{Record}
-use Rattle.dc_talk.specs.Records.{has, inside, firsts, firsts_past, guard, first_stamp}
-use Rattle.dc_centre.specs.Dots.{stamps_of, is_any_within, IsCentreOf}
-use Rattle.dc_centre.specs.Applied.{dots_of, IsStamped}
+use Rattle.dc_talk.specs.Records.{has, guard, first_stamp}
+use Rattle.dc_talk.specs.Dots.{dots_of, stamps_of}
+use Rattle.dc_centre.specs.Dots.{IsCentreOf}
+use Rattle.dc_centre.specs.Applied.{IsStamped}
 
 -- ---- booleans
 
@@ -32,12 +33,6 @@ or_right true b h = refl
 or_right false b h = h
 
 -- ---- dots
-
-pub turned : (a b : Dot) → same_dot a b ≡ false → same_dot b a ≡ false
-turned a b h = ⊎_elim (λ t. absurd (false≢true (sym h ∙ same_dot-same a b (sym (same_dot-true b a t))))) (λ f. f) (cases_Bool (same_dot b a))
-
-pub turned_same : (a b : Dot) → same_dot a b ≡ true → same_dot b a ≡ true
-turned_same a b h = same_dot-same b a (sym (same_dot-true a b h))
 
 -- a number above all of its client's is a new one
 pub new_dot : (d : Dot) (A : List Record) → guard d.client A < d.number → has d (dots_of A) ≡ false
@@ -77,7 +72,7 @@ first_had d [] r h = absurd (false≢true h)
 first_had d (q ∷ A) r h =
     ⊎_elim
     (λ t. rw t refl)
-    (λ f. rw f (first_had d A r (sym (ap (λ b. b || has d (dots_of A)) (turned q.tx.dot d f)) ∙ h)))
+    (λ f. rw f (first_had d A r (sym (ap (λ b. b || has d (dots_of A)) (same_dot-turned q.tx.dot d false f)) ∙ h)))
     (cases_Bool (same_dot q.tx.dot d))
 
 -- a new one has the stamp of its record
@@ -85,7 +80,7 @@ pub first_new : (d : Dot) (A : List Record) (r : Record) → has d (dots_of A) �
 first_new d [] r h s = rw s refl
 first_new d (q ∷ A) r h s =
     let parts = or_false (same_dot d q.tx.dot) (has d (dots_of A)) h in
-    rw (turned d q.tx.dot parts.0) (first_new d A r parts.1 s)
+    rw (same_dot-turned d q.tx.dot false parts.0) (first_new d A r parts.1 s)
 
 first_or_later : (n : ℕ) (d : Dot) (r : Record) (A : List Record) (s : Stamp) → All (IsStamped n) (r ∷ A) → first_stamp d (r ∷ A) ≡ Some s → (first_stamp d A ≡ Some s → IsCentreOf n s) → IsCentreOf n s
 first_or_later n d r A s all is later = go (cases_Bool (same_dot r.tx.dot d))
@@ -130,46 +125,3 @@ stamps_range n d (r ∷ A) all =
     (λ t. rw t (All-cons (IsCentreOf n) r.stamp (stamps_of d A) (All-head (IsStamped n) r A all) rest))
     (λ f. rw f rest)
     (cases_Bool (same_dot r.tx.dot d))
-
--- a dot is inside a vector exactly where one of its stamps is within it
-pub any_inside : (w : List ℕ) (d : Dot) (A : List Record) → is_any_within w (stamps_of d A) ≡ has d (inside A w)
-any_inside w d [] = refl
-any_inside w d (r ∷ A) = go (any_inside w d A) (cases_Bool (same_dot r.tx.dot d)) (cases_Bool (within r.stamp w))
-  where
-    go : is_any_within w (stamps_of d A) ≡ has d (inside A w) → (same_dot r.tx.dot d ≡ true) ⊎ (same_dot r.tx.dot d ≡ false) → (within r.stamp w ≡ true) ⊎ (within r.stamp w ≡ false) → is_any_within w (stamps_of d (r ∷ A)) ≡ has d (inside (r ∷ A) w)
-    go rest (inl t) (inl i) = rw (t, i, turned_same r.tx.dot d t) refl
-    go rest (inl t) (inr o) = rw (t, o) rest
-    go rest (inr f) (inl i) = rw (f, i, turned r.tx.dot d f) rest
-    go rest (inr f) (inr o) = rw (f, o) rest
-
--- ---- the first record of each dot
-
-first_past_seen : (seen : List Dot) (q r : Dot) → has q seen ≡ true → same_dot r q ≡ true → has r seen ≡ true
-first_past_seen seen q r h s = ap (λ d. has d seen) (same_dot-true r q s) ∙ h
-
-or_mid : (a b c : Bool) → (b ≡ true → a ≡ true) → (a || c) ≡ (a || (b || c))
-or_mid true b c h = refl
-or_mid false true c h = absurd (false≢true (h refl))
-or_mid false false c h = refl
-
-or_turn : (a b c : Bool) → ((b || a) || c) ≡ (a || (b || c))
-or_turn true true c = refl
-or_turn true false c = refl
-or_turn false true c = refl
-or_turn false false c = refl
-
-or_nothing : (a : Bool) → a ≡ (a || false)
-or_nothing true = refl
-or_nothing false = refl
-
-firsts_past_more : (seen : List Dot) (A : List Record) (r : Record) → firsts_past seen (A ++ r ∷ []) ≡ firsts_past seen A ++ cond (has r.tx.dot seen || has r.tx.dot (dots_of A)) [] (r ∷ [])
-firsts_past_more seen [] r = ap (λ b. cond b [] (r ∷ [])) (or_nothing (has r.tx.dot seen))
-firsts_past_more seen (q ∷ A) r = go (firsts_past_more seen A r) (firsts_past_more (q.tx.dot ∷ seen) A r) (cases_Bool (has q.tx.dot seen))
-  where
-    go : firsts_past seen (A ++ r ∷ []) ≡ firsts_past seen A ++ cond (has r.tx.dot seen || has r.tx.dot (dots_of A)) [] (r ∷ []) → firsts_past (q.tx.dot ∷ seen) (A ++ r ∷ []) ≡ firsts_past (q.tx.dot ∷ seen) A ++ cond (has r.tx.dot (q.tx.dot ∷ seen) || has r.tx.dot (dots_of A)) [] (r ∷ []) → (has q.tx.dot seen ≡ true) ⊎ (has q.tx.dot seen ≡ false) → firsts_past seen (q ∷ (A ++ r ∷ [])) ≡ firsts_past seen (q ∷ A) ++ cond (has r.tx.dot seen || (same_dot r.tx.dot q.tx.dot || has r.tx.dot (dots_of A))) [] (r ∷ [])
-    go here past (inl t) = rw t (here ∙ ap (λ b. firsts_past seen A ++ cond b [] (r ∷ [])) (or_mid (has r.tx.dot seen) (same_dot r.tx.dot q.tx.dot) (has r.tx.dot (dots_of A)) (first_past_seen seen q.tx.dot r.tx.dot t)))
-    go here past (inr f) = rw f (ap (λ l. q ∷ l) (past ∙ ap (λ b. firsts_past (q.tx.dot ∷ seen) A ++ cond b [] (r ∷ [])) (or_turn (has r.tx.dot seen) (same_dot r.tx.dot q.tx.dot) (has r.tx.dot (dots_of A)))))
-
--- the record of a new dot is the first of it
-pub firsts_more : (A : List Record) (r : Record) → firsts (A ++ r ∷ []) ≡ firsts A ++ cond (has r.tx.dot (dots_of A)) [] (r ∷ [])
-firsts_more A r = firsts_past_more [] A r

@@ -5,15 +5,17 @@ use Rattle.ids_core.specs.declared.limits.TheConstants.{MOST_CENTRES, MOST_CLIEN
 use Rattle.ids_core.specs.declared.ids.Dot.{Dot}
 use Rattle.ids_core.specs.declared.object.ObjectId.{ObjectId}
 use Rattle.vv_core.specs.declared.stamp.Stamp.{Stamp}
+use Rattle.vv_core.specs.Stamps.{is_any_within}
 use Rattle.dup_guard.specs.declared.guard.Last.{Last}
 use Rattle.dup_guard.specs.Notes.{number_of, stamp_of}
 use Rattle.tx_core.specs.declared.tx.Record.{Record}
 use Rattle.tx_core.specs.declared.state.State.{State}
 use Rattle.tx_core.specs.States.{empty_of, fold_of}
-use Rattle.dc_talk.specs.Objects.{ops_of}
+use Rattle.tx_core.specs.Operations.{ops_of}
 use Rattle.dc_talk.specs.Records.{count, vector, guard, first_stamp, top, has, firsts}
+use Rattle.dc_talk.specs.Dots.{dots_of, stamps_of}
 use Rattle.dc_centre.specs.declared.applied.Held.{Held}
-use Rattle.dc_centre.specs.Dots.{of_client, stamps_of, stamps_at, is_any_within, IsCentreOf}
+use Rattle.dc_centre.specs.Dots.{of_client, stamps_at, IsCentreOf}
 
 -- how many centres there are, and the records that this one applied, in order
 pub record Have : Type 0 where
@@ -23,10 +25,6 @@ pub record Have : Type 0 where
 -- the records of what is held
 abbrev pub records_of : List Held → List Record
 records_of held = map (λ h. h.item) held
-
--- the dots of records
-abbrev pub dots_of : List Record → List Dot
-dots_of A = map (λ r. r.tx.dot) A
 
 -- the record can be applied next, after the records A: it is the next of its origin, and its
 -- transaction is one of its client's that is here or the next one

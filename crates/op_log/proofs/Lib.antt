@@ -1,6 +1,6 @@
 mod Lines
 mod Ops
-mod Items
+pub mod Items
 mod Numbers
 mod Keeping
 mod Owns

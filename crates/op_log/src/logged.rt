@@ -1,7 +1,8 @@
 // A transaction in the log.
 ghost use Rattle.std.specs.Prelude.{◌≡◌, ◌++◌, ◌∷◌, [], not, IfOk, OnOk, OnErr};
 ghost use Rattle.vv_core.specs.Vectors.{within};
-ghost use Rattle.op_log.specs.Logs.{is_any_within, is_inside, first_of, with_one};
+ghost use Rattle.vv_core.specs.Stamps.{is_any_within};
+ghost use Rattle.op_log.specs.Logs.{is_inside, first_of, with_one};
 
 use ids_core::NoMemory;
 use list_core::List;

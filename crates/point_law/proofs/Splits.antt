@@ -1,26 +1,22 @@
 -- What a split tells at a vector.
-use Rattle.std.proofs.Common.{◌≡◌, ℕ, Bool, false, cond, max, inl, inr, List, [], ◌∷◌, length, refl, ap, ◌∙◌, arith}
+use Rattle.std.proofs.Common.{◌≡◌, ℕ, max, List, [], length, ap, ◌∙◌, arith}
 use Rattle.std.specs.Prelude.{filter, flat_map}
-use Rattle.list_core.specs.Members.{In}
+use Rattle.list_core.proofs.Members.{filter_none}
 use Rattle.list_core.proofs.Apart.{apart_map}
 use Rattle.ids_core.specs.declared.object.ObjectId.{ObjectId}
 use Rattle.vv_core.specs.Vectors.{Covers}
 use Rattle.tx_core.specs.declared.tx.Tx.{Tx}
 use Rattle.tx_core.specs.declared.tx.Record.{Record}
 use Rattle.tx_core.specs.States.{fold_of}
+use Rattle.tx_core.specs.Operations.{ops_of}
 use Rattle.dc_talk.specs.Records.{inside, firsts, mine}
 use Rattle.dc_talk.specs.Objects.{state_at}
 use Rattle.dc_talk.proofs.Firsts.{firsts_apart}
-use Rattle.check_point.specs.Operations.{ops_of, state_after, greatest}
+use Rattle.check_point.specs.Operations.{state_after, greatest}
 use Rattle.check_point.specs.Partings.{IsParting}
 use Rattle.check_point.proofs.Partings.{state_of_parting, number_of_parting, count_of_parting}
 use Rattle.point_law.specs.Splits.{first_txs, is_inside, IsSplit}
 use Rattle.point_law.proofs.Inside.{inside_grows, state_inside, greatest_inside}
-
--- where none passes a test, none is left
-pub filter_none : {X : Type 0} (test : X → Bool) (xs : List X) → ((x : X) → In x xs → test x ≡ false) → filter test xs ≡ []
-filter_none test [] none = refl
-filter_none test (x ∷ xs) none = ap (λ b. cond b (x ∷ filter test xs) (filter test xs)) (none x (inl refl)) ∙ filter_none test xs (λ y i. none y (inr i))
 
 module _ (A : List Record) (base : List ℕ) (folded kept : List Tx) (split : IsSplit A base folded kept) where
   -- the folded ones are within each vector that covers the base

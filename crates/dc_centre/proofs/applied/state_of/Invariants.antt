@@ -1,7 +1,7 @@
 use Rattle.std.proofs.Common.{◌≡◌, drop}
 use Rattle.std.specs.Prelude.{filter, flat_map}
-use Rattle.dc_talk.specs.Objects.{ops_of}
 use Rattle.tx_core.specs.States.{fold_of}
+use Rattle.tx_core.specs.Operations.{ops_of}
 use Rattle.dc_centre.specs.Applied.{is_in}
 use Rattle.dc_centre.proofs.applied.state_of.Given as goal
 

@@ -1,5 +1,5 @@
 use Rattle.std.proofs.Common.{◌≡◌, drop}
-use Rattle.dc_centre.specs.Dots.{is_any_within}
+use Rattle.vv_core.specs.Stamps.{is_any_within}
 use Rattle.dc_centre.proofs.dots.is_any_within.Given as goal
 
 abbrev pub invariant-loop-stamp : goal.invariant-loop-stamp

@@ -1,8 +1,8 @@
--- The operations of transactions with different dots have different identifiers.
+-- The identifiers of the operations of transactions.
 use Rattle.std.proofs.Common.{◌≡◌, ℕ, ◌+◌, ◌≤◌, inl, inr, Bool, true, false, cond, List, [], ◌∷◌, sym, ap, ◌∙◌, arith}
 use Rattle.std.specs.Prelude.{flat_map}
 use Rattle.list_core.specs.Members.{In}
-use Rattle.list_core.proofs.Apart.{Apart}
+use Rattle.list_core.specs.Apart.{Apart}
 use Rattle.list_core.proofs.Members.{In_from_flat_map}
 use Rattle.ids_core.specs.declared.ids.Dot.{Dot}
 use Rattle.ids_core.specs.declared.ids.Mark.{Mark}
@@ -13,7 +13,7 @@ use Rattle.ids_core.proofs.Distinct.{distinct_append}
 use Rattle.tx_core.specs.declared.op.Op.{Op}
 use Rattle.tx_core.specs.declared.tx.Update.{Update}
 use Rattle.tx_core.specs.declared.tx.Tx.{Tx}
-use Rattle.check_point.specs.Operations.{mark, ops_from, ops_of}
+use Rattle.tx_core.specs.Operations.{mark, ops_from, ops_of}
 
 -- operations of updates that begin at a place have the transaction's dot, and that place or a later one
 record IsFrom (dot : Dot) (place : ℕ) (op : Mark × Op) : Type 0 where
@@ -30,7 +30,7 @@ from_place o rank dot place (u ∷ us) op i = go (same_object u.object o) (λ j.
     go false rest j = rest j
 
 -- the operations of updates have different identifiers
-distinct_from : (o : ObjectId) (rank : ℕ) (dot : Dot) (place : ℕ) (us : List Update) → Distinct (ops_from o rank dot place us)
+pub distinct_from : (o : ObjectId) (rank : ℕ) (dot : Dot) (place : ℕ) (us : List Update) → Distinct (ops_from o rank dot place us)
 distinct_from o rank dot place [] = tt
 distinct_from o rank dot place (u ∷ us) = go (same_object u.object o) (distinct_from o rank dot (place + 1) us)
   where
