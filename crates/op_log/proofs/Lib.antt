@@ -2,6 +2,11 @@ mod Lines
 mod Ops
 pub mod Items
 mod Numbers
-mod Keeping
 mod Owns
+mod PlaceOrders
+mod Placed
+mod Reaching
 mod Sweeping
+mod Taking
+mod Found
+mod Keeping
