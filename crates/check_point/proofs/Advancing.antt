@@ -7,7 +7,8 @@ use Rattle.std.proofs.lemmas.Grind.{flat_map-append}
 use Rattle.ids_core.specs.declared.object.ObjectId.{ObjectId}
 use Rattle.tx_core.specs.declared.tx.Tx.{Tx}
 use Rattle.tx_core.specs.States.{empty_of, fold_of, step}
-use Rattle.check_point.specs.Operations.{ops_of, state_after, greatest}
+use Rattle.tx_core.specs.Operations.{ops_of}
+use Rattle.check_point.specs.Operations.{state_after, greatest}
 use Rattle.check_point.specs.Points.{PointView, IsPointOf, state_of, number_of}
 
 -- the state after more transactions is folded from the one before

@@ -1,5 +1,4 @@
 pub mod Entries
 pub mod Advancing
-pub mod Distinct
 pub mod Orders
 pub mod Partings

@@ -4,17 +4,20 @@ use Rattle.std.specs.Prelude.{filter, flat_map}
 use Rattle.std.proofs.lemmas.List.{length-append}
 use Rattle.std.proofs.lemmas.List.Elements.{filter-append}
 use Rattle.list_core.specs.Permutations.{Perm}
+use Rattle.list_core.proofs.Members.{filter_all}
+use Rattle.list_core.proofs.Permutations.{filter_order, length_order}
 use Rattle.list_core.proofs.Apart.{apart_filter}
 use Rattle.list_core.proofs.Blocks.{flat_order, turned_order}
 use Rattle.ids_core.specs.declared.object.ObjectId.{ObjectId}
 use Rattle.tx_core.specs.declared.tx.Tx.{Tx}
 use Rattle.tx_core.specs.States.{empty_of, fold_of}
 use Rattle.tx_core.proofs.Folds.{fold_of-order}
-use Rattle.check_point.specs.Operations.{ops_of, state_after, greatest}
+use Rattle.tx_core.proofs.Operations.{distinct_ops}
+use Rattle.tx_core.specs.Operations.{ops_of}
+use Rattle.check_point.specs.Operations.{state_after, greatest}
 use Rattle.check_point.specs.Partings.{IsParting}
-use Rattle.check_point.proofs.Orders.{filter_order, filter_all, length_order, greatest_order}
+use Rattle.check_point.proofs.Orders.{greatest_order}
 use Rattle.check_point.proofs.Advancing.{state_after-append, greatest-append}
-use Rattle.check_point.proofs.Distinct.{distinct_ops}
 
 module _ (test : Tx → Bool) (txs folded kept : List Tx) (p : IsParting test txs folded kept) where
   -- the folded ones and those of the kept that pass are all that pass, in another order

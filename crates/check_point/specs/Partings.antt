@@ -2,7 +2,7 @@
 use Rattle.std.specs.Prelude.{◌≡◌, Bool, true, List, ◌++◌}
 use Rattle.list_core.specs.Members.{In}
 use Rattle.list_core.specs.Permutations.{Perm}
-use Rattle.list_core.proofs.Apart.{Apart}
+use Rattle.list_core.specs.Apart.{Apart}
 use Rattle.tx_core.specs.declared.tx.Tx.{Tx}
 
 -- transactions with different dots are parted into folded and kept ones, whatever the order, and the folded ones

@@ -3,7 +3,8 @@ ghost use Rattle.std.specs.Prelude.{◌≡◌, ◌+◌, ℕ, Bool, List, length,
 ghost use Rattle.ids_core.specs.declared.object.ObjectId.{ObjectId};
 ghost use Rattle.tx_core.specs.declared.tx.Tx.{Tx};
 ghost use Rattle.tx_core.specs.States.{fold_of};
-ghost use Rattle.check_point.specs.Operations.{ops_of, state_after, greatest};
+ghost use Rattle.tx_core.specs.Operations.{ops_of};
+ghost use Rattle.check_point.specs.Operations.{state_after, greatest};
 ghost use Rattle.check_point.specs.Partings.{IsParting};
 
 /// Of transactions with different dots, some were folded, and all of these pass a test: what those that

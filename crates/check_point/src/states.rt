@@ -3,7 +3,7 @@ ghost use Rattle.std.specs.Prelude.{◌≡◌, cond, All, flat_map, IfOk, OnOk};
 ghost use Rattle.ids_core.specs.Ids.{same_object};
 ghost use Rattle.ids_core.specs.declared.object.ObjectId.{ObjectId};
 ghost use Rattle.tx_core.specs.States.{step, fold_of};
-ghost use Rattle.check_point.specs.Operations.{ops_of};
+ghost use Rattle.tx_core.specs.Operations.{ops_of};
 ghost use Rattle.check_point.specs.Points.{state_in, state_over, HasFewUpdates};
 
 use ids_core::{Mark, NoMemory, ObjectId, OpId};

@@ -13,8 +13,8 @@ use Rattle.ids_core.specs.Same.{same_object-true}
 use Rattle.tx_core.specs.declared.op.Op.{Op}
 use Rattle.tx_core.specs.declared.tx.Update.{Update}
 use Rattle.tx_core.specs.declared.tx.Tx.{Tx}
-use Rattle.dc_talk.specs.Objects.{mark, ops_from, ops_of}
 use Rattle.vv_core.proofs.Reaching.{count_by-cons}
+use Rattle.tx_core.specs.Operations.{mark, ops_from, ops_of}
 use Rattle.client_pending.specs.Indexes.{counted}
 
 -- the lists of two times, of which the second has x behind what the first has of the object a

@@ -10,7 +10,7 @@ use Rattle.ids_core.specs.Orders.{object_cmp}
 use Rattle.tx_core.specs.declared.op.Op.{Op}
 use Rattle.tx_core.specs.declared.tx.Update.{Update}
 use Rattle.tx_core.specs.declared.tx.Tx.{Tx}
-use Rattle.dc_talk.specs.Objects.{ops_of}
+use Rattle.tx_core.specs.Operations.{ops_of}
 
 -- the operations of a line, none where there is no line
 abbrev pub line_items : {A : Type 0} → Option (VecDeque (Mark × Op) A) → List (Mark × Op)

@@ -3,7 +3,7 @@ ghost use Rattle.std.specs.Prelude.{◌≡◌, ◌≤◌, ◌++◌, ◌∷◌, [
 ghost use Rattle.std.specs.Option.{option_copied};
 ghost use Rattle.ids_core.specs.declared.limits.TheConstants.{MOST_UPDATES};
 ghost use Rattle.tx_core.specs.States.{fold_of};
-ghost use Rattle.dc_talk.specs.Objects.{ops_of};
+ghost use Rattle.tx_core.specs.Operations.{ops_of};
 
 use crate::index::{Index, Line};
 use crate::turns::{put_tx, take_txs};

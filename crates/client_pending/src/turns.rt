@@ -3,7 +3,7 @@ ghost use Rattle.std.specs.Prelude.{◌≡◌, ◌≤◌, ◌++◌, ◌-◌, Lis
 ghost use Rattle.ids_core.specs.declared.limits.TheConstants.{MOST_UPDATES};
 ghost use Rattle.ids_core.specs.declared.object.ObjectId.{ObjectId};
 ghost use Rattle.tx_core.specs.declared.tx.Tx.{Tx as TxOf};
-ghost use Rattle.dc_talk.specs.Objects.{ops_from, ops_of};
+ghost use Rattle.tx_core.specs.Operations.{ops_from, ops_of};
 ghost use Rattle.client_pending.specs.Indexes.{listed, counted, Finds};
 
 use crate::index::{Index, put, take_first, take_last};

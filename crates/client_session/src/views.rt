@@ -2,7 +2,7 @@
 ghost use Rattle.std.specs.Prelude.{◌≡◌, ◌≢◌, ◌≤◌, ◌++◌, length, flat_map, All, Some, None, IsSome, IfOk, IfErr, OnOk};
 ghost use Rattle.tx_core.specs.States.{fold_of};
 ghost use Rattle.dc_talk.specs.Clients.{cached, promoted, view};
-ghost use Rattle.dc_talk.specs.Objects.{ops_of};
+ghost use Rattle.tx_core.specs.Operations.{ops_of};
 
 use crate::session::Session;
 use client_cache::Cache;

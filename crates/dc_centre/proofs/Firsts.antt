@@ -7,11 +7,12 @@ use Rattle.std.proofs.lemmas.Option.{none-some, same_Some}
 use Rattle.list_core.specs.Members.{In}
 use Rattle.ids_core.specs.declared.ids.Dot.{Dot}
 use Rattle.ids_core.specs.Ids.{same_dot}
-use Rattle.ids_core.specs.Same.{same_dot-true, same_dot-same}
+use Rattle.ids_core.specs.Same.{same_dot-true}
+use Rattle.ids_core.proofs.Dots.{same_dot-turned}
 use Rattle.vv_core.specs.declared.stamp.Stamp.{Stamp}
 use Rattle.tx_core.specs.declared.tx.Record.{Record}
 use Rattle.dc_talk.specs.Records.{has, guard, first_stamp}
-use Rattle.point_law.specs.Splits.{dots_of}
+use Rattle.dc_talk.specs.Dots.{dots_of}
 use Rattle.dc_centre.specs.Applied.{IsCentreOf}
 
 -- ---- booleans
@@ -31,12 +32,6 @@ or_right true b h = refl
 or_right false b h = h
 
 -- ---- dots
-
-pub turned : (a b : Dot) → same_dot a b ≡ false → same_dot b a ≡ false
-turned a b h = ⊎_elim (λ t. absurd (false≢true (sym h ∙ same_dot-same a b (sym (same_dot-true b a t))))) (λ f. f) (cases_Bool (same_dot b a))
-
-pub turned_same : (a b : Dot) → same_dot a b ≡ true → same_dot b a ≡ true
-turned_same a b h = same_dot-same b a (sym (same_dot-true a b h))
 
 -- a number above all of its client's is a new one
 pub new_dot : (d : Dot) (A : List Record) → guard d.client A < d.number → has d (dots_of A) ≡ false
@@ -76,7 +71,7 @@ first_had d [] r h = absurd (false≢true h)
 first_had d (q ∷ A) r h =
     ⊎_elim
     (λ t. rw t refl)
-    (λ f. rw f (first_had d A r (sym (ap (λ b. b || has d (dots_of A)) (turned q.tx.dot d f)) ∙ h)))
+    (λ f. rw f (first_had d A r (sym (ap (λ b. b || has d (dots_of A)) (same_dot-turned q.tx.dot d false f)) ∙ h)))
     (cases_Bool (same_dot q.tx.dot d))
 
 -- a new one has the stamp of its record
@@ -84,7 +79,7 @@ pub first_new : (d : Dot) (A : List Record) (r : Record) → has d (dots_of A) �
 first_new d [] r h s = rw s refl
 first_new d (q ∷ A) r h s =
     let parts = or_false (same_dot d q.tx.dot) (has d (dots_of A)) h in
-    rw (turned d q.tx.dot parts.0) (first_new d A r parts.1 s)
+    rw (same_dot-turned d q.tx.dot false parts.0) (first_new d A r parts.1 s)
 
 -- the first stamp of a dot is that of a record
 first_stamp_there : (d : Dot) (A : List Record) (s : Stamp) → first_stamp d A ≡ Some s → (r : Record) × In r A × (r.stamp ≡ s)

@@ -10,9 +10,9 @@ use Rattle.dup_guard.specs.Notes.{number_of, stamp_of}
 use Rattle.tx_core.specs.declared.tx.Record.{Record}
 use Rattle.op_log.specs.Logs.{LogView}
 use Rattle.check_point.specs.Points.{PointView, HasFewUpdates}
-use Rattle.point_law.specs.Splits.{dots_of}
 use Rattle.point_law.specs.StandFor.{StandFor}
 use Rattle.dc_talk.specs.Records.{count, vector, guard, first_stamp, top, has}
+use Rattle.dc_talk.specs.Dots.{dots_of}
 
 -- what is kept of the applied records: how many there are of each centre, the last number of each client with the
 -- stamp of its first record, the greatest rank, and the transactions, those within the point's vector folded into

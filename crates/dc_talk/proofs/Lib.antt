@@ -5,8 +5,10 @@ pub mod Answers
 pub mod ClientAnswers
 pub mod PeerAnswers
 pub mod Counts
+pub mod Dots
 pub mod Firsts
 pub mod Horizons
+pub mod Stamps
 pub mod Applied
 pub mod Places
 pub mod Growth

@@ -13,7 +13,7 @@ use Rattle.tx_core.specs.declared.state.State.{State}
 use Rattle.dc_talk.specs.declared.calls.Connection.{Connection}
 use Rattle.dc_talk.specs.declared.calls.Cached.{Cached}
 use Rattle.tx_core.specs.States.{fold_of}
-use Rattle.dc_talk.specs.Objects.{ops_from, ops_of}
+use Rattle.tx_core.specs.Operations.{ops_from, ops_of}
 
 -- one client: the snapshot, the number of its commits, how many of them are within the snapshot, the
 -- greatest rank that it was told of or has used, the commits that are not within the snapshot, the

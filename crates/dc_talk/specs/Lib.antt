@@ -1,4 +1,5 @@
 pub mod Records
+pub mod Dots
 pub mod Objects
 pub mod Entries
 pub mod Trails

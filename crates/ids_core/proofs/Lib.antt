@@ -2,3 +2,4 @@ pub mod Orders
 pub mod Ascending
 pub mod Distinct
 pub mod Folds
+pub mod Dots

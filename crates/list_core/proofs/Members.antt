@@ -23,6 +23,16 @@ filter-agree p q (x ∷ xs) same =
     ap (λ b. cond b (x ∷ filter p xs) (filter p xs)) (same x (inl refl))
     ∙ ap (λ ys. cond (q x) (x ∷ ys) ys) (filter-agree p q xs (λ y i. same y (inr i)))
 
+-- where all pass a test, all are left
+pub filter_all : {X : Type 0} (test : X → Bool) (xs : List X) → ((x : X) → In x xs → test x ≡ true) → filter test xs ≡ xs
+filter_all test [] all = refl
+filter_all test (x ∷ xs) all = ap (λ b. cond b (x ∷ filter test xs) (filter test xs)) (all x (inl refl)) ∙ ap (λ l. x ∷ l) (filter_all test xs (λ y i. all y (inr i)))
+
+-- where none passes it, none is left
+pub filter_none : {X : Type 0} (test : X → Bool) (xs : List X) → ((x : X) → In x xs → test x ≡ false) → filter test xs ≡ []
+filter_none test [] none = refl
+filter_none test (x ∷ xs) none = ap (λ b. cond b (x ∷ filter test xs) (filter test xs)) (none x (inl refl)) ∙ filter_none test xs (λ y i. none y (inr i))
+
 -- a member of one of two lists is one of both together
 pub In_left : {X : Type 0} (xs ys : List X) (x : X) → In x xs → In x (xs ++ ys)
 In_left [] ys x i = absurd i

@@ -1,5 +1,5 @@
 -- Lists of logged transactions whose numbers ascend.
-use Rattle.std.proofs.Common.{◌≡◌, ◌<◌, Bool, true, false, cond, inl, inr, ⊎_elim, List, [], ◌∷◌, ◌++◌, map, refl, sym, ap, ◌∙◌, subst, arith}
+use Rattle.std.proofs.Common.{◌≡◌, ◌<◌, ℕ, zero, suc, Bool, true, false, cond, inl, inr, ⊎_elim, List, [], ◌∷◌, ◌++◌, length, get_or, map, refl, sym, ap, ◌∙◌, subst, arith}
 use Rattle.std.specs.Prelude.{◌||◌, filter}
 use Rattle.std.specs.List.{list_any}
 use Rattle.std.proofs.lemmas.Bool.{cases_Bool, false≢true}
@@ -46,6 +46,16 @@ pub maps_same : {X : Type 0} (f : X → X) (xs : List X) → ((x : X) → In x x
 maps_same f [] same = refl
 maps_same f (x ∷ xs) same = ap (λ y. y ∷ map f xs) (same x (inl refl)) ∙ ap (λ ys. x ∷ ys) (maps_same f xs (λ y i. same y (inr i)))
 
+-- the element at a place is a member
+pub get_or_In : {X : Type 0} (xs : List X) (i : ℕ) (d : X) → i < length xs → In (get_or xs i d) xs
+get_or_In [] i d lt = absurd (omega (arith, lt))
+get_or_In (x ∷ xs) zero d lt = inl refl
+get_or_In (x ∷ xs) (suc i) d lt = inr (get_or_In xs i d (omega (arith, lt)))
+
+-- so is what it is
+pub item_In : {X : Type 0} (xs : List X) (i : ℕ) (x : X) → i < length xs → x ≡ get_or xs i x → In x xs
+item_In xs i x lt is = subst (λ y. In y xs) (sym is) (get_or_In xs i x lt)
+
 -- ---- numbers that ascend
 
 -- members of one number are one
@@ -55,6 +65,24 @@ rises_one (z ∷ items) x y rises (inl here) (inl there) same = here ∙ sym the
 rises_one (z ∷ items) x y rises (inl here) (inr j) same = absurd (omega (arith, rises.0 y j, ap (λ w. w.number) here, same))
 rises_one (z ∷ items) x y rises (inr i) (inl there) same = absurd (omega (arith, rises.0 x i, ap (λ w. w.number) there, same))
 rises_one (z ∷ items) x y rises (inr i) (inr j) same = rises_one items x y rises.1 i j same
+
+-- what ascends is settled by its members
+pub rises_same : (xs ys : List Logged) → Rises xs → Rises ys → ((x : Logged) → In x xs → In x ys) → ((x : Logged) → In x ys → In x xs) → xs ≡ ys
+rises_same [] [] up rise f g = refl
+rises_same [] (y ∷ ys) up rise f g = absurd (g y (inl refl))
+rises_same (x ∷ xs) [] up rise f g = absurd (f x (inl refl))
+rises_same (x ∷ xs) (y ∷ ys) up rise f g = ap (λ z. z ∷ xs) first ∙ ap (λ l. y ∷ l) (rises_same xs ys up.1 rise.1 (λ z i. into z i (f z (inr i))) (λ z i. back z i (g z (inr i))))
+  where
+    first : x ≡ y
+    first = ⊎_elim (λ same. same) (λ later. ⊎_elim (λ same. sym same) (λ before. let a = rise.0 x later in let b = up.0 y before in absurd (omega (arith, a, b))) (g y (inl refl))) (f x (inl refl))
+
+    into : (z : Logged) → In z xs → In z (y ∷ ys) → In z ys
+    into z i (inl same) = let lt = up.0 z i in let number : z.number ≡ x.number = ap (λ (w : Logged). w.number) (same ∙ sym first) in absurd (omega (arith, lt, number))
+    into z i (inr j) = j
+
+    back : (z : Logged) → In z ys → In z (x ∷ xs) → In z xs
+    back z i (inl same) = let lt = rise.0 z i in let number : z.number ≡ y.number = ap (λ (w : Logged). w.number) (same ∙ first) in absurd (omega (arith, lt, number))
+    back z i (inr j) = j
 
 -- one more, whose number is above all others
 pub rises_more : (items : List Logged) (x : Logged) → Rises items → ((y : Logged) → In y items → y.number < x.number) → Rises (items ++ x ∷ [])

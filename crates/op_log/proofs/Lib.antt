@@ -1,7 +1,12 @@
 mod Lines
 mod Ops
-mod Items
+pub mod Items
 mod Numbers
-mod Keeping
 mod Owns
+mod PlaceOrders
+mod Placed
+mod Reaching
 mod Sweeping
+mod Taking
+mod Found
+mod Keeping

@@ -1,5 +1,5 @@
 -- Transactions found by their numbers.
-use Rattle.std.proofs.Common.{◌≡◌, ◌<◌, ℕ, Bool, true, false, cond, inl, inr, ⊎_elim, Option, Some, None, List, [], ◌∷◌, ◌++◌, map, refl, sym, ap, ◌∙◌, arith}
+use Rattle.std.proofs.Common.{◌≡◌, ◌<◌, ℕ, Bool, true, false, cond, inl, inr, ⊎_elim, Option, Some, None, List, [], ◌∷◌, ◌++◌, refl, sym, ap, ◌∙◌, arith}
 use Rattle.std.specs.Prelude.{◌||◌, ◌&&◌, ◌==◌, All}
 use Rattle.std.specs.Ordering.{nat_cmp, match_ordering}
 use Rattle.std.specs.Cmp.{nat_cmp_is}
@@ -11,22 +11,20 @@ use Rattle.std.proofs.Math.Bool.{or-false}
 use Rattle.std.proofs.lemmas.Bool.{cases_Bool, false≢true, and_parts}
 use Rattle.std.proofs.lemmas.Bool.Decides.{Decides-eqb, nat_tests}
 use Rattle.std.proofs.lemmas.Option.{none-some, same_Some}
-use Rattle.std.proofs.lemmas.List.{append_assoc}
 use Rattle.std.proofs.lemmas.List.Elements.{All-head, All-tail, All-cons}
 use Rattle.list_core.specs.Members.{In}
 use Rattle.ids_core.specs.declared.ids.Dot.{Dot}
 use Rattle.ids_core.specs.Ids.{same_dot}
 use Rattle.vv_core.specs.declared.stamp.Stamp.{Stamp}
 use Rattle.op_log.specs.declared.logged.Logged.{Logged}
-use Rattle.op_log.specs.Logs.{is_inside, within_of, has_dot, with_one, stamped, with_stamp}
+use Rattle.op_log.specs.Logs.{has_dot, with_one, stamped, with_stamp}
 use Rattle.op_log.specs.Tables.{Rises, IsKeyed}
-use Rattle.tx_core.specs.declared.tx.Tx.{Tx}
 use Rattle.op_log.proofs.Items.{finds_none, stamps_none}
 
 -- ---- keys
 
 -- the test of a key is that of the number
-at_number : (n k : ℕ) → is_at (nat_cmp n) k ≡ (k == n)
+pub at_number : (n k : ℕ) → is_at (nat_cmp n) k ≡ (k == n)
 at_number n k = grind (arith, nat_tests)
 
 -- a key above all others goes to the end
@@ -107,28 +105,13 @@ module _ (p : Logged → Bool) (n : ℕ) where
   pub passes_none : (es : List (ℕ × Logged)) → IsKeyed es → Rises (values_of es) → lookup (is_at (nat_cmp n)) es ≡ None → false ≡ passes_at (values_of es)
   passes_none es keyed rises is = ap (passes_found p) (sym is) ∙ sym (found_passes es keyed rises)
 
--- ---- what is taken in turn
-
--- the next one is copied
-pub within_take : (w : List ℕ) (x : Logged) (rest s : List Logged) (txs more all : List Tx) → s ≡ x ∷ rest → true ≡ is_inside w x → more ≡ txs ++ x.tx ∷ [] → txs ++ map (λ x. x.tx) (within_of w s) ≡ all → more ++ map (λ x. x.tx) (within_of w rest) ≡ all
-within_take w x rest s txs more all is pass more-is before =
-    ap (λ l. l ++ map (λ x. x.tx) (within_of w rest)) more-is ∙ append_assoc txs (x.tx ∷ []) (map (λ x. x.tx) (within_of w rest))
-    ∙ ap (λ b. txs ++ map (λ x. x.tx) (cond b (x ∷ within_of w rest) (within_of w rest))) pass
-    ∙ ap (λ l. txs ++ map (λ x. x.tx) (within_of w l)) (sym is) ∙ before
-
--- the next one is left
-pub within_skip : (w : List ℕ) (x : Logged) (rest s : List Logged) (txs all : List Tx) → s ≡ x ∷ rest → false ≡ is_inside w x → txs ++ map (λ x. x.tx) (within_of w s) ≡ all → txs ++ map (λ x. x.tx) (within_of w rest) ≡ all
-within_skip w x rest s txs all is fail before =
-    ap (λ b. txs ++ map (λ x. x.tx) (cond b (x ∷ within_of w rest) (within_of w rest))) fail
-    ∙ ap (λ l. txs ++ map (λ x. x.tx) (within_of w l)) (sym is) ∙ before
-
 -- ---- a stamp more at a number
 
 -- all transactions with the dot have the number
 abbrev pub OnlyAt : Dot → ℕ → List Logged → Type 0
 OnlyAt d n items = (x : Logged) → In x items → same_dot x.tx.dot d ≡ true → x.number ≡ n
 
-module _ (d : Dot) (s : Stamp) (n : ℕ) where
+module _ (d : Dot) (n : ℕ) where
   -- none behind the number has the dot
   none_behind : (items : List Logged) (y : Logged) → ((x : Logged) → In x items → y.number < x.number) → y.number ≡ n → OnlyAt d n items → (x : Logged) → In x items → same_dot x.tx.dot d ≡ true → ⊥
   none_behind items y above is only x i same = omega (arith, above x i, only x i same, is)
@@ -146,6 +129,15 @@ module _ (d : Dot) (s : Stamp) (n : ℕ) where
           rest is
           ∙ ap (λ b. b || has_dot d (values_of es)) (sym (⊎_elim (λ same. absurd (false≢true (sym at ∙ at_number n e.0 ∙ (Decides-eqb e.0 n).1 (keyed_head e es keyed ∙ only e.1 (inl refl) same)))) (λ apart. apart) (cases_Bool (same_dot e.1.tx.dot d))))
 
+  -- where nothing is found, none has the dot
+  none_with_dot : (es : List (ℕ × Logged)) → IsKeyed es → OnlyAt d n (values_of es) → lookup (is_at (nat_cmp n)) es ≡ None → (x : Logged) → In x (values_of es) → same_dot x.tx.dot d ≡ true → ⊥
+  none_with_dot es keyed only is x i same = lost_at n es x keyed is i (only x i same)
+
+  pub has_dot_none : (es : List (ℕ × Logged)) → IsKeyed es → OnlyAt d n (values_of es) → lookup (is_at (nat_cmp n)) es ≡ None → false ≡ has_dot d (values_of es)
+  has_dot_none es keyed only is = sym (finds_none (λ x. same_dot x.tx.dot d) (values_of es) (none_with_dot es keyed only is))
+
+module _ (d : Dot) (s : Stamp) (n : ℕ) where
+  -- the one that has it gets the stamp
   pub stamped_some : (es : List (ℕ × Logged)) (x : Logged) → IsKeyed es → Rises (values_of es) → OnlyAt d n (values_of es) → lookup (is_at (nat_cmp n)) es ≡ Some x → values_of (set_value (is_at (nat_cmp n)) es (stamped d s x)) ≡ with_stamp d s (values_of es)
   stamped_some [] x keyed rises only is = absurd (none-some x is)
   stamped_some (e ∷ es) x keyed rises only is = go (is_at (nat_cmp n) e.0) refl is (λ is. stamped_some es x (keyed_tail e es keyed) rises.1 (λ x i. only x (inr i)) is)
@@ -154,17 +146,10 @@ module _ (d : Dot) (s : Stamp) (n : ℕ) where
       go true at is rest =
           let number : e.1.number ≡ n = sym (keyed_head e es keyed) ∙ (Decides-eqb e.0 n).0 (sym (at_number n e.0) ∙ at) in
           ap (λ y. stamped d s y ∷ values_of es) (sym (same_Some e.1 x is))
-          ∙ ap (λ l. stamped d s e.1 ∷ l) (sym (stamps_none d s (values_of es) (none_behind (values_of es) e.1 rises.0 number (λ x i. only x (inr i)))))
+          ∙ ap (λ l. stamped d s e.1 ∷ l) (sym (stamps_none d s (values_of es) (none_behind d n (values_of es) e.1 rises.0 number (λ x i. only x (inr i)))))
       go false at is rest =
           ap (λ y. y ∷ values_of (set_value (is_at (nat_cmp n)) es (stamped d s x))) (sym (ap (λ b. cond b (with_one s e.1) e.1) (⊎_elim (λ same. absurd (false≢true (sym at ∙ at_number n e.0 ∙ (Decides-eqb e.0 n).1 (keyed_head e es keyed ∙ only e.1 (inl refl) same)))) (λ apart. apart) (cases_Bool (same_dot e.1.tx.dot d)))))
           ∙ ap (λ l. stamped d s e.1 ∷ l) (rest is)
 
-  -- where nothing is found, none has the dot
-  none_with_dot : (es : List (ℕ × Logged)) → IsKeyed es → OnlyAt d n (values_of es) → lookup (is_at (nat_cmp n)) es ≡ None → (x : Logged) → In x (values_of es) → same_dot x.tx.dot d ≡ true → ⊥
-  none_with_dot es keyed only is x i same = lost_at n es x keyed is i (only x i same)
-
-  pub has_dot_none : (es : List (ℕ × Logged)) → IsKeyed es → OnlyAt d n (values_of es) → lookup (is_at (nat_cmp n)) es ≡ None → false ≡ has_dot d (values_of es)
-  has_dot_none es keyed only is = sym (finds_none (λ x. same_dot x.tx.dot d) (values_of es) (none_with_dot es keyed only is))
-
   pub stamped_none : (es : List (ℕ × Logged)) → IsKeyed es → OnlyAt d n (values_of es) → lookup (is_at (nat_cmp n)) es ≡ None → values_of es ≡ with_stamp d s (values_of es)
-  stamped_none es keyed only is = sym (stamps_none d s (values_of es) (none_with_dot es keyed only is))
+  stamped_none es keyed only is = sym (stamps_none d s (values_of es) (none_with_dot d n es keyed only is))

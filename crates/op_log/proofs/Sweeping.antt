@@ -1,53 +1,34 @@
--- Transactions that are taken out, and the chains that they leave.
-use Rattle.std.proofs.Common.{◌≡◌, ℕ, ◌+◌, ◌-◌, Bool, true, false, cond, inl, inr, ⊎_elim, Option, Some, None, List, [], ◌∷◌, ◌++◌, length, refl, sym, ap, ◌∙◌, subst, arith}
-use Rattle.std.specs.Prelude.{◌||◌, ◌&&◌, ◌==◌, not, filter, Vec}
+-- Chains that the operations of some transactions are taken out of.
+use Rattle.std.proofs.Common.{◌≡◌, ◌≤◌, ◌<◌, ℕ, zero, suc, ◌+◌, ltb, Bool, true, false, cond, ◌⊎◌, inl, inr, ⊎_elim, List, [], ◌∷◌, ◌++◌, length, get_or, refl, sym, ap, ◌∙◌, subst, arith}
+use Rattle.std.specs.Prelude.{◌&&◌, ◌==◌, not, filter, Vec}
+use Rattle.std.specs.Bool.{OnFalse}
 use Rattle.std.specs.List.{list_any}
-use Rattle.std.specs.Map.{lookup, keys_of, values_of}
-use Rattle.std.specs.Map.Calls.{RetainsPairs}
-use Rattle.std.specs.List.Sorted.{IsStrictlySortedBy}
-use Rattle.std.specs.Cmp.{eq_by_cmp_equiv}
-use Rattle.std.proofs.lemmas.Map.Keys.{IsDistinct-from_sorted}
 use Rattle.std.specs.BTreeMap.{is_at}
-use Rattle.std.proofs.lemmas.Bool.{cases_Bool, false≢true, and_parts, and_from}
+use Rattle.std.proofs.lemmas.Bool.{cases_Bool, cases_lt, false≢true, and_parts, and_from, or_parts, eq-eqb, ltb-true, ltb-false}
 use Rattle.std.proofs.lemmas.Bool.Decides.{Decides-eqb}
-use Rattle.std.proofs.lemmas.Option.{same_Some}
-use Rattle.std.proofs.lemmas.List.Filters.{length-filter_both}
-use Rattle.std.proofs.lemmas.Map.Entries.{length-values_of, lookup-filter-values, option_filter}
-use Rattle.std.proofs.lemmas.List.Elements.{filter-append, All-filter}
+use Rattle.std.proofs.lemmas.List.Elements.{filter-append}
+use Rattle.std.specs.List.Sorted.{IsPartitionPoint, IsPartitionedBy}
+use Rattle.std.proofs.lemmas.List.Sorted.{IsPartitionedBy-ltb}
+use Rattle.std.proofs.lemmas.Option.{slice_get_within, get_or_from_slice_get, slice_get-get_or, same_Some}
 use Rattle.list_core.specs.Members.{In}
-use Rattle.list_core.proofs.Members.{In_from_filter}
+use Rattle.list_core.proofs.Gets.{In_get}
+use Rattle.list_core.proofs.Members.{In_either, In_from_filter, In_flat_map, filter_all}
 use Rattle.ids_core.specs.declared.ids.Dot.{Dot}
 use Rattle.ids_core.specs.declared.object.ObjectId.{ObjectId}
-use Rattle.ids_core.specs.Ids.{same_dot, same_object}
-use Rattle.ids_core.specs.Same.{same_dot-true}
-use Rattle.ids_core.specs.Orders.{dot_cmp, object_cmp, object_cmp_total}
+use Rattle.ids_core.specs.Ids.{same_object}
+use Rattle.ids_core.specs.Same.{same_object-true, same_object-same}
+use Rattle.ids_core.specs.Orders.{object_cmp, same_object-by_cmp}
 use Rattle.tx_core.specs.declared.tx.Update.{Update}
 use Rattle.op_log.specs.declared.chains.Cell.{Cell}
 use Rattle.op_log.specs.declared.logged.Logged.{Logged}
-use Rattle.op_log.specs.Logs.{cell, cells_from, cells_of, chain_of, is_inside, is_inside_at, within_of, left_of}
-use Rattle.op_log.specs.Tables.{chain_items, listed, stays, has_items, is_gone, Rises, Names, IsLog}
-use Rattle.op_log.proofs.Items.{finds_none, found_none, rises_one, rises_filter}
+use Rattle.op_log.specs.declared.places.Place.{Place}
+use Rattle.op_log.specs.Logs.{cell, cells_from, cells_of, chain_of, is_inside, is_inside_at, left_of}
+use Rattle.op_log.specs.Places.{reached_of, IsPlaced}
+use Rattle.op_log.specs.Tables.{listed, stays, Rises, Ascends, Lacks, HasCell, IsSwept, MaySwept}
+use Rattle.op_log.proofs.Items.{finds_none, found_none, found_some, get_or_In, rises_one, rises_filter}
+use Rattle.op_log.proofs.Reaching.{reached_inside}
 
--- ---- lists
-
--- a filter by the values is one of the values
-pub values_of-filter : {K X : Type 0} (p : X → Bool) (es : List (K × X)) → values_of (filter (λ e. p e.1) es) ≡ filter p (values_of es)
-values_of-filter p [] = refl
-values_of-filter {K} {X} p (e ∷ es) = go (p e.1) (values_of-filter p es)
-  where
-    go : (b : Bool) → values_of (filter (λ e. p e.1) es) ≡ filter p (values_of es) → values_of (cond b (e ∷ filter (λ e. p e.1) es) (filter (λ e. p e.1) es)) ≡ cond b (e.1 ∷ filter p (values_of es)) (filter p (values_of es))
-    go true rest = ap (λ l. e.1 ∷ l) rest
-    go false rest = rest
-
--- how many are not left
-pub left_count : (w : List ℕ) (es fs : List (ℕ × Logged)) → fs ≡ filter (λ e. not (is_inside w e.1)) es → length es - length fs ≡ length (within_of w (values_of es))
-left_count w es fs is =
-    let both = length-filter_both (is_inside w) (λ x. not (is_inside w x)) (λ _. refl) (values_of es) in
-    let all = length-values_of es in
-    let left = sym (length-values_of fs) ∙ ap (λ l. length (values_of l)) is ∙ ap length (values_of-filter (λ x. not (is_inside w x)) es) in
-    omega (arith, both, all, left)
-
--- ---- chains
+-- ---- what stays of a chain
 
 -- the operations of a transaction stay together, or go together
 cells_filter : (keeps : ℕ → Bool) (o : ObjectId) (number rank : ℕ) (dot : Dot) (place : ℕ) (us : List Update) → filter (λ c. keeps c.tx) (cells_from o number rank dot place us) ≡ cond (keeps number) (cells_from o number rank dot place us) []
@@ -95,92 +76,169 @@ chain_left w o items (x ∷ part) rises within =
     by true rest = rest
     by false rest = ap (λ l. cells_of o x ++ l) rest
 
--- the chains after all are swept
+-- what stays of a whole chain
 pub swept_chain : (w : List ℕ) (o : ObjectId) (items : List Logged) → Rises items → filter (stays w items) (chain_of o items) ≡ chain_of o (left_of w items)
 swept_chain w o items rises = chain_left w o items items rises (λ x i. i)
 
-module _ {A F : Type 0} where
-  -- a pass over all chains, which leaves of each what passes, takes those out that do not pass
-  pub each_swept : (T : F → ObjectId → Vec Cell A → Bool → Vec Cell A → F → Type 0) (keeps : Cell → Bool) (f : F) → ((k : ObjectId) (v : Vec Cell A) (b : Bool) (w : Vec Cell A) (g : F) → T f k v b w g → (b ≡ true) × (w.items ≡ filter keeps v.items) × (g ≡ f)) → (es kept : List (ObjectId × Vec Cell A)) → RetainsPairs T f es kept → (o : ObjectId) → listed kept o ≡ filter keeps (listed es o)
-  each_swept T keeps f says [] kept is o = ap (λ l. listed l o) is
-  each_swept T keeps f says (e ∷ es) kept (b, w, g, rest, t, more, is) o =
-      let said = says e.0 e.1 b w g t in
-      let all : kept ≡ (e.0, w) ∷ rest = is ∙ ap (λ b. cond b ((e.0, w) ∷ rest) rest) said.0 in
-      ap (λ l. listed l o) all ∙ by (is_at (object_cmp o) e.0) said.1 (each_swept T keeps f says es rest (subst (λ g. RetainsPairs T g es rest) said.2 more) o)
+-- what is left stays
+left_again : (w : List ℕ) (items : List Logged) → left_of w (left_of w items) ≡ left_of w items
+left_again w items = filter_all (λ x. not (is_inside w x)) (left_of w items) (λ x i. (In_from_filter (λ x. not (is_inside w x)) items x i).1)
+
+-- and of a chain that was swept all stays
+swept_again : (w : List ℕ) (o : ObjectId) (items : List Logged) → Rises items → filter (stays w items) (chain_of o (left_of w items)) ≡ chain_of o (left_of w items)
+swept_again w o items rises = chain_left w o items (left_of w items) rises (λ x i. (In_from_filter (λ x. not (is_inside w x)) items x i).0) ∙ ap (chain_of o) (left_again w items)
+
+-- ---- the numbers of a chain do not fall
+
+-- the operations of a transaction have its number
+number_of_cell : (o : ObjectId) (number rank : ℕ) (dot : Dot) (place : ℕ) (us : List Update) (c : Cell) → In c (cells_from o number rank dot place us) → c.tx ≡ number
+number_of_cell o number rank dot place [] c i = absurd i
+number_of_cell o number rank dot place (u ∷ us) c i = go (same_object u.object o) (number_of_cell o number rank dot (place + 1) us c) i
+  where
+    go : (b : Bool) → (In c (cells_from o number rank dot (place + 1) us) → c.tx ≡ number) → In c (cond b (cell number rank dot place u.op ∷ cells_from o number rank dot (place + 1) us) (cells_from o number rank dot (place + 1) us)) → c.tx ≡ number
+    go true rest (inl same) = ap (λ (c : Cell). c.tx) same
+    go true rest (inr j) = rest j
+    go false rest j = rest j
+
+-- operations of one number do not fall, and stand before those of no less numbers
+ascends_before : (number : ℕ) (cells chain : List Cell) → ((c : Cell) → In c cells → c.tx ≡ number) → ((c : Cell) → In c chain → number ≤ c.tx) → Ascends chain → Ascends (cells ++ chain)
+ascends_before number [] chain own above ascends = ascends
+ascends_before number (c ∷ cells) chain own above ascends = (
+  λ d i. let here = own c (inl refl) in ⊎_elim (λ j. let there = own d (inr j) in omega (arith, here, there)) (λ j. let there = above d j in omega (arith, here, there)) (In_either cells chain d i),
+  ascends_before number cells chain (λ d i. own d (inr i)) above ascends,
+)
+
+-- an operation of a chain is of a transaction
+cell_from : (o : ObjectId) (items : List Logged) (c : Cell) → In c (chain_of o items) → (x : Logged) × In x items × (c.tx ≡ x.number)
+cell_from o [] c i = absurd i
+cell_from o (x ∷ items) c i = ⊎_elim (λ j. (x, inl refl, number_of_cell o x.number x.tx.rank x.tx.dot 0 x.tx.updates c j)) (λ j. let r = cell_from o items c j in (r.0, inr r.1, r.2)) (In_either (cells_of o x) (chain_of o items) c i)
+
+chain_ascends : (o : ObjectId) (items : List Logged) → Rises items → Ascends (chain_of o items)
+chain_ascends o [] rises = tt
+chain_ascends o (x ∷ items) rises = ascends_before x.number (cells_of o x) (chain_of o items) (λ c i. number_of_cell o x.number x.tx.rank x.tx.dot 0 x.tx.updates c i) (λ c i. let r = cell_from o items c i in let lt = rises.0 r.0 r.1 in let same = r.2 in omega (arith, lt, same)) (chain_ascends o items rises.1)
+
+-- whole or swept, it ascends
+pub may_ascends : {A : Type 0} (w : List ℕ) (items : List Logged) (chains : List (ObjectId × Vec Cell A)) (o : ObjectId) → Rises items → MaySwept w items chains → Ascends (listed chains o)
+may_ascends w items chains o rises may = ⊎_elim
+    (λ whole. subst Ascends (sym whole) (chain_ascends o items rises))
+    (λ swept. subst Ascends (sym swept) (chain_ascends o (left_of w items) (rises_filter (λ x. not (is_inside w x)) items rises)))
+    (may o)
+
+-- in a list that ascends, no number before is greater
+pub ascends_at : (chain : List Cell) → Ascends chain → (i j : ℕ) (d : Cell) → i ≤ j → j < length chain → (get_or chain i d).tx ≤ (get_or chain j d).tx
+ascends_at [] ascends i j d le lt = absurd (omega (arith, lt))
+ascends_at (c ∷ chain) ascends zero zero d le lt = omega arith
+ascends_at (c ∷ chain) ascends zero (suc j) d le lt = ascends.0 (get_or chain j d) (get_or_In chain j d (omega (arith, lt)))
+ascends_at (c ∷ chain) ascends (suc i) zero d le lt = absurd (omega (arith, le))
+ascends_at (c ∷ chain) ascends (suc i) (suc j) d le lt = ascends_at chain ascends.1 i j d (omega (arith, le)) (omega (arith, lt))
+
+-- where the numbers before a place are less, and that at it is greater, none is the number
+pub lacks_past : (chain : List Cell) (n i : ℕ) → Ascends chain → IsPartitionPoint (λ (c : Cell). ltb c.tx n ≡ true) (λ c. ltb c.tx n ≡ false) chain i → ((d : Cell) → i < length chain → (get_or chain i d).tx ≡ n → ⊥) → Lacks n chain
+lacks_past chain n i ascends point other c there same =
+    let g = In_get chain c there in
+    let k = g.0 in
+    let lt = slice_get_within chain k c g.1 in
+    let is : get_or chain k c ≡ c = get_or_from_slice_get chain k c c g.1 in
+    ⊎_elim
+    (λ below. let low = ltb-true (get_or chain k c).tx n (point.0 k c (omega arith) below) in let here : (get_or chain k c).tx ≡ n = ap (λ (c : Cell). c.tx) is ∙ same in omega (arith, low, here))
+    (λ from.
+    let up = ascends_at chain ascends i k c from lt in
+    let here : (get_or chain k c).tx ≡ n = ap (λ (c : Cell). c.tx) is ∙ same in
+    let small : i < length chain = omega (arith, from, lt) in
+    let low = ltb-false (get_or chain i c).tx n (point.1 i c (omega arith) small) in
+    other c small (omega (arith, up, here, low)))
+    (cases_lt k i)
+
+-- so none is where what stands at the place is not of the number
+pub lacks_there : (chain : List Cell) (n i : ℕ) (d : Cell) → Ascends chain → IsPartitionPoint (λ (c : Cell). ltb c.tx n ≡ true) (λ c. ltb c.tx n ≡ false) chain i → i < length chain → OnFalse ((get_or chain i d).tx == n) (Lacks n chain)
+lacks_there chain n i d ascends point small = by ((get_or chain i d).tx == n) refl
+  where
+    by : (b : Bool) → ((get_or chain i d).tx == n) ≡ b → OnFalse b (Lacks n chain)
+    by true is = tt
+    by false is = lacks_past chain n i ascends point (λ e lt same. false≢true (sym is ∙ eq-eqb (get_or chain i d).tx n (ap (λ (c : Cell). c.tx) (same_Some (get_or chain i d) (get_or chain i e) (sym (slice_get-get_or chain i d lt) ∙ slice_get-get_or chain i e lt)) ∙ same)))
+
+-- what partition_point asks
+pub parted_by : (chain : List Cell) (n : ℕ) → Ascends chain → IsPartitionedBy (λ (c : Cell). ltb c.tx n) chain
+parted_by chain n ascends = IsPartitionedBy-ltb (λ (c : Cell). c.tx) chain n (λ i j d le lt. ascends_at chain ascends i j d le lt)
+
+-- ---- an update's operation stands in the chain of its object
+
+cell_there : (number rank : ℕ) (dot : Dot) (place : ℕ) (us : List Update) (u : Update) → In u us → (c : Cell) × In c (cells_from u.object number rank dot place us) × (c.tx ≡ number)
+cell_there number rank dot place [] u i = absurd i
+cell_there number rank dot place (v ∷ us) u i = go (same_object v.object u.object) refl i (λ j. cell_there number rank dot (place + 1) us u j)
+  where
+    rest : List Cell
+    rest = cells_from u.object number rank dot (place + 1) us
+
+    go : (b : Bool) → same_object v.object u.object ≡ b → In u (v ∷ us) → (In u us → (c : Cell) × In c rest × (c.tx ≡ number)) → (c : Cell) × In c (cond b (cell number rank dot place v.op ∷ rest) rest) × (c.tx ≡ number)
+    go true same j later = (cell number rank dot place v.op, inl refl, refl)
+    go false other (inl here) later = absurd (false≢true (sym other ∙ same_object-same v.object u.object (ap (λ (u : Update). u.object) (sym here))))
+    go false other (inr j) later = later j
+
+pub has_cell : (items : List Logged) (x : Logged) (u : Update) → In x items → In u x.tx.updates → HasCell items u.object x.number
+has_cell items x u i j =
+    let c = cell_there x.number x.tx.rank x.tx.dot 0 x.tx.updates u j in
+    record { cell = c.0; there = In_flat_map (cells_of u.object) items x c.0 i c.1; is = c.2 }
+
+-- ---- one chain after another
+
+module _ {A : Type 0} (w : List ℕ) (items : List Logged) (rises : Rises items) where
+  -- after a chain was swept, or left where it has no operation of the number, it is swept
+  pub at_swept : (before after : List (ObjectId × Vec Cell A)) (o : ObjectId) (number : ℕ) → MaySwept w items before → HasCell items o number → (listed after o ≡ filter (stays w items) (listed before o)) ⊎ ((listed after o ≡ listed before o) × Lacks number (listed before o)) → IsSwept w items after o
+  at_swept before after o number may has either = ⊎_elim (λ swept. swept ∙ by (may o)) (λ same. same.0 ∙ old (may o) same.1) either
     where
-      by : (at : Bool) → w.items ≡ filter keeps e.1.items → listed rest o ≡ filter keeps (listed es o) → chain_items (cond at (Some w) (lookup (is_at (object_cmp o)) rest)) ≡ filter keeps (chain_items (cond at (Some e.1) (lookup (is_at (object_cmp o)) es)))
-      by true here later = here
-      by false here later = later
+      by : (listed before o ≡ chain_of o items) ⊎ IsSwept w items before o → filter (stays w items) (listed before o) ≡ chain_of o (left_of w items)
+      by (inl whole) = ap (filter (stays w items)) whole ∙ swept_chain w o items rises
+      by (inr swept) = ap (filter (stays w items)) swept ∙ swept_again w o items rises
 
--- a list without an operation
-no_items : (l : List Cell) → has_items l ≡ false → [] ≡ l
-no_items [] none = refl
-no_items (x ∷ l) none = absurd (by (length (x ∷ l) == 0) refl none)
+      old : (listed before o ≡ chain_of o items) ⊎ IsSwept w items before o → Lacks number (listed before o) → IsSwept w items before o
+      old (inl whole) lacks = absurd (lacks has.cell (subst (λ l. In has.cell l) (sym whole) has.there) has.is)
+      old (inr swept) lacks = swept
+
+  -- the chains of other objects are as they were
+  pub at_others : (before after : List (ObjectId × Vec Cell A)) (o : ObjectId) → IsSwept w items after o → ((q : ObjectId) → is_at (object_cmp o) q ≡ false → listed after q ≡ listed before q) → (q : ObjectId) → (listed after q ≡ listed before q) ⊎ IsSwept w items after q
+  at_others before after o swept apart q = ⊎_elim (λ here. inr (subst (λ q. IsSwept w items after q) (same_object-true o q (same_object-by_cmp o q ∙ here)) swept)) (λ other. inl (apart q other)) (cases_Bool (is_at (object_cmp o) q))
+
+  pub may_after : (before after : List (ObjectId × Vec Cell A)) → MaySwept w items before → ((q : ObjectId) → (listed after q ≡ listed before q) ⊎ IsSwept w items after q) → MaySwept w items after
+  may_after before after may each q = ⊎_elim (λ same. ⊎_elim (λ whole. inl (same ∙ whole)) (λ swept. inr (same ∙ swept)) (may q)) (λ swept. inr swept) (each q)
+
+  pub kept_after : (before after : List (ObjectId × Vec Cell A)) → ((q : ObjectId) → (listed after q ≡ listed before q) ⊎ IsSwept w items after q) → (q : ObjectId) → IsSwept w items before q → IsSwept w items after q
+  kept_after before after each q swept = ⊎_elim (λ same. same ∙ swept) (λ now. now) (each q)
+
+-- ---- all chains
+
+-- the chain of an object that no transaction with a stamp within the vector has an update on is left whole
+whole_left : (w : List ℕ) (o : ObjectId) (items : List Logged) → ((x : Logged) → In x items → is_inside w x ≡ true → cells_of o x ≡ []) → chain_of o items ≡ chain_of o (left_of w items)
+whole_left w o [] none = refl
+whole_left w o (x ∷ items) none = go (is_inside w x) refl (whole_left w o items (λ y i. none y (inr i)))
   where
-    by : (b : Bool) → (length (x ∷ l) == 0) ≡ b → not b ≡ false → ⊥
-    by true is none = let zero : length (x ∷ l) ≡ 0 = (Decides-eqb (length (x ∷ l)) 0).0 is in omega (arith, zero)
-    by false is none = false≢true (sym none)
+    go : (b : Bool) → is_inside w x ≡ b → chain_of o items ≡ chain_of o (left_of w items) → cells_of o x ++ chain_of o items ≡ chain_of o (cond (not b) (x ∷ left_of w items) (left_of w items))
+    go true is rest = ap (λ l. l ++ chain_of o items) (none x (inl refl) is) ∙ rest
+    go false is rest = ap (λ l. cells_of o x ++ l) rest
 
--- the chains without an operation are taken away
-pub cleared_all : {A : Type 0} (es kept : List (ObjectId × Vec Cell A)) → kept ≡ filter (λ e. has_items e.1.items) es → IsStrictlySortedBy object_cmp (keys_of es) → (o : ObjectId) → listed kept o ≡ listed es o
-cleared_all {A} es kept is sorted o =
-    ap (λ l. listed l o) is
-    ∙ ap chain_items (lookup-filter-values (eq_by_cmp_equiv object_cmp_total) (λ (v : Vec Cell A). has_items v.items) o es (IsDistinct-from_sorted object_cmp (keys_of es) sorted))
-    ∙ by (lookup (is_at (object_cmp o)) es)
+-- where no update is on the object, it has no operation there
+no_cells : (o : ObjectId) (number rank : ℕ) (dot : Dot) (place : ℕ) (us : List Update) → list_any (λ u. same_object u.object o) us ≡ false → cells_from o number rank dot place us ≡ []
+no_cells o number rank dot place [] none = refl
+no_cells o number rank dot place (u ∷ us) none =
+    let parts = or_parts (same_object u.object o) (list_any (λ u. same_object u.object o) us) none in
+    ap (λ b. cond b (cell number rank dot place u.op ∷ cells_from o number rank dot (place + 1) us) (cells_from o number rank dot (place + 1) us)) parts.0 ∙ no_cells o number rank dot (place + 1) us parts.1
+
+-- once the chains of all updates of what is reached are swept, all are
+pub all_swept : {A : Type 0} (w : List ℕ) (items : List Logged) (places : List Place) (chains : List (ObjectId × Vec Cell A)) → IsPlaced places items → MaySwept w items chains → ((centre : ℕ) → centre ≤ length w → (p : Place) → In p (reached_of w centre places) → (x : Logged) → In x items → x.number ≡ p.number → (u : Update) → In u x.tx.updates → IsSwept w items chains u.object) → (o : ObjectId) → IsSwept w items chains o
+all_swept w items places chains placed may each o = go (may o)
   where
-    one : (v : Vec Cell A) (b : Bool) → has_items v.items ≡ b → chain_items (cond b (Some v) None) ≡ v.items
-    one v true is = refl
-    one v false is = no_items v.items is
+    touches : Logged → Bool
+    touches x = is_inside w x && list_any (λ u. same_object u.object o) x.tx.updates
 
-    by : (r : Option (Vec Cell A)) → chain_items (option_filter (λ (v : Vec Cell A). has_items v.items) r) ≡ chain_items r
-    by None = refl
-    by (Some v) = one v (has_items v.items) refl
+    by : listed chains o ≡ chain_of o items → (b : Bool) → list_any touches items ≡ b → IsSwept w items chains o
+    by whole true some =
+        let f = found_some touches items some in
+        let parts = and_parts (is_inside w f.0) (list_any (λ u. same_object u.object o) f.0.tx.updates) f.2 in
+        let u = found_some (λ (u : Update). same_object u.object o) f.0.tx.updates parts.1 in
+        let r = reached_inside w items places f.0 placed f.1 parts.0 in
+        subst (λ o. IsSwept w items chains o) (same_object-true u.0.object o u.2) (each r.centre r.small r.place r.there f.0 f.1 (sym r.is) u.0 u.1)
+    by whole false none = whole ∙ whole_left w o items (λ x i pass. no_cells o x.number x.tx.rank x.tx.dot 0 x.tx.updates (sym (ap (λ t. t && list_any (λ u. same_object u.object o) x.tx.updates) pass) ∙ found_none touches items x none i))
 
--- ---- dots
-
--- one that is left has another dot than those that go
-left_named : (w : List ℕ) (ds : List (Dot × ℕ)) (items : List Logged) (x : Logged) → Rises items → Names ds items → In x items → is_inside w x ≡ false → is_gone w x.tx.dot items ≡ false
-left_named w ds items x rises names i out = finds_none (λ y. is_inside w y && same_dot y.tx.dot x.tx.dot) items (λ y j both.
-    let parts = and_parts (is_inside w y) (same_dot y.tx.dot x.tx.dot) both in
-    let number = same_Some y.number x.number (sym (names y j) ∙ ap (λ d. lookup (is_at (dot_cmp d)) ds) (same_dot-true y.tx.dot x.tx.dot parts.1) ∙ names x i) in
-    false≢true (sym out ∙ ap (is_inside w) (sym (rises_one items y x rises j i number)) ∙ parts.0))
-
--- one more is passed over, or its dot is forgotten
-pub gone_rest : (w : List ℕ) (d : Dot) (x : Logged) (rest s : List Logged) → s ≡ x ∷ rest → is_gone w d s ≡ false → is_gone w d rest ≡ false
-gone_rest w d x rest s is none = by (is_inside w x && same_dot x.tx.dot d) (ap (is_gone w d) (sym is) ∙ none)
-  where
-    by : (b : Bool) → (b || is_gone w d rest) ≡ false → is_gone w d rest ≡ false
-    by true none = absurd (false≢true (sym none))
-    by false none = none
-
-pub gone_first : (w : List ℕ) (d : Dot) (x : Logged) (rest s : List Logged) → s ≡ x ∷ rest → true ≡ is_inside w x → is_gone w d s ≡ false → same_dot x.tx.dot d ≡ false
-gone_first w d x rest s is pass none = by (same_dot x.tx.dot d) (ap (λ b. (b && same_dot x.tx.dot d) || is_gone w d rest) pass ∙ ap (is_gone w d) (sym is) ∙ none)
-  where
-    by : (b : Bool) → (b || is_gone w d rest) ≡ false → b ≡ false
-    by true none = none
-    by false none = refl
-
--- ---- all that is kept
-
-module _ {A : Type 0} where
-  -- the transactions without a stamp within the vector are left
-  pub log_left : (n : ℕ) (w : List ℕ) (es fs : List (ℕ × Logged)) (ds gs : List (Dot × ℕ)) (cs hs : List (ObjectId × Vec Cell A)) → IsLog n es ds cs → fs ≡ filter (λ e. not (is_inside w e.1)) es → ((d : Dot) → is_gone w d (values_of es) ≡ false → lookup (is_at (dot_cmp d)) gs ≡ lookup (is_at (dot_cmp d)) ds) → ((o : ObjectId) → listed hs o ≡ filter (stays w (values_of es)) (listed cs o)) → IsLog n fs gs hs
-  log_left n w es fs ds gs cs hs log is names finds = subst (λ fs. IsLog n fs gs hs) (sym is) (record {
-    keyed = All-filter (λ e. not (is_inside w e.1)) (λ e. e.0 ≡ e.1.number) es log.keyed;
-    below = λ x i. log.below x (from x i).0;
-    rises = subst (λ l. Rises l) (sym values) (rises_filter (λ x. not (is_inside w x)) (values_of es) log.rises);
-    names = λ x i. let f = from x i in names x.tx.dot (left_named w ds (values_of es) x log.rises log.names f.0 (out (is_inside w x) f.1)) ∙ log.names x f.0;
-    finds = λ o. finds o ∙ ap (filter (stays w (values_of es))) (log.finds o) ∙ swept_chain w o (values_of es) log.rises ∙ ap (chain_of o) (sym values);
-    fits = λ x i. log.fits x (from x i).0;
-    few = λ x i. log.few x (from x i).0;
-  })
-    where
-      values : values_of (filter (λ e. not (is_inside w e.1)) es) ≡ left_of w (values_of es)
-      values = values_of-filter (λ x. not (is_inside w x)) es
-
-      from : (x : Logged) → In x (values_of (filter (λ e. not (is_inside w e.1)) es)) → In x (values_of es) × (not (is_inside w x) ≡ true)
-      from x i = In_from_filter (λ x. not (is_inside w x)) (values_of es) x (subst (λ l. In x l) values i)
-
-      out : (b : Bool) → not b ≡ true → b ≡ false
-      out true is = sym is
-      out false is = refl
+    go : (listed chains o ≡ chain_of o items) ⊎ IsSwept w items chains o → IsSwept w items chains o
+    go (inl whole) = by whole (list_any touches items) refl
+    go (inr swept) = swept

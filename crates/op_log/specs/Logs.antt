@@ -1,17 +1,17 @@
 -- The log: a list of transactions, each with the number of its append and all stamps that it has, in the
 -- order of the appends. What the calls of the log answer is defined on that list alone.
-use Rattle.std.specs.Prelude.{ℕ, ◌+◌, Bool, false, ◌||◌, ◌&&◌, ◌==◌, not, max, cond, List, [], ◌∷◌, ◌++◌, map, filter, flat_map}
+use Rattle.std.specs.Prelude.{ℕ, ◌+◌, Bool, ◌&&◌, ◌==◌, not, max, cond, List, [], ◌∷◌, ◌++◌, map, filter, flat_map}
 use Rattle.std.specs.List.{list_any}
 use Rattle.ids_core.specs.declared.ids.Dot.{Dot}
-use Rattle.ids_core.specs.declared.ids.Mark.{Mark}
 use Rattle.ids_core.specs.declared.object.ObjectId.{ObjectId}
 use Rattle.ids_core.specs.Ids.{same_dot, same_object}
 use Rattle.vv_core.specs.declared.stamp.Stamp.{Stamp}
-use Rattle.vv_core.specs.Vectors.{within}
+use Rattle.vv_core.specs.Stamps.{is_any_within}
 use Rattle.tx_core.specs.declared.op.Op.{Op}
 use Rattle.tx_core.specs.declared.tx.Tx.{Tx}
 use Rattle.tx_core.specs.declared.tx.Update.{Update}
 use Rattle.tx_core.specs.declared.tx.Record.{Record}
+use Rattle.tx_core.specs.Operations.{mark}
 use Rattle.op_log.specs.declared.chains.Cell.{Cell}
 use Rattle.op_log.specs.declared.logged.Logged.{Logged}
 
@@ -21,10 +21,6 @@ pub record LogView : Type 0 where
   pub items : List Logged
 
 -- ---- one transaction
-
--- the mark of the update at a place of a transaction
-abbrev pub mark : ℕ → Dot → ℕ → Mark
-mark rank dot place = record { rank = rank; id = record { dot = dot; place = place } }
 
 -- the operation of the update at a place of the transaction of a number
 abbrev pub cell : ℕ → ℕ → Dot → ℕ → Op → Cell
@@ -42,11 +38,6 @@ cells_in o number tx = cells_from o number tx.rank tx.dot 0 tx.updates
 -- the operations on the object in a transaction of the log
 abbrev pub cells_of : ObjectId → Logged → List Cell
 cells_of o x = cells_in o x.number x.tx
-
--- whether one of the stamps is within the vector
-abbrev pub is_any_within : List ℕ → List Stamp → Bool
-is_any_within w [] = false
-is_any_within w (s ∷ stamps) = within s w || is_any_within w stamps
 
 -- whether one of its stamps is within the vector
 abbrev pub is_inside : List ℕ → Logged → Bool

@@ -1,6 +1,7 @@
 -- What the log keeps so that it is not searched.
-use Rattle.std.specs.Prelude.{◌≡◌, ◌≤◌, ◌<◌, ◌^◌, ℕ, Bool, ◌&&◌, ◌==◌, not, List, [], ◌∷◌, Option, Some, None, All, length, Vec, count_by}
-use Rattle.std.specs.List.{list_any}
+use Rattle.std.specs.Prelude.{◌≡◌, ◌≤◌, ◌<◌, ◌^◌, ◌⊎◌, ℕ, Bool, ◌&&◌, ◌==◌, not, List, [], ◌∷◌, Option, Some, None, All, length, Vec, count_by}
+use Rattle.std.specs.List.{list_any, filter_map}
+use Rattle.std.specs.Ordering.{nat_cmp}
 use Rattle.std.specs.Map.{lookup, values_of}
 use Rattle.std.specs.BTreeMap.{is_at}
 use Rattle.list_core.specs.Members.{In}
@@ -12,7 +13,9 @@ use Rattle.ids_core.specs.Orders.{dot_cmp, object_cmp}
 use Rattle.tx_core.specs.declared.tx.Update.{Update}
 use Rattle.op_log.specs.declared.chains.Cell.{Cell}
 use Rattle.op_log.specs.declared.logged.Logged.{Logged}
-use Rattle.op_log.specs.Logs.{is_inside, is_inside_at, chain_of}
+use Rattle.op_log.specs.declared.places.Place.{Place}
+use Rattle.op_log.specs.Logs.{is_inside, is_inside_at, chain_of, left_of}
+use Rattle.op_log.specs.Places.{IsPlaced, HasFitNumbers}
 
 -- the operations of a chain, none where there is no chain
 abbrev pub chain_items : {A : Type 0} → Option (Vec Cell A) → List Cell
@@ -40,6 +43,10 @@ Rises (x ∷ items) = ((y : Logged) → In y items → x.number < y.number) × R
 abbrev pub IsKeyed : List (ℕ × Logged) → Type 0
 IsKeyed slots = All (λ e. e.0 ≡ e.1.number) slots
 
+-- the transactions that are found at the numbers
+abbrev pub found_of : List (ℕ × Logged) → List ℕ → List Logged
+found_of slots numbers = filter_map (λ n. lookup (is_at (nat_cmp n)) slots) numbers
+
 -- each transaction is found by its dot
 abbrev pub Names : List (Dot × ℕ) → List Logged → Type 0
 Names dots items = (x : Logged) → In x items → lookup (is_at (dot_cmp x.tx.dot)) dots ≡ Some x.number
@@ -56,20 +63,45 @@ is_own_inside w d number items = list_any (λ x. (x.number == number) && (same_d
 abbrev pub stays : List ℕ → List Logged → Cell → Bool
 stays w items c = not (is_inside_at w c.tx items)
 
--- whether the list has an operation
-abbrev pub has_items : List Cell → Bool
-has_items chain = not (length chain == 0)
+-- the numbers of the operations' transactions do not fall
+abbrev pub Ascends : List Cell → Type 0
+Ascends [] = Unit {0}
+Ascends (c ∷ chain) = ((d : Cell) → In d chain → c.tx ≤ d.tx) × Ascends chain
 
--- whether a transaction with a stamp within the vector has the dot
-abbrev pub is_gone : List ℕ → Dot → List Logged → Bool
-is_gone w d items = list_any (λ x. is_inside w x && same_dot x.tx.dot d) items
+-- no operation is of the transaction of the number
+abbrev pub Lacks : ℕ → List Cell → Type 0
+Lacks number chain = (c : Cell) → In c chain → c.tx ≡ number → ⊥
 
--- all that is kept is as it is for the transactions
-pub record IsLog {A : Type 0} (appended : ℕ) (slots : List (ℕ × Logged)) (dots : List (Dot × ℕ)) (chains : List (ObjectId × Vec Cell A)) : Type 0 where
+-- an operation on the object is of the transaction of the number
+pub record HasCell (items : List Logged) (o : ObjectId) (number : ℕ) : Type 0 where
+  pub cell : Cell
+  pub there : In cell (chain_of o items)
+  pub is : cell.tx ≡ number
+
+-- the chain of the object has what it is to have once the transactions with a stamp within the vector are gone
+abbrev pub IsSwept : {A : Type 0} → List ℕ → List Logged → List (ObjectId × Vec Cell A) → ObjectId → Type 0
+IsSwept w items chains o = listed chains o ≡ chain_of o (left_of w items)
+
+-- so has each chain, or it is whole
+abbrev pub MaySwept : {A : Type 0} → List ℕ → List Logged → List (ObjectId × Vec Cell A) → Type 0
+MaySwept w items chains = (o : ObjectId) → (listed chains o ≡ chain_of o items) ⊎ IsSwept w items chains o
+
+-- what was swept is so later
+abbrev pub StaysSwept : {A : Type 0} → List ℕ → List Logged → List (ObjectId × Vec Cell A) → List (ObjectId × Vec Cell A) → Type 0
+StaysSwept w items chains later = (o : ObjectId) → IsSwept w items chains o → IsSwept w items later o
+
+-- the transactions, their dots and their places stand for one another
+pub record IsTable (slots : List (ℕ × Logged)) (dots : List (Dot × ℕ)) (places : List Place) : Type 0 where
   pub keyed : IsKeyed slots
-  pub below : (x : Logged) → In x (values_of slots) → x.number < appended
   pub rises : Rises (values_of slots)
   pub names : Names dots (values_of slots)
+  pub placed : IsPlaced places (values_of slots)
+  pub fit : HasFitNumbers places
+
+-- all that is kept is as it is for the transactions
+pub record IsLog {A : Type 0} (appended : ℕ) (slots : List (ℕ × Logged)) (dots : List (Dot × ℕ)) (chains : List (ObjectId × Vec Cell A)) (places : List Place) : Type 0 where
+  pub table : IsTable slots dots places
+  pub below : (x : Logged) → In x (values_of slots) → x.number < appended
   pub finds : Finds chains (values_of slots)
   pub fits : HasFits (values_of slots)
   pub few : (x : Logged) → In x (values_of slots) → length x.tx.updates ≤ MOST_UPDATES

@@ -95,7 +95,7 @@ fn drop_last_at(chains: &mut Chains, object: &ObjectId)
 }
 
 // Takes the chain of an object away, where it has no operation.
-fn clear_at(chains: &mut Chains, object: &ObjectId)
+pub(crate) fn clear_at(chains: &mut Chains, object: &ObjectId)
     ensures { (o : ObjectId) → listed chains.new.entries o ≡ listed chains.old.entries o }
 {
     let empty = match chains.get(object) {

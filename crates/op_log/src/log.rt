@@ -6,12 +6,16 @@ ghost use Rattle.op_log.specs.Logs.{chain_of, is_inside_at, mine_in, within_of, 
 use crate::chains::{Cell, Chains, chain_at};
 use crate::dots::{Dots, mine_of, name};
 use crate::logged::Logged;
-use crate::slots::{Slots, add_at, copies_within, is_inside_at, keep};
-use crate::sweep::{sweep_chains, sweep_dots, sweep_slots};
+use crate::places::Places;
+use crate::slots::{Slots, is_inside_at};
+use crate::stamps::{alias_at, keep_stamped};
+use crate::sweep::sweep_chains;
+use crate::take::take_all;
 use crate::turns::{put_tx, take_tx};
+use crate::within::copies_within;
 use ids_core::{Dot, NoMemory, ObjectId};
 use std::alloc::Global;
-use std::collections::BTreeMap;
+use std::collections::{BTreeMap, BTreeSet};
 use std::marker::Model;
 use tx_core::{Record, Tx};
 use vv_core::{Stamp, Vector};
@@ -25,6 +29,7 @@ pub struct Log {
     slots: Slots,
     dots: Dots,
     chains: Chains,
+    places: Places,
     alloc: Global,
 }
 
@@ -37,7 +42,7 @@ impl Model for Log {
 
     ghost view = { λ l. record { appended = l.appended; items = values_of l.slots.entries } };
 
-    ghost invariant = { λ l. IsLog l.appended l.slots.entries l.dots.entries l.chains.entries };
+    ghost invariant = { λ l. IsLog l.appended l.slots.entries l.dots.entries l.chains.entries l.places.keys };
 }
 
 impl Log {
@@ -50,6 +55,7 @@ impl Log {
             slots: BTreeMap::new(alloc),
             dots: BTreeMap::new(alloc),
             chains: BTreeMap::new(alloc),
+            places: BTreeSet::new(alloc),
             alloc,
         })
     }
@@ -70,7 +76,7 @@ impl Log {
         let x = Logged::of(self.alloc, number, item)?;
         name(&mut self.dots, &item.tx.dot, number)?;
         put_tx(&mut self.chains, self.alloc, number, &item.tx)?;
-        if keep(&mut self.slots, x).is_err() {
+        if keep_stamped(&mut self.slots, &mut self.places, x, &item.stamp).is_err() {
             take_tx(&mut self.chains, &item.tx);
             return Err(NoMemory);
         }
@@ -86,7 +92,7 @@ impl Log {
         ensures err { OnErr result (self.new ≡ self.old) }
     {
         match self.dots.get(dot) {
-            Some(number) => add_at(&mut self.slots, *number, dot, stamp),
+            Some(number) => alias_at(&mut self.slots, &mut self.places, *number, dot, stamp),
             None => Ok(false),
         }
     }
@@ -116,7 +122,7 @@ impl Log {
     pub fn within(&self, base: &Vector) -> Result<Vec<Tx>, NoMemory>
         ensures { IfOk result (λ txs. txs.items ≡ map (λ x. x.tx) (within_of base.now self.now.items)) }
     {
-        copies_within(self.alloc, &self.slots, base)
+        copies_within(self.alloc, &self.slots, &self.places, base)
     }
 
     /// Takes the transactions with a stamp within the vector out, and says how many they were. None of
@@ -125,8 +131,7 @@ impl Log {
         ensures count { result ≡ length (within_of base.now self.old.items) }
         ensures left { self.new ≡ record self.old { items = left_of base.now self.old.items } }
     {
-        sweep_chains(&mut self.chains, &self.slots, base);
-        sweep_dots(&mut self.dots, &self.slots, base);
-        sweep_slots(&mut self.slots, base)
+        sweep_chains(&mut self.chains, &self.slots, &self.places, base);
+        take_all(&mut self.slots, &mut self.dots, &mut self.places, base)
     }
 }

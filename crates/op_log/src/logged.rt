@@ -1,7 +1,8 @@
 // A transaction in the log.
-ghost use Rattle.std.specs.Prelude.{◌≡◌, ◌++◌, ◌∷◌, [], not, IfOk, OnOk, OnErr};
-ghost use Rattle.vv_core.specs.Vectors.{within};
-ghost use Rattle.op_log.specs.Logs.{is_any_within, is_inside, first_of, with_one};
+ghost use Rattle.std.specs.Prelude.{◌≡◌, ◌++◌, ◌∷◌, [], IfOk, OnOk, OnErr};
+ghost use Rattle.vv_core.specs.Vectors.{at, within};
+ghost use Rattle.vv_core.specs.Stamps.{is_any_within};
+ghost use Rattle.op_log.specs.Logs.{is_inside, first_of, with_one};
 
 use ids_core::NoMemory;
 use list_core::List;
@@ -39,13 +40,6 @@ impl Logged {
         is_any_within(self.stamps.as_slice(), at)
     }
 
-    /// Whether none of its stamps is within the vector.
-    pub(crate) fn is_left(&self, at: &Vector) -> bool
-        ensures { result ≡ not (is_inside at.now self.now) }
-    {
-        !self.is_inside(at)
-    }
-
     /// One stamp more. An `Err` leaves all as it was.
     pub(crate) fn add(&mut self, stamp: &Stamp) -> Result<(), NoMemory>
         ensures ok { OnOk result (self.new ≡ with_one stamp.now self.old) }
@@ -68,12 +62,20 @@ fn is_any_within(stamps: &[Stamp], at: &Vector) -> bool
     false
 }
 
-// Whether the stamp is within the vector, which has 0 for a centre that it has no entry of.
+// Whether the stamp is within the vector.
 fn has(at: &Vector, stamp: &Stamp) -> bool
     ensures { result ≡ within stamp.now at.now }
 {
-    if stamp.centre < 1 || at.width() < stamp.centre {
-        return stamp.seq == 0;
+    stamp.seq <= entry(at, stamp.centre)
+}
+
+// The entry of a centre, 0 where the vector has none.
+pub(crate) fn entry(vector: &Vector, centre: u8) -> u64
+    ensures { result ≡ at vector.now centre }
+{
+    if centre < 1 || vector.width() < centre {
+        0
+    } else {
+        vector.get(centre)
     }
-    at.has(stamp)
 }

@@ -1,17 +1,15 @@
 // The transactions in the log, found by their numbers.
-ghost use Rattle.std.specs.Prelude.{◌≡◌, ◌&&◌, ◌<◌, ◌++◌, ◌∷◌, [], map, true, All, IfOk, OnOk, OnErr, length};
+ghost use Rattle.std.specs.Prelude.{◌≡◌, ◌&&◌, ◌<◌, ◌++◌, ◌∷◌, [], true, All, IfOk, OnOk, OnErr};
 ghost use Rattle.std.specs.Map.{values_of};
 ghost use Rattle.list_core.specs.Members.{In};
 ghost use Rattle.ids_core.specs.Ids.{same_dot};
 ghost use Rattle.op_log.specs.declared.logged.Logged.{Logged};
-ghost use Rattle.op_log.specs.Logs.{is_inside, is_inside_at, within_of, has_dot, stamped, with_stamp};
+ghost use Rattle.op_log.specs.Logs.{is_inside, is_inside_at, has_dot, stamped, with_stamp};
 ghost use Rattle.op_log.specs.Tables.{Rises, IsKeyed, is_own_inside};
 
 use crate::logged::Logged;
 use ids_core::{Dot, NoMemory};
-use std::alloc::Global;
 use std::collections::BTreeMap;
-use tx_core::Tx;
 use vv_core::{Stamp, Vector};
 
 /// The transactions in the log by their numbers.
@@ -58,6 +56,19 @@ fn has_inside(x: &Logged, dot: &Dot, at: &Vector) -> bool
     x.tx.dot == *dot && x.is_inside(at)
 }
 
+// Whether the transaction of a number has the dot, which no other one has.
+pub(crate) fn is_named(slots: &Slots, number: u64, dot: &Dot) -> bool
+    requires keyed { IsKeyed slots.now.entries }
+    requires rises { Rises (values_of slots.now.entries) }
+    requires one { (x : Logged) → In x (values_of slots.now.entries) → same_dot x.tx.dot dot.now ≡ true → x.number ≡ number }
+    ensures { result ≡ has_dot dot.now (values_of slots.now.entries) }
+{
+    match slots.get(&number) {
+        Some(x) => x.tx.dot == *dot,
+        None => false,
+    }
+}
+
 // Adds a stamp to the transaction of a number, if it has the dot: whether it has. No other transaction
 // has it. An `Err` leaves all as it was.
 pub(crate) fn add_at(
@@ -93,21 +104,4 @@ fn add_if(x: &mut Logged, dot: &Dot, stamp: &Stamp) -> Result<bool, NoMemory>
     } else {
         Ok(false)
     }
-}
-
-// Copies of the transactions with a stamp within the vector.
-pub(crate) fn copies_within(
-    alloc: Global,
-    slots: &Slots,
-    base: &Vector,
-) -> Result<Vec<Tx>, NoMemory>
-    ensures { IfOk result (λ txs. txs.items ≡ map (λ x. x.tx) (within_of base.now (values_of slots.now.entries))) }
-{
-    let mut txs = Vec::new(alloc);
-    for x in slots.values() {
-        if x.is_inside(base) {
-            txs.push(x.tx.copy()?)?;
-        }
-    }
-    Ok(txs)
 }

@@ -1,59 +1,144 @@
-// The transactions with a stamp within a vector, taken out of what is kept.
-ghost use Rattle.std.specs.Prelude.{◌≡◌, ◌++◌, ◌+◌, not, true, false, filter, All, length};
-ghost use Rattle.std.specs.Map.{lookup, values_of};
+// The operations of transactions with a stamp within a vector, taken out of the chains.
+ghost use Rattle.std.specs.Prelude.{◌≡◌, ◌⊎◌, false, filter};
+ghost use Rattle.std.specs.Bool.{OnFalse};
+ghost use Rattle.std.specs.Map.{values_of};
 ghost use Rattle.std.specs.BTreeMap.{is_at};
-ghost use Rattle.ids_core.specs.declared.ids.Dot.{Dot};
+ghost use Rattle.list_core.specs.Members.{In};
 ghost use Rattle.ids_core.specs.declared.object.ObjectId.{ObjectId};
-ghost use Rattle.ids_core.specs.Orders.{dot_cmp};
-ghost use Rattle.op_log.specs.Logs.{is_inside, within_of};
-ghost use Rattle.op_log.specs.Tables.{listed, stays, has_items, is_gone, Rises, IsKeyed};
+ghost use Rattle.ids_core.specs.Orders.{object_cmp};
+ghost use Rattle.vv_core.specs.Vectors.{at};
+ghost use Rattle.tx_core.specs.declared.tx.Update.{Update as UpdateOf};
+ghost use Rattle.op_log.specs.declared.logged.Logged.{Logged};
+ghost use Rattle.op_log.specs.declared.places.Place.{Place as PlaceOf};
+ghost use Rattle.op_log.specs.Places.{IsPlaced, HasFitNumbers, reached_of};
+ghost use Rattle.op_log.specs.Tables.{listed, stays, Rises, IsKeyed, Finds, Ascends, Lacks, HasCell, IsSwept, MaySwept, StaysSwept};
 
-use crate::chains::{Cell, Chain, Chains};
-use crate::dots::{Dots, forget};
+use crate::chains::{Cell, Chain, Chains, clear_at};
+use crate::logged::entry;
+use crate::places::{Places, reached};
 use crate::slots::{Slots, is_inside_at};
+use ids_core::ObjectId;
+use tx_core::Update;
 use vv_core::Vector;
 
 // Takes the operations of the transactions with a stamp within the vector out of the chains, and the
-// chains away that have none left: one pass over all chains for each.
-pub(crate) fn sweep_chains(chains: &mut Chains, slots: &Slots, base: &Vector)
+// chains away that have none left. A chain that none of these transactions touched is not looked at.
+pub(crate) fn sweep_chains(chains: &mut Chains, slots: &Slots, places: &Places, base: &Vector)
     requires keyed { IsKeyed slots.now.entries }
     requires rises { Rises (values_of slots.now.entries) }
-    ensures { (o : ObjectId) → listed chains.new.entries o ≡ filter (stays base.now (values_of slots.now.entries)) (listed chains.old.entries o) }
+    requires placed { IsPlaced places.now.keys (values_of slots.now.entries) }
+    requires fit { HasFitNumbers places.now.keys }
+    requires finds { Finds chains.old.entries (values_of slots.now.entries) }
+    ensures { (o : ObjectId) → IsSwept base.now (values_of slots.now.entries) chains.new.entries o }
 {
-    sweep_each(chains, slots, base);
-    clear_all(chains);
+    for centre in 0..base.width() + 1 {
+        sweep_centre(chains, slots, places, centre, base);
+    }
 }
 
-fn sweep_each(chains: &mut Chains, slots: &Slots, base: &Vector)
+// The same for the stamps of one centre.
+fn sweep_centre(chains: &mut Chains, slots: &Slots, places: &Places, centre: u8, base: &Vector)
     requires keyed { IsKeyed slots.now.entries }
     requires rises { Rises (values_of slots.now.entries) }
-    ensures { (o : ObjectId) → listed chains.new.entries o ≡ filter (stays base.now (values_of slots.now.entries)) (listed chains.old.entries o) }
+    requires fit { HasFitNumbers places.now.keys }
+    requires may { MaySwept base.now (values_of slots.now.entries) chains.old.entries }
+    ensures may { MaySwept base.now (values_of slots.now.entries) chains.new.entries }
+    ensures kept { StaysSwept base.now (values_of slots.now.entries) chains.old.entries chains.new.entries }
+    ensures swept { (p : PlaceOf) → In p (reached_of base.now centre places.now.keys) → (x : Logged) → In x (values_of slots.now.entries) → x.number ≡ p.number → (u : UpdateOf) → In u x.tx.updates → IsSwept base.now (values_of slots.now.entries) chains.new.entries u.object }
 {
-    chains.retain(|_object, chain| sweep_chain(chain, slots, base));
+    for place in reached(places, centre, entry(base, centre)) {
+        sweep_number(chains, slots, place.number, base);
+    }
 }
 
-fn clear_all(chains: &mut Chains)
-    ensures { (o : ObjectId) → listed chains.new.entries o ≡ listed chains.old.entries o }
-{
-    chains.retain(|_object, chain| has_some(chain));
-}
-
-// The same of one chain. The answer is always `true`.
-fn sweep_chain(chain: &mut Chain, slots: &Slots, base: &Vector) -> bool
+// Sweeps the chains that the transaction of a number touched.
+fn sweep_number(chains: &mut Chains, slots: &Slots, number: u64, base: &Vector)
     requires keyed { IsKeyed slots.now.entries }
     requires rises { Rises (values_of slots.now.entries) }
-    ensures always { result ≡ true }
-    ensures left { chain.new.items ≡ filter (stays base.now (values_of slots.now.entries)) chain.old.items }
+    requires may { MaySwept base.now (values_of slots.now.entries) chains.old.entries }
+    ensures may { MaySwept base.now (values_of slots.now.entries) chains.new.entries }
+    ensures kept { StaysSwept base.now (values_of slots.now.entries) chains.old.entries chains.new.entries }
+    ensures swept { (x : Logged) → In x (values_of slots.now.entries) → x.number ≡ number → (u : UpdateOf) → In u x.tx.updates → IsSwept base.now (values_of slots.now.entries) chains.new.entries u.object }
+{
+    if let Some(x) = slots.get(&number) {
+        sweep_updates(chains, slots, number, x.tx.updates.as_slice(), base);
+    }
+}
+
+// Sweeps the chains of the objects of updates of the transaction of a number.
+fn sweep_updates(chains: &mut Chains, slots: &Slots, number: u64, updates: &[Update], base: &Vector)
+    requires keyed { IsKeyed slots.now.entries }
+    requires rises { Rises (values_of slots.now.entries) }
+    requires may { MaySwept base.now (values_of slots.now.entries) chains.old.entries }
+    requires has { (u : UpdateOf) → In u updates.now → HasCell (values_of slots.now.entries) u.object number }
+    ensures may { MaySwept base.now (values_of slots.now.entries) chains.new.entries }
+    ensures kept { StaysSwept base.now (values_of slots.now.entries) chains.old.entries chains.new.entries }
+    ensures swept { (u : UpdateOf) → In u updates.now → IsSwept base.now (values_of slots.now.entries) chains.new.entries u.object }
+{
+    for update in updates {
+        sweep_at(chains, slots, &update.object, number, base);
+    }
+}
+
+// Sweeps the chain of an object, which the transaction of a number touched.
+fn sweep_at(chains: &mut Chains, slots: &Slots, object: &ObjectId, number: u64, base: &Vector)
+    requires keyed { IsKeyed slots.now.entries }
+    requires rises { Rises (values_of slots.now.entries) }
+    requires may { MaySwept base.now (values_of slots.now.entries) chains.old.entries }
+    requires has { HasCell (values_of slots.now.entries) object.now number }
+    ensures may { MaySwept base.now (values_of slots.now.entries) chains.new.entries }
+    ensures kept { StaysSwept base.now (values_of slots.now.entries) chains.old.entries chains.new.entries }
+    ensures swept { IsSwept base.now (values_of slots.now.entries) chains.new.entries object.now }
+{
+    sweep_found(chains, slots, object, number, base);
+    clear_at(chains, object);
+}
+
+// Leaves of the chain of an object what stays, or all where it has no operation of the number's transaction.
+fn sweep_found(chains: &mut Chains, slots: &Slots, object: &ObjectId, number: u64, base: &Vector)
+    requires keyed { IsKeyed slots.now.entries }
+    requires rises { Rises (values_of slots.now.entries) }
+    requires ascends { Ascends (listed chains.old.entries object.now) }
+    ensures there { (listed chains.new.entries object.now ≡ filter (stays base.now (values_of slots.now.entries)) (listed chains.old.entries object.now)) ⊎ ((listed chains.new.entries object.now ≡ listed chains.old.entries object.now) × Lacks number (listed chains.old.entries object.now)) }
+    ensures apart { (o : ObjectId) → is_at (object_cmp object.now) o ≡ false → listed chains.new.entries o ≡ listed chains.old.entries o }
+{
+    if let Some(chain) = chains.get_mut(object) {
+        sweep_chain(chain, slots, number, base);
+    }
+}
+
+// The same of one chain. That it has the number is told by a search, so a chain that was swept before is
+// not walked again.
+fn sweep_chain(chain: &mut Chain, slots: &Slots, number: u64, base: &Vector)
+    requires keyed { IsKeyed slots.now.entries }
+    requires rises { Rises (values_of slots.now.entries) }
+    requires ascends { Ascends chain.old.items }
+    ensures { (chain.new.items ≡ filter (stays base.now (values_of slots.now.entries)) chain.old.items) ⊎ ((chain.new.items ≡ chain.old.items) × Lacks number chain.old.items) }
+{
+    if has_number(chain.as_slice(), number) {
+        leave(chain, slots, base);
+    }
+}
+
+fn leave(chain: &mut Chain, slots: &Slots, base: &Vector)
+    requires keyed { IsKeyed slots.now.entries }
+    requires rises { Rises (values_of slots.now.entries) }
+    ensures { chain.new.items ≡ filter (stays base.now (values_of slots.now.entries)) chain.old.items }
 {
     chain.retain(|cell| stays(slots, cell, base));
-    true
 }
 
-// Whether a chain has an operation.
-fn has_some(chain: &Chain) -> bool
-    ensures { result ≡ has_items chain.now.items }
+// Whether an operation is of the transaction of the number. Their numbers do not fall.
+fn has_number(chain: &[Cell], number: u64) -> bool
+    requires { Ascends chain.now }
+    ensures { OnFalse result (Lacks number chain.now) }
 {
-    !chain.is_empty()
+    let before = chain.partition_point(|cell| cell.tx < number);
+    if before < chain.len() {
+        chain[before].tx == number
+    } else {
+        false
+    }
 }
 
 // Whether an operation is of a transaction without a stamp within the vector.
@@ -63,25 +148,4 @@ fn stays(slots: &Slots, cell: &Cell, base: &Vector) -> bool
     ensures { result ≡ stays base.now (values_of slots.now.entries) cell.now }
 {
     !is_inside_at(slots, cell.tx, base)
-}
-
-// Forgets the dots of the transactions with a stamp within the vector.
-pub(crate) fn sweep_dots(dots: &mut Dots, slots: &Slots, base: &Vector)
-    ensures { (d : Dot) → is_gone base.now d (values_of slots.now.entries) ≡ false → lookup (is_at (dot_cmp d)) dots.new.entries ≡ lookup (is_at (dot_cmp d)) dots.old.entries }
-{
-    for x in slots.values() {
-        if x.is_inside(base) {
-            forget(dots, &x.tx.dot);
-        }
-    }
-}
-
-// Lets go of the transactions with a stamp within the vector: how many.
-pub(crate) fn sweep_slots(slots: &mut Slots, base: &Vector) -> u64
-    ensures count { result ≡ length (within_of base.now (values_of slots.old.entries)) }
-    ensures left { slots.new.entries ≡ filter (λ e. not (is_inside base.now e.1)) slots.old.entries }
-{
-    let before = slots.len();
-    slots.retain(|_number, x| x.is_left(base));
-    (before - slots.len()) as u64
 }

@@ -6,22 +6,18 @@ use Rattle.std.proofs.lemmas.Bool.{eqb-true, eq-eqb, false_from_ne_true}
 use Rattle.std.proofs.lemmas.List.{map-append}
 use Rattle.std.proofs.lemmas.List.Elements.{filter-append}
 use Rattle.list_core.specs.Members.{In}
-use Rattle.list_core.proofs.Apart.{Apart}
+use Rattle.list_core.specs.Apart.{Apart}
+use Rattle.list_core.proofs.Members.{filter_all, filter_none}
 use Rattle.ids_core.specs.declared.ids.Dot.{Dot}
 use Rattle.ids_core.specs.declared.object.ObjectId.{ObjectId}
 use Rattle.ids_core.specs.Ids.{same_object}
 use Rattle.tx_core.specs.declared.tx.Update.{Update}
+use Rattle.tx_core.specs.Operations.{mark, ops_from, ops_of}
 use Rattle.op_log.specs.declared.chains.Cell.{Cell}
 use Rattle.op_log.specs.declared.logged.Logged.{Logged}
 use Rattle.op_log.specs.Logs.{cell, cells_from, cells_of, chain_of, is_inside, is_inside_at, mine_in}
-use Rattle.check_point.specs.Operations.{mark, ops_from, ops_of, greatest}
-use Rattle.check_point.proofs.Orders.{filter_all}
+use Rattle.check_point.specs.Operations.{greatest}
 use Rattle.point_law.specs.LogSplits.{txs_of, ops_in}
-
--- where none passes a test, none is left
-filter_none : {X : Type 0} (test : X → Bool) (xs : List X) → ((x : X) → In x xs → test x ≡ false) → filter test xs ≡ []
-filter_none test [] none = refl
-filter_none test (x ∷ xs) none = ap (λ b. cond b (x ∷ filter test xs) (filter test xs)) (none x (inl refl)) ∙ filter_none test xs (λ y i. none y (inr i))
 
 -- ---- the operations of a chain
 

@@ -5,41 +5,20 @@ use Rattle.std.proofs.lemmas.Bool.{cases_Bool, false≢true, not-true}
 use Rattle.std.proofs.lemmas.List.{append_assoc, append-nil, map-append}
 use Rattle.std.proofs.lemmas.List.Elements.{filter-append}
 use Rattle.list_core.specs.Members.{In}
-use Rattle.list_core.specs.Permutations.{Perm, Done, Skip, Swap, Then}
+use Rattle.list_core.specs.Permutations.{Perm, Done, Then}
 use Rattle.list_core.proofs.Members.{In_either, In_more, In_map, In_from_map, In_from_filter}
-use Rattle.list_core.proofs.Blocks.{same_order, turned_order, from_front}
+use Rattle.list_core.proofs.Permutations.{both_ways}
+use Rattle.list_core.proofs.Blocks.{behind, ahead}
 use Rattle.ids_core.specs.declared.ids.Dot.{Dot}
 use Rattle.vv_core.specs.Vectors.{within, Covers}
 use Rattle.tx_core.specs.declared.tx.Tx.{Tx}
 use Rattle.tx_core.specs.declared.tx.Record.{Record}
 use Rattle.dc_talk.specs.Records.{has, inside, firsts}
-use Rattle.point_law.specs.Splits.{first_txs, dots_of, is_inside, IsSplit}
-use Rattle.point_law.proofs.Dots.{has_In, In_has}
+use Rattle.dc_talk.specs.Dots.{dots_of}
+use Rattle.dc_talk.proofs.Dots.{has_In, In_has}
+use Rattle.dc_talk.proofs.Firsts.{firsts_more}
+use Rattle.point_law.specs.Splits.{first_txs, is_inside, IsSplit}
 use Rattle.point_law.proofs.Inside.{inside_grows}
-use Rattle.point_law.proofs.Firsts.{firsts_more}
-
--- ---- orders
-
--- another order, with the same behind it
-ahead : {X : Type 0} (xs ys zs : List X) → Perm xs ys → Perm (xs ++ zs) (ys ++ zs)
-ahead _ _ zs Done = same_order zs
-ahead _ _ zs (Skip x xs ys p) = Skip x (xs ++ zs) (ys ++ zs) (ahead xs ys zs p)
-ahead _ _ zs (Swap x y xs) = Swap x y (xs ++ zs)
-ahead _ _ zs (Then xs ys ws p q) = Then _ _ _ (ahead xs ys zs p) (ahead ys ws zs q)
-
--- and with the same before it
-behind : {X : Type 0} (xs ys zs : List X) → Perm ys zs → Perm (xs ++ ys) (xs ++ zs)
-behind [] ys zs p = p
-behind (x ∷ xs) ys zs p = Skip x (xs ++ ys) (xs ++ zs) (behind xs ys zs p)
-
--- those that pass a test, with those that do not
-both_ways : {X : Type 0} (test : X → Bool) (xs : List X) → Perm (filter test xs ++ filter (λ x. not (test x)) xs) xs
-both_ways test [] = Done
-both_ways {X} test (x ∷ xs) = go (test x) (both_ways test xs)
-  where
-    go : (b : Bool) → Perm (filter test xs ++ filter (λ x. not (test x)) xs) xs → Perm (cond b (x ∷ filter test xs) (filter test xs) ++ cond (not b) (x ∷ filter (λ x. not (test x)) xs) (filter (λ x. not (test x)) xs)) (x ∷ xs)
-    go true rest = Skip x _ _ rest
-    go false rest = Then _ _ _ (turned_order _ _ (from_front x (filter test xs) (filter (λ x. not (test x)) xs))) (Skip x _ _ rest)
 
 -- ---- one record more
 

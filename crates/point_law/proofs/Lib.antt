@@ -1,9 +1,6 @@
-pub mod Dots
 pub mod Inside
 pub mod Splits
-pub mod Firsts
 pub mod Growth
-pub mod Stamps
 pub mod Chains
 pub mod LogSplits
 pub mod LogGrowth

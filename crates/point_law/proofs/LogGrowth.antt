@@ -4,10 +4,11 @@ use Rattle.std.specs.Prelude.{filter, not}
 use Rattle.std.proofs.lemmas.Bool.{false≢true, false_from_ne_true}
 use Rattle.std.proofs.lemmas.List.{append-nil, map-append}
 use Rattle.list_core.specs.Members.{In}
-use Rattle.list_core.proofs.Apart.{Apart, apart_append, apart_filter}
+use Rattle.list_core.proofs.Apart.{apart_append, apart_filter}
 use Rattle.list_core.proofs.Permutations.{perm_in}
 use Rattle.list_core.proofs.Members.{In_right, In_more, In_map, In_from_map, In_from_filter, filter-agree}
 use Rattle.list_core.proofs.Images.{filter-map}
+use Rattle.list_core.specs.Apart.{Apart}
 use Rattle.ids_core.specs.declared.ids.Dot.{Dot}
 use Rattle.ids_core.specs.Ids.{same_dot}
 use Rattle.ids_core.specs.Same.{same_dot-true, same_dot-same}
@@ -16,32 +17,19 @@ use Rattle.vv_core.specs.Vectors.{within, Covers}
 use Rattle.tx_core.specs.declared.tx.Tx.{Tx}
 use Rattle.tx_core.specs.declared.tx.Record.{Record}
 use Rattle.dc_talk.specs.Records.{has, firsts}
+use Rattle.dc_talk.specs.Dots.{dots_of, stamps_of}
+use Rattle.dc_talk.proofs.Dots.{In_has}
 use Rattle.dc_talk.proofs.Firsts.{firsts_in}
+use Rattle.dc_talk.proofs.Stamps.{stamps_more, stamps_none}
 use Rattle.op_log.specs.declared.logged.Logged.{Logged}
 use Rattle.op_log.specs.Logs as log
-use Rattle.point_law.specs.Splits.{first_txs, dots_of, is_inside, IsSplit}
-use Rattle.point_law.specs.LogSplits.{txs_of, stamps_of, IsLogSplit}
-use Rattle.point_law.proofs.Dots.{In_has}
+use Rattle.op_log.proofs.Items.{stamped_number, stamped_tx}
+use Rattle.point_law.specs.Splits.{first_txs, is_inside, IsSplit}
+use Rattle.point_law.specs.LogSplits.{txs_of, IsLogSplit}
 use Rattle.point_law.proofs.Growth.{split_none, split_first, split_again, split_on}
 use Rattle.point_law.proofs.LogSplits.{inside_both, txs_inside}
-use Rattle.point_law.proofs.Stamps.{stamps_more, stamps_none}
 
 -- ---- one stamp more
-
--- the transaction and the number stay
-stamped_tx : (d : Dot) (s : Stamp) (x : Logged) → (log.stamped d s x).tx ≡ x.tx
-stamped_tx d s x = at (same_dot x.tx.dot d)
-  where
-    at : (b : Bool) → (cond b (log.with_one s x) x).tx ≡ x.tx
-    at true = refl
-    at false = refl
-
-stamped_number : (d : Dot) (s : Stamp) (x : Logged) → (log.stamped d s x).number ≡ x.number
-stamped_number d s x = at (same_dot x.tx.dot d)
-  where
-    at : (b : Bool) → (cond b (log.with_one s x) x).number ≡ x.number
-    at true = refl
-    at false = refl
 
 stamped_txs : (d : Dot) (s : Stamp) (items : List Logged) → txs_of (log.with_stamp d s items) ≡ txs_of items
 stamped_txs d s [] = refl

@@ -7,24 +7,26 @@ use Rattle.list_core.proofs.Members.{filter-agree}
 use Rattle.list_core.proofs.Images.{filter-map}
 use Rattle.ids_core.specs.declared.object.ObjectId.{ObjectId}
 use Rattle.vv_core.specs.Vectors.{Covers}
+use Rattle.vv_core.specs.Stamps.{is_any_within}
 use Rattle.tx_core.specs.declared.tx.Tx.{Tx}
 use Rattle.tx_core.specs.declared.tx.Record.{Record}
 use Rattle.tx_core.specs.States.{fold_of}
+use Rattle.tx_core.specs.Operations.{ops_of}
 use Rattle.dc_talk.specs.Records.{inside, mine}
 use Rattle.dc_talk.specs.Objects.{state_at}
+use Rattle.dc_talk.proofs.Stamps.{any_inside}
 use Rattle.op_log.specs.declared.logged.Logged.{Logged}
 use Rattle.op_log.specs.Logs as log
-use Rattle.check_point.specs.Operations.{ops_of, state_after, greatest}
+use Rattle.check_point.specs.Operations.{state_after, greatest}
 use Rattle.point_law.specs.Splits.{first_txs, is_inside}
 use Rattle.point_law.specs.LogSplits.{txs_of, ops_in, IsLogSplit}
 use Rattle.point_law.proofs.Splits.{state_of_split, mine_of_split, count_of_split}
-use Rattle.point_law.proofs.Stamps.{any_inside}
 use Rattle.point_law.proofs.Chains.{chain_inside, mine_inside}
 
 module _ (A : List Record) (base : List ℕ) (folded : List Tx) (kept : log.LogView) (split : IsLogSplit A base folded kept) where
   -- what is inside a vector by its stamps in the log is so by the records
   pub inside_both : (x : Logged) → In x kept.items → (w : List ℕ) → log.is_inside w x ≡ is_inside A w x.tx
-  inside_both x i w = ap (log.is_any_within w) (split.stamps x i) ∙ any_inside w x.tx.dot A
+  inside_both x i w = ap (is_any_within w) (split.stamps x i) ∙ any_inside w x.tx.dot A
 
   -- the transactions of the log that are inside a vector, by their stamps there
   pub txs_inside : (w : List ℕ) → txs_of (filter (log.is_inside w) kept.items) ≡ filter (is_inside A w) (txs_of kept.items)

@@ -7,10 +7,11 @@ use Rattle.vv_core.specs.Vectors.{Covers}
 use Rattle.tx_core.specs.declared.tx.Tx.{Tx}
 use Rattle.tx_core.specs.declared.tx.Record.{Record}
 use Rattle.tx_core.specs.States.{fold_of}
+use Rattle.tx_core.specs.Operations.{ops_of}
 use Rattle.dc_talk.specs.Records.{inside, firsts, mine}
 use Rattle.dc_talk.specs.Objects.{state_at}
 use Rattle.dc_talk.proofs.Firsts.{firsts_apart}
-use Rattle.check_point.specs.Operations.{ops_of, state_after, greatest}
+use Rattle.check_point.specs.Operations.{state_after, greatest}
 use Rattle.check_point.specs.Partings.{IsParting}
 use Rattle.check_point.proofs.Partings.{state_of_parting, number_of_parting, count_of_parting}
 use Rattle.point_law.specs.Splits.{first_txs, is_inside, IsSplit}

@@ -9,12 +9,13 @@ use Rattle.tx_core.specs.declared.tx.Tx.{Tx}
 use Rattle.tx_core.specs.declared.tx.Record.{Record}
 use Rattle.tx_core.specs.States.{fold_of}
 use Rattle.dc_talk.specs.Records.{has, inside, mine}
+use Rattle.dc_talk.specs.Dots.{dots_of, stamps_of}
 use Rattle.dc_talk.specs.Objects.{state_at}
 use Rattle.op_log.specs.declared.logged.Logged.{Logged}
 use Rattle.op_log.specs.Logs as log
 use Rattle.check_point.specs.Points.{PointView, IsPointOf}
-use Rattle.point_law.specs.Splits.{first_txs, dots_of, is_inside}
-use Rattle.point_law.specs.LogSplits.{stamps_of, txs_of, ops_in}
+use Rattle.point_law.specs.Splits.{first_txs, is_inside}
+use Rattle.point_law.specs.LogSplits.{txs_of, ops_in}
 use Rattle.point_law.specs.StandFor.{StandFor, state_told, mine_told, count_told, with_one}
 use Rattle.point_law.proofs.LogSplits.{state_of_log, mine_of_log, count_of_log}
 use Rattle.point_law.proofs.LogGrowth.{log_from, log_none, log_new, log_first, log_again, log_on}

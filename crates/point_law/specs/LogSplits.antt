@@ -1,22 +1,16 @@
 -- A split of applied records whose kept ones stand in a log.
-use Rattle.std.specs.Prelude.{◌≡◌, ◌<◌, ℕ, List, map, filter}
+use Rattle.std.specs.Prelude.{◌≡◌, ◌<◌, ℕ, List, map}
 use Rattle.list_core.specs.Members.{In}
-use Rattle.list_core.proofs.Apart.{Apart}
-use Rattle.ids_core.specs.declared.ids.Dot.{Dot}
+use Rattle.list_core.specs.Apart.{Apart}
 use Rattle.ids_core.specs.declared.ids.Mark.{Mark}
-use Rattle.ids_core.specs.Ids.{same_dot}
-use Rattle.vv_core.specs.declared.stamp.Stamp.{Stamp}
 use Rattle.tx_core.specs.declared.op.Op.{Op}
 use Rattle.tx_core.specs.declared.tx.Tx.{Tx}
 use Rattle.tx_core.specs.declared.tx.Record.{Record}
 use Rattle.op_log.specs.declared.chains.Cell.{Cell}
 use Rattle.op_log.specs.declared.logged.Logged.{Logged}
 use Rattle.op_log.specs.Logs as log
+use Rattle.dc_talk.specs.Dots.{stamps_of}
 use Rattle.point_law.specs.Splits.{IsSplit}
-
--- the stamps of the dot, in the order of its records
-abbrev pub stamps_of : Dot → List Record → List Stamp
-stamps_of d A = map (λ r. r.stamp) (filter (λ r. same_dot r.tx.dot d) A)
 
 -- the transactions in a log
 abbrev pub txs_of : List Logged → List Tx

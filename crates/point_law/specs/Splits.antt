@@ -2,7 +2,6 @@
 use Rattle.std.specs.Prelude.{◌≡◌, ℕ, Bool, true, false, List, ◌++◌, map}
 use Rattle.list_core.specs.Members.{In}
 use Rattle.list_core.specs.Permutations.{Perm}
-use Rattle.ids_core.specs.declared.ids.Dot.{Dot}
 use Rattle.tx_core.specs.declared.tx.Tx.{Tx}
 use Rattle.tx_core.specs.declared.tx.Record.{Record}
 use Rattle.dc_talk.specs.Records.{has, inside, firsts}
@@ -10,10 +9,6 @@ use Rattle.dc_talk.specs.Records.{has, inside, firsts}
 -- the transactions of the records, each dot once, by its first record
 abbrev pub first_txs : List Record → List Tx
 first_txs A = map (λ r. r.tx) (firsts A)
-
--- the dots of the records
-abbrev pub dots_of : List Record → List Dot
-dots_of A = map (λ r. r.tx.dot) A
 
 -- whether the transaction has a stamp within the vector, after the records A
 abbrev pub is_inside : List Record → List ℕ → Tx → Bool

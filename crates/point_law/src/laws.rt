@@ -7,15 +7,17 @@ ghost use Rattle.vv_core.specs.Vectors.{within, Covers};
 ghost use Rattle.tx_core.specs.declared.tx.Tx.{Tx};
 ghost use Rattle.tx_core.specs.declared.tx.Record.{Record};
 ghost use Rattle.tx_core.specs.States.{fold_of};
+ghost use Rattle.tx_core.specs.Operations.{ops_of};
 ghost use Rattle.dc_talk.specs.Records.{has, inside, mine};
+ghost use Rattle.dc_talk.specs.Dots.{dots_of, stamps_of};
 ghost use Rattle.dc_talk.specs.Objects.{state_at};
-ghost use Rattle.check_point.specs.Operations.{ops_of, state_after, greatest};
+ghost use Rattle.check_point.specs.Operations.{state_after, greatest};
 ghost use Rattle.op_log.specs.declared.logged.Logged.{Logged};
 ghost use Rattle.op_log.specs.Logs.{LogView, chain_of, is_inside_at, mine_in, has_dot, with_record, with_stamp, within_of, left_of};
-ghost use Rattle.point_law.specs.LogSplits.{stamps_of, txs_of, ops_in};
+ghost use Rattle.point_law.specs.LogSplits.{txs_of, ops_in};
 ghost use Rattle.check_point.specs.Points.{PointView, IsPointOf, state_of, number_of};
 ghost use Rattle.point_law.specs.StandFor.{StandFor, state_told, mine_told, count_told, with_one};
-ghost use Rattle.point_law.specs.Splits.{first_txs, dots_of, is_inside, IsSplit};
+ghost use Rattle.point_law.specs.Splits.{first_txs, is_inside, IsSplit};
 
 /// Of applied records all that is within a base was folded, each dot once, by its first record, and the
 /// rest is kept, in whatever order. At a vector that covers the base, the kept transactions within it

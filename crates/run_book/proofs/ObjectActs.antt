@@ -11,8 +11,8 @@ use Rattle.ids_core.specs.declared.ids.Dot.{Dot}
 use Rattle.ids_core.specs.declared.object.ObjectId.{ObjectId}
 use Rattle.ids_core.specs.Ids.{same_object}
 use Rattle.tx_core.specs.declared.tx.Update.{Update}
+use Rattle.tx_core.specs.Operations.{mark}
 use Rattle.dc_talk.specs.Records.{has}
-use Rattle.dc_talk.specs.Objects.{mark}
 use Rattle.tx_graph.specs.declared.acts.BareAct.{BareAct}
 use Rattle.run_book.specs.declared.edits.Edit.{Edit}
 use Rattle.run_book.specs.declared.bare_nodes.BareNode.{BareNode}

@@ -5,7 +5,8 @@ use Rattle.std.specs.List.{cons_option}
 use Rattle.std.proofs.lemmas.Bool.{cases_eq}
 use Rattle.std.proofs.lemmas.List.{append-nil}
 use Rattle.std.proofs.lemmas.List.Elements.{All-cons, All-head, All-tail, All-weaker, All-filter, filter-append, filter_map-append}
-use Rattle.list_core.proofs.Members.{All-In, In-All}
+use Rattle.list_core.specs.Members.{In}
+use Rattle.list_core.proofs.Members.{All-In, In-All, filter_all, filter_none}
 use Rattle.dc_talk.specs.declared.log.Note.{Note}
 use Rattle.dc_talk.specs.Logs.{exchanged_in}
 use Rattle.run_book.specs.Parts.{reached}
@@ -90,24 +91,14 @@ behind_key clients key a note other is = go (up_to_either clients (by_actor a no
     go (inl x) = absurd (other (up_to_both clients (by_actor a note) key x is))
     go (inr x) = refl
 
--- all of what passes is kept
-filter_all : {X : Type 0} (p : X → Bool) (xs : List X) → All (λ x. p x ≡ true) xs → filter p xs ≡ xs
-filter_all p [] all = refl
-filter_all p (x ∷ xs) all = ap (λ b. cond b (x ∷ filter p xs) (filter p xs)) (All-head (λ x. p x ≡ true) x xs all) ∙ ap (λ l. x ∷ l) (filter_all p xs (All-tail (λ x. p x ≡ true) x xs all))
-
--- and nothing where none passes
-filter_none : {X : Type 0} (p : X → Bool) (xs : List X) → All (λ x. p x ≡ false) xs → filter p xs ≡ []
-filter_none p [] all = refl
-filter_none p (x ∷ xs) all = ap (λ b. cond b (x ∷ filter p xs) (filter p xs)) (All-head (λ x. p x ≡ false) x xs all) ∙ filter_none p xs (All-tail (λ x. p x ≡ false) x xs all)
-
 -- of the notes of another actor, those of the front of what happened in order come before the next of it, and so before
 -- what is as late
 pub front_notes : (clients : ℕ) (front : List Happened) (mid key : Happened) (back : List Happened) → IsUpTo clients mid key → IsUpTo clients key mid → InOrder clients (front ++ mid ∷ back) → (a : ℕ) → a ≢ mid.actor → a ≢ key.actor → filter (comes_before clients key a) (notes_by a (front ++ mid ∷ back)) ≡ notes_by a front
 front_notes clients front mid key back up down order a apart other =
     let r = round clients front mid back order in
     let parts : notes_by a (front ++ mid ∷ back) ≡ notes_by a front ++ notes_by a back = filter_map-append (note_by a) front (mid ∷ back) ∙ ap (λ o. notes_by a front ++ cons_option o (notes_by a back)) (other_note a mid (λ same. apart (sym same))) in
-    let early : All (λ note. comes_before clients key a note ≡ true) (notes_by a front) = In-All (λ note. comes_before clients key a note ≡ true) (notes_by a front) (λ note there. before_key clients key a note other (up_to_then clients (by_actor a note) mid key (All-In (λ g. IsUpTo clients g mid) front (by_actor a note) r.up_to (noted_In a front note there)) up)) in
-    let late : All (λ note. comes_before clients key a note ≡ false) (notes_by a back) = In-All (λ note. comes_before clients key a note ≡ false) (notes_by a back) (λ note there. behind_key clients key a note other (up_to_then clients key mid (by_actor a note) down (All-In (IsUpTo clients mid) back (by_actor a note) r.from (noted_In a back note there)))) in
+    let early : (note : Note) → In note (notes_by a front) → comes_before clients key a note ≡ true = λ note there. before_key clients key a note other (up_to_then clients (by_actor a note) mid key (All-In (λ g. IsUpTo clients g mid) front (by_actor a note) r.up_to (noted_In a front note there)) up) in
+    let late : (note : Note) → In note (notes_by a back) → comes_before clients key a note ≡ false = λ note there. behind_key clients key a note other (up_to_then clients key mid (by_actor a note) down (All-In (IsUpTo clients mid) back (by_actor a note) r.from (noted_In a back note there))) in
     ap (filter (comes_before clients key a)) parts
     ∙ (filter-append (comes_before clients key a) (notes_by a front) (notes_by a back)
     ∙ ((λ i. filter_all (comes_before clients key a) (notes_by a front) early i ++ filter_none (comes_before clients key a) (notes_by a back) late i) ∙ append-nil (notes_by a front)))
@@ -116,7 +107,7 @@ front_notes clients front mid key back up down order a apart other =
 cut_notes : (clients : ℕ) (key : Happened) (i a : ℕ) (before tail : List Note) → a ≢ key.actor → All (λ note. IsUpTo clients key (by_actor a note)) tail → filter (comes_before clients key a) (reached i (before ++ tail)) ≡ filter (comes_before clients key a) (reached i before)
 cut_notes clients key i a before tail other late =
     let test = comes_before clients key a in
-    let none : filter test (reached i tail) ≡ [] = filter_none test (reached i tail) (All-filter (λ note. is_some (exchanged_in i note.deed)) (λ note. test note ≡ false) tail (All-weaker (λ note. IsUpTo clients key (by_actor a note)) (λ note. test note ≡ false) (λ note is. behind_key clients key a note other is) tail late)) in
+    let none : filter test (reached i tail) ≡ [] = filter_none test (reached i tail) (λ note. All-In (λ note. test note ≡ false) (reached i tail) note (All-filter (λ note. is_some (exchanged_in i note.deed)) (λ note. test note ≡ false) tail (All-weaker (λ note. IsUpTo clients key (by_actor a note)) (λ note. test note ≡ false) (λ note is. behind_key clients key a note other is) tail late))) in
     ap (filter test) (filter-append (λ note. is_some (exchanged_in i note.deed)) before tail)
     ∙ (filter-append test (reached i before) (reached i tail)
     ∙ (ap (λ l. filter test (reached i before) ++ l) none ∙ append-nil (filter test (reached i before))))

@@ -4,3 +4,4 @@ pub mod Live
 pub mod Sets
 pub mod Maps
 pub mod Values
+pub mod Operations

@@ -2,3 +2,4 @@ pub mod Checks
 pub mod Objects
 pub mod Ops
 pub mod States
+pub mod Operations

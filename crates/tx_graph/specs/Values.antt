@@ -17,10 +17,10 @@ use Rattle.tx_core.specs.declared.op.Op.TheVariants as op
 use Rattle.tx_core.specs.declared.tx.Update.{Update}
 use Rattle.tx_core.specs.declared.state.Value.{Value}
 use Rattle.tx_core.specs.declared.state.Value.TheVariants.{Number, Word, Words, Pairs}
+use Rattle.tx_core.specs.Operations.{mark}
 use Rattle.dc_talk.specs.declared.calls.Change.{Change}
 use Rattle.dc_talk.specs.declared.calls.Change.TheVariants.{Inc, Write, Add, Remove, Put, Erase}
 use Rattle.dc_talk.specs.Records.{has}
-use Rattle.dc_talk.specs.Objects.{mark}
 use Rattle.tx_graph.specs.Nodes.{Node}
 
 -- the nodes of a set of dots

@@ -19,8 +19,8 @@ use Rattle.tally_core.proofs.Finds.{any_true, any_false, any_from}
 use Rattle.tx_core.specs.declared.op.Op.{Op}
 use Rattle.tx_core.specs.Ops.{over_of, name_of, is_add}
 use Rattle.dc_talk.specs.Records.{has}
+use Rattle.dc_talk.proofs.Dots.{has_In, In_has}
 use Rattle.tx_graph.specs.Values.{Act, sees}
-use Rattle.run_book.proofs.Dots.{has_In, In_has}
 use Rattle.run_book.proofs.Causal.Acts.{HasAct}
 
 -- ---- words and identifiers

@@ -13,7 +13,7 @@ use Rattle.ids_core.specs.Ids.{same_object}
 use Rattle.ids_core.specs.Same.{same_object-true, same_object-same}
 use Rattle.tx_core.specs.declared.op.Op.{Op}
 use Rattle.tx_core.specs.declared.tx.Update.{Update}
-use Rattle.dc_talk.specs.Objects.{mark, ops_from}
+use Rattle.tx_core.specs.Operations.{mark, ops_from}
 use Rattle.tx_graph.specs.Nodes.{Node}
 use Rattle.tx_graph.specs.Values.{Act, acts_from, acts_of, nodes_in, acts_over}
 use Rattle.run_book.proofs.Causal.InView.{node_ops, ops_in, ops_over, with_first}

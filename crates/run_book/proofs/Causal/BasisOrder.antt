@@ -7,13 +7,15 @@ use Rattle.list_core.specs.Members.{In}
 use Rattle.list_core.specs.Permutations.{Perm}
 use Rattle.list_core.proofs.Members.{In_left, In_right, In_either, In_filter, In_from_filter}
 use Rattle.list_core.proofs.Gets.{get_in_drop, get_In, get_In_drop, In_get}
-use Rattle.list_core.proofs.Apart.{Apart, apart_append, apart_filter, apart_drop, same_members}
+use Rattle.list_core.proofs.Apart.{apart_append, apart_filter, apart_drop, same_members}
+use Rattle.list_core.specs.Apart.{Apart}
 use Rattle.ids_core.specs.declared.ids.Dot.{Dot}
 use Rattle.ids_core.specs.declared.object.ObjectId.{ObjectId}
 use Rattle.tx_core.specs.declared.tx.Tx.{Tx}
 use Rattle.tx_core.specs.declared.state.State.{State}
 use Rattle.dc_talk.specs.Records.{has}
 use Rattle.dc_talk.specs.Clients.{Client}
+use Rattle.dc_talk.proofs.Dots.{has_In, In_has}
 use Rattle.run_book.specs.Setups.{Setup}
 use Rattle.run_book.specs.declared.book.Book.{Book}
 use Rattle.run_book.specs.Parts.{IsClient}
@@ -21,7 +23,7 @@ use Rattle.run_book.specs.Fit.{FitsWith}
 use Rattle.run_book.specs.Graphs.{cover, own_dots, committed, client_at, basis_at, commits_at}
 use Rattle.run_book.proofs.Numbered.{numbered_at}
 use Rattle.run_book.proofs.Held.{Held, dot_at}
-use Rattle.run_book.proofs.Dots.{has_In, In_has, IsOwn, own_dots_are, are_own_dots, apart_numbered}
+use Rattle.run_book.proofs.Dots.{IsOwn, own_dots_are, are_own_dots, apart_numbered}
 use Rattle.run_book.proofs.Causal.Commits.{commits, is_committed, apart}
 use Rattle.run_book.proofs.Causal.ServedStates.{IsServed}
 use Rattle.run_book.proofs.Causal.SessionStates.{Standing, standing}

@@ -30,7 +30,7 @@ use Rattle.dc_talk.specs.declared.say.Say.TheVariants.{Misfit, Lacks, Pruned, Ob
 use Rattle.dc_talk.specs.declared.calls.Connection.{Connection}
 use Rattle.dc_talk.specs.Entries.{Entry}
 use Rattle.dc_talk.specs.Records.{count, vector, guard, inside, has, firsts}
-use Rattle.dc_talk.specs.Objects.{state_at, ops_of}
+use Rattle.dc_talk.specs.Objects.{state_at}
 use Rattle.dc_talk.specs.Trails.{stable}
 use Rattle.dc_talk.specs.Answers.{fits, lacking, snap_at, row}
 use Rattle.dc_talk.specs.Clients.{Client, settled, same_vector}
@@ -56,6 +56,7 @@ use Rattle.run_book.proofs.Causal.Links.{same_hello, no_sooner, linked}
 use Rattle.run_book.proofs.Causal.FitCommits.{commits_fit}
 use Rattle.ids_core.specs.declared.limits.TheConstants.{MOST_CLIENTS}
 use Rattle.tx_core.specs.Checks.{is_within}
+use Rattle.tx_core.specs.Operations.{ops_of}
 
 -- ---- states and vectors
 

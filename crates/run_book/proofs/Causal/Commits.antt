@@ -7,7 +7,8 @@ use Rattle.list_core.proofs.Members.{In_flat_map, In_from_flat_map}
 use Rattle.list_core.proofs.Gets.{In_get}
 use Rattle.list_core.proofs.Moments.{by_prefixes}
 use Rattle.list_core.proofs.Ranges.{In_range, In_from_range}
-use Rattle.list_core.proofs.Apart.{Apart, apart_append, apart_one}
+use Rattle.list_core.proofs.Apart.{apart_append, apart_one}
+use Rattle.list_core.specs.Apart.{Apart}
 use Rattle.ids_core.specs.declared.ids.Dot.{Dot}
 use Rattle.vv_core.specs.declared.stamp.Stamp.{Stamp}
 use Rattle.tx_core.specs.declared.tx.Tx.{Tx}

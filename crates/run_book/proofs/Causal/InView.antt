@@ -9,7 +9,7 @@ use Rattle.tx_core.specs.declared.op.Op.{Op}
 use Rattle.tx_core.specs.declared.tx.Update.{Update}
 use Rattle.tx_core.specs.Ops.{over_of, name_of}
 use Rattle.tx_core.specs.Objects.{IsLiveId}
-use Rattle.dc_talk.specs.Objects.{ops_from}
+use Rattle.tx_core.specs.Operations.{ops_from}
 use Rattle.tx_graph.specs.Nodes.{Node}
 use Rattle.tx_graph.specs.Values.{nodes_in}
 

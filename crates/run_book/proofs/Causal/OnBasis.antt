@@ -15,7 +15,6 @@ use Rattle.tx_core.specs.declared.tx.Tx.{Tx}
 use Rattle.tx_core.specs.declared.state.State.{State}
 use Rattle.tx_core.specs.States.{empty_of, fold_of}
 use Rattle.dc_talk.specs.Records.{has}
-use Rattle.dc_talk.specs.Objects.{ops_of}
 use Rattle.dc_talk.specs.Clients.{Client, cached, next_dot}
 use Rattle.run_book.specs.Setups.{Setup}
 use Rattle.run_book.specs.declared.book.Book.{Book}
@@ -24,6 +23,7 @@ use Rattle.run_book.specs.Fit.{FitsWith}
 use Rattle.tx_graph.specs.Nodes.{Node}
 use Rattle.run_book.specs.Graphs.{cover, own_dots, node_of, committed, graph, basis, basis_at, client_at}
 use Rattle.list_core.proofs.Images.{filter-map}
+use Rattle.tx_core.specs.Operations.{ops_of}
 use Rattle.run_book.proofs.Held.{dot_at}
 use Rattle.run_book.proofs.Dots.{own_dots_are}
 use Rattle.run_book.proofs.Served.{cached_some}

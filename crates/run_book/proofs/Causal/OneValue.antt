@@ -16,7 +16,6 @@ use Rattle.ids_core.proofs.Ascending.{one_ascending}
 use Rattle.dc_talk.specs.declared.calls.Change.TheVariants.{Write}
 use Rattle.tx_core.specs.declared.state.Value.{Value}
 use Rattle.tx_core.specs.declared.state.Value.TheVariants.{Number, Word, Words, Pairs}
-use Rattle.dc_talk.specs.Objects.{mark}
 use Rattle.tx_graph.specs.Nodes.{Node, WellMade}
 use Rattle.tx_graph.specs.Values.{Act, IsRegisterOver, IsSetOver, IsMapOver, IsValueBy, change_of, acts_of, acts_over, nodes_in}
 use Rattle.tx_graph.specs.Acts.{HasUniqueMarks}
@@ -26,6 +25,7 @@ use Rattle.run_book.proofs.Causal.Acts.{act_at, IsActOf, IsActIn, act_in, acts_w
 use Rattle.run_book.proofs.Causal.Operations.{nodes_apart}
 use Rattle.run_book.proofs.Causal.OpenNodes.{WellIssued, IsOpenOver, one_node}
 use Rattle.list_core.proofs.Members.{In_from_flat_map}
+use Rattle.tx_core.specs.Operations.{mark}
 
 -- ---- values by kind
 

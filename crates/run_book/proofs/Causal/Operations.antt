@@ -7,18 +7,18 @@ use Rattle.ids_core.specs.declared.ids.Dot.{Dot}
 use Rattle.ids_core.specs.declared.ids.Mark.{Mark}
 use Rattle.ids_core.specs.declared.object.ObjectId.{ObjectId}
 use Rattle.ids_core.specs.Kinds.{Distinct}
-use Rattle.ids_core.specs.Ids.{same_object}
 use Rattle.ids_core.proofs.Distinct.{distinct_append}
 use Rattle.tx_core.specs.declared.op.Op.{Op}
 use Rattle.tx_core.specs.declared.tx.Update.{Update}
 use Rattle.tx_core.specs.Ops.{sort_of_op}
 use Rattle.tx_core.specs.Objects.{AreOf}
 use Rattle.dc_talk.specs.Records.{has}
-use Rattle.dc_talk.specs.Objects.{mark, ops_from}
 use Rattle.tx_graph.specs.Nodes.{Node, WellMade}
 use Rattle.tx_graph.specs.Values.{nodes_in}
 use Rattle.list_core.proofs.Members.{In_from_flat_map}
-use Rattle.list_core.proofs.Apart.{Apart, apart_filter}
+use Rattle.list_core.proofs.Apart.{apart_filter}
+use Rattle.list_core.specs.Apart.{Apart}
+use Rattle.tx_core.proofs.Operations.{distinct_from}
 use Rattle.run_book.proofs.Causal.InView.{node_ops, ops_in, ops_over}
 use Rattle.run_book.proofs.Causal.SetNodes.{StandsIn, in_node, over_from}
 use Rattle.run_book.proofs.Causal.Acts.{op_of_act, node_act, is_act_of}
@@ -35,31 +35,6 @@ nodes_apart nodes made = apart_of nodes made.unique
       λ u i same. let r = In_get ts u i in let e : 0 ≡ suc r.0 = one_place 0 (suc r.0) t u refl r.1 same in omega (arith, e),
       apart_of ts (λ p q t u a b same. let e : suc p ≡ suc q = one_place (suc p) (suc q) t u a b same in omega (arith, e)),
     )
-
--- operations of updates that begin at a place have that place or a later one
-place_from : (o : ObjectId) (rank : ℕ) (dot : Dot) (place : ℕ) (us : List Update) (op : Mark × Op) → In op (ops_from o rank dot place us) → place ≤ op.0.id.place
-place_from o rank dot place [] op i = absurd i
-place_from o rank dot place (u ∷ us) op i = go (same_object u.object o) (λ j. let le = place_from o rank dot (place + 1) us op j in omega (arith, le)) i
-  where
-    go : (b : Bool) → (In op (ops_from o rank dot (place + 1) us) → place ≤ op.0.id.place) → In op (cond b ((mark rank dot place, u.op) ∷ ops_from o rank dot (place + 1) us) (ops_from o rank dot (place + 1) us)) → place ≤ op.0.id.place
-    go true rest (inl e) = omega (arith, ap (λ (op : Mark × Op). op.0.id.place) e)
-    go true rest (inr j) = rest j
-    go false rest j = rest j
-
--- the operations of updates have different identifiers
-distinct_from : (o : ObjectId) (rank : ℕ) (dot : Dot) (place : ℕ) (us : List Update) → Distinct (ops_from o rank dot place us)
-distinct_from o rank dot place [] = tt
-distinct_from o rank dot place (u ∷ us) = go (same_object u.object o) (distinct_from o rank dot (place + 1) us)
-  where
-    later : (other : Mark × Op) → In other (ops_from o rank dot (place + 1) us) → (mark rank dot place).id ≡ other.0.id → ⊥
-    later other i same =
-        let le = place_from o rank dot (place + 1) us other i in
-        let p : place ≡ other.0.id.place = ap (λ id. id.place) same in
-        omega (arith, p, le)
-
-    go : (b : Bool) → Distinct (ops_from o rank dot (place + 1) us) → Distinct (cond b ((mark rank dot place, u.op) ∷ ops_from o rank dot (place + 1) us) (ops_from o rank dot (place + 1) us))
-    go true rest = (later, rest)
-    go false rest = rest
 
 -- the dot of an operation is that of its node
 pub dot_of_op : (o : ObjectId) (t : Node) (op : Mark × Op) → In op (node_ops o t) → op.0.id.dot ≡ t.dot

@@ -5,10 +5,11 @@ use Rattle.std.proofs.lemmas.List.{append-nil}
 use Rattle.list_core.proofs.Members.{filter-agree}
 use Rattle.ids_core.specs.declared.ids.Dot.{Dot}
 use Rattle.tx_core.specs.States.{value_of}
+use Rattle.tx_core.specs.Operations.{ops_from}
 use Rattle.dc_talk.specs.Records.{has}
-use Rattle.dc_talk.specs.Objects.{ops_from}
 use Rattle.dc_talk.specs.Clients.{next_dot, draft_updates}
 use Rattle.dc_talk.specs.Rule.{Allows}
+use Rattle.dc_talk.proofs.Dots.{has_In, In_has, has_is}
 use Rattle.run_book.specs.Setups.{Setup}
 use Rattle.run_book.specs.declared.book.Book.{Book}
 use Rattle.run_book.specs.Parts.{notes_of}
@@ -17,7 +18,6 @@ use Rattle.tx_graph.specs.Nodes.{Node, Within}
 use Rattle.tx_graph.specs.Values.{nodes_in, IsValueBy}
 use Rattle.run_book.specs.Graphs.{graph, basis_at, client_at, open_node}
 use Rattle.run_book.specs.Causal.{Reads, ValueRead, IsValueAt}
-use Rattle.run_book.proofs.Dots.{has_In, In_has, has_is}
 use Rattle.run_book.proofs.Served.{read_got}
 use Rattle.run_book.proofs.Causal.Closure.{session_held}
 use Rattle.run_book.proofs.Causal.InView.{node_ops, ops_in}

@@ -4,22 +4,24 @@ use Rattle.std.specs.Prelude.{filter, flat_map}
 use Rattle.std.proofs.lemmas.List.Folds.{flat_map-map}
 use Rattle.list_core.specs.Members.{In}
 use Rattle.list_core.proofs.Members.{In_map, In_from_map, In_filter, In_from_filter}
-use Rattle.list_core.proofs.Apart.{Apart, apart_map, apart_filter}
+use Rattle.list_core.proofs.Apart.{apart_map, apart_filter}
+use Rattle.list_core.specs.Apart.{Apart}
 use Rattle.ids_core.specs.declared.object.ObjectId.{ObjectId}
 use Rattle.vv_core.specs.Vectors.{Covers, within}
 use Rattle.tx_core.specs.declared.tx.Tx.{Tx}
 use Rattle.tx_core.specs.declared.tx.Record.{Record}
 use Rattle.tx_core.specs.declared.state.State.{State}
 use Rattle.tx_core.specs.States.{empty_of, fold_of}
+use Rattle.tx_core.specs.Operations.{ops_of}
 use Rattle.dc_talk.specs.Records.{vector, has, inside, firsts}
-use Rattle.dc_talk.specs.Objects.{ops_of, state_at}
+use Rattle.dc_talk.specs.Objects.{state_at}
 use Rattle.dc_talk.proofs.Firsts.{firsts_in, firsts_apart, firsts_has}
+use Rattle.dc_talk.proofs.Dots.{has_In, In_has}
 use Rattle.run_book.specs.Parts.{applied_at}
 use Rattle.run_book.specs.Setups.{Setup}
 use Rattle.run_book.specs.declared.book.Book.{Book}
 use Rattle.run_book.specs.Fit.{FitsWith}
 use Rattle.run_book.specs.Graphs.{cover, committed}
-use Rattle.run_book.proofs.Dots.{has_In, In_has}
 use Rattle.run_book.proofs.Causal.OneList.{inside_covered, covered_inside}
 use Rattle.run_book.proofs.Causal.Commits.{one_tx, applied_commit}
 

@@ -37,6 +37,7 @@ use Rattle.dc_talk.specs.Calls.{did, committed}
 use Rattle.dc_talk.specs.Rule.{after, heard, takes, taken, is_linked, can_follow, commit_in}
 use Rattle.dc_talk.proofs.ClientAnswers.{SnapBy, snap_by, object_by}
 use Rattle.dc_talk.proofs.Counts.{in_top}
+use Rattle.dc_talk.proofs.Dots.{in_mine}
 use Rattle.run_book.specs.Setups.{Setup, centre_settings}
 use Rattle.run_book.specs.declared.book.Book.{Book}
 use Rattle.run_book.specs.Parts.{trail_of, notes_of, IsClient, applied_at}
@@ -45,7 +46,7 @@ use Rattle.run_book.specs.Graphs.{cover, client_at, commits_at}
 use Rattle.run_book.specs.Sound.{IsSound}
 use Rattle.run_book.proofs.Sessions.{CanFollow, can_follow-true, after_more, by_notes}
 use Rattle.run_book.proofs.Held.{Held, dot_at, held_after}
-use Rattle.run_book.proofs.Dots.{in_mine, mine_in}
+use Rattle.run_book.proofs.Dots.{mine_in}
 use Rattle.run_book.proofs.Pairing.{has_entry}
 use Rattle.run_book.proofs.Served.{snap_within, In_promoted, In_looked_up, In_kept}
 use Rattle.run_book.proofs.Causal.Origins.{applied_there}
@@ -136,7 +137,7 @@ module _ (b : Book) (setup : Setup) (fit : FitsWith b setup) where
       own_in : (d : ℕ) → In (dot_at c d) (cover b w) → (1 ≤ d) × (d ≤ number)
       own_in d j = (
         covered_low w (dot_at c d) (cover_in b w (dot_at c d) j),
-        omega (arith, number_is, in_mine c (inside A w) d (covered_inside b setup fit i says.place says.low says.high w (dot_at c d) le j)),
+        omega (arith, number_is, in_mine c (inside A w) (dot_at c d) (covered_inside b setup fit i says.place says.low says.high w (dot_at c d) le j) refl),
       )
 
       own_all : (d : ℕ) → 1 ≤ d → d ≤ number → In (dot_at c d) (cover b w)

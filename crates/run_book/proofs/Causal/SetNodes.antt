@@ -5,9 +5,9 @@ use Rattle.list_core.specs.Members.{In}
 use Rattle.list_core.proofs.Members.{In_left, In_right, In_either, In_flat_map, In_from_flat_map, In_filter, In_from_filter}
 use Rattle.ids_core.specs.declared.ids.Dot.{Dot}
 use Rattle.dc_talk.specs.Records.{has}
+use Rattle.dc_talk.proofs.Dots.{has_In, In_has}
 use Rattle.tx_graph.specs.Nodes.{Node}
 use Rattle.tx_graph.specs.Values.{nodes_in}
-use Rattle.run_book.proofs.Dots.{has_In, In_has}
 
 -- a node of the graph whose dot is in the set is one of the set's nodes
 pub node_in : (nodes : List Node) (set : List Dot) (t : Node) → In t nodes → In t.dot set → In t (nodes_in nodes set)

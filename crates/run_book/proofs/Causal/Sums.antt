@@ -33,7 +33,7 @@ use Rattle.std.proofs.lemmas.List.Elements.{filter_map-append}
 use Rattle.list_core.proofs.Images.{filter_map-flat_map, flat_map-agree}
 use Rattle.tx_core.specs.declared.tx.Update.{Update}
 use Rattle.ids_core.specs.Ids.{same_object}
-use Rattle.dc_talk.specs.Objects.{mark}
+use Rattle.tx_core.specs.Operations.{mark}
 
 -- ---- the deltas of operations
 

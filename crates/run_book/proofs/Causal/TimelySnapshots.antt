@@ -18,6 +18,7 @@ use Rattle.dc_talk.specs.Clients.{Client}
 use Rattle.dc_talk.specs.Rule.{takes, is_linked, can_follow, Gives, IsLinked, Allows}
 use Rattle.dc_talk.proofs.ClientAnswers.{SnapBy, snap_by}
 use Rattle.dc_talk.proofs.Counts.{top_bounded}
+use Rattle.dc_talk.proofs.Dots.{in_mine}
 use Rattle.run_book.specs.Setups.{Setup, centre_settings}
 use Rattle.run_book.specs.declared.book.Book.{Book}
 use Rattle.run_book.specs.Parts.{trail_of, notes_of, applied_at}
@@ -27,7 +28,6 @@ use Rattle.run_book.specs.Laws.{TakesSnapshots}
 use Rattle.run_book.specs.Refusals.{Hears, Exchange, HearsRefresh}
 use Rattle.run_book.proofs.Sessions.{can_follow-true}
 use Rattle.run_book.proofs.Held.{dot_at, held_after}
-use Rattle.run_book.proofs.Dots.{in_mine}
 use Rattle.run_book.proofs.Growth.{wide_after}
 use Rattle.run_book.proofs.OwnAsks.{heard_gives}
 use Rattle.run_book.proofs.Pairing.{HasEntry, has_entry}
@@ -94,7 +94,7 @@ module _ (b : Book) (setup : Setup) (fit : FitsWith b setup) (a m i c : ℕ) (he
       let new : In d (inside A w) = subst (λ d. In d (inside A w)) (sym f.2) (In_map (λ (r : Record). r.tx.dot) (filter (λ (r : Record). within r.stamp w) A) f.0 (In_filter (λ (r : Record). within r.stamp w) A f.0 g.0 within_w)) in
       let who : c ≡ a - 1 = same.0 ∙ (held_after b.n (a - 1) setup.capacity (notes_of b a) (fit.follows a hears.client) m).who in
       let mine : number ≡ mine_of (a - 1) (inside A w) = snap.mine_is ∙ ap (λ c. mine_of c (inside A w)) who in
-      omega (arith, mine, in_mine (a - 1) (inside A w) (suc k) new)
+      omega (arith, mine, in_mine (a - 1) (inside A w) (dot_at (a - 1) (suc k)) new refl)
 
   -- so it is taken where it has no more commits than the session had made
   taken_if_made : number ≤ (client_at b setup a m).own → takes (client_at b setup a m) i (Refresh c here) (Snap w number rank) ≡ true

@@ -14,7 +14,7 @@ use Rattle.tx_core.specs.States.{empty_of, step, fold_of, tags_of}
 use Rattle.tx_core.specs.Objects.{AreOf, IsLiveId}
 use Rattle.tx_core.proofs.Folds.{fold_of-order}
 use Rattle.tx_core.proofs.Values.{tags_live}
-use Rattle.dc_talk.specs.Objects.{ops_of}
+use Rattle.tx_core.specs.Operations.{ops_of}
 use Rattle.dc_talk.specs.Clients.{Client, cached, view, draft_updates}
 use Rattle.run_book.specs.Setups.{Setup}
 use Rattle.run_book.specs.declared.book.Book.{Book}

@@ -31,6 +31,7 @@ use Rattle.dc_talk.specs.Rule.{Allows, Gives, client_after, commits_of}
 use Rattle.dc_talk.proofs.ClientAnswers.{snap_by}
 use Rattle.dc_talk.proofs.PeerAnswers.{sent_by}
 use Rattle.dc_talk.proofs.Growth.{applied_later}
+use Rattle.dc_talk.proofs.Dots.{mine_bound}
 use Rattle.run_book.specs.declared.book.Book.{Book}
 use Rattle.run_book.specs.Setups.{Setup, settings_among}
 use Rattle.run_book.specs.Parts.{notes_of, IsClient}
@@ -56,15 +57,6 @@ grown_in n A (Commit tx) (Stamped stamp) r i = ⊎_elim
     (In_more A (record { stamp = stamp; deps = deps_of n A tx; tx = tx }) r i)
 grown_in n A (Deliver item) (Applied fresh) r i = ⊎_elim (λ old. inl old) (λ new. inr (inr (ap Deliver (sym new)))) (In_more A item r i)
 grown_in n A _ _ r i = inl i
-
--- the greatest number of a client among dots is no greater than each of them
-mine_bound : (c : ℕ) (D : List Dot) (most : ℕ) → ((d : Dot) → In d D → d.client ≡ c → d.number ≤ most) → mine c D ≤ most
-mine_bound c [] most each = omega arith
-mine_bound c (d ∷ D) most each = go (d.client == c) refl (mine_bound c D most (λ e i. each e (inr i)))
-  where
-    go : (test : Bool) → (d.client == c) ≡ test → mine c D ≤ most → max (cond test d.number 0) (mine c D) ≤ most
-    go true is rest = let here = each d (inl refl) (eqb-true d.client c is) in omega (arith, here, rest)
-    go false is rest = omega (arith, rest)
 
 -- equal refreshes are of one client
 same_client : (c d : ℕ) (v w : List ℕ) → Refresh c v ≡ Refresh d w → c ≡ d

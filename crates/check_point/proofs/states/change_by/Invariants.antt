@@ -1,7 +1,7 @@
 use Rattle.std.proofs.Common.{◌≡◌, drop}
 use Rattle.ids_core.specs.declared.object.ObjectId.{ObjectId}
 use Rattle.tx_core.specs.States.{fold_of}
-use Rattle.check_point.specs.Operations.{ops_from}
+use Rattle.tx_core.specs.Operations.{ops_from}
 use Rattle.check_point.specs.Points.{state_over}
 use Rattle.check_point.proofs.states.change_by.Given as goal
 

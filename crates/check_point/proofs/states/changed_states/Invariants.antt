@@ -2,7 +2,7 @@ use Rattle.std.proofs.Common.{◌≡◌, drop}
 use Rattle.std.specs.Prelude.{flat_map}
 use Rattle.ids_core.specs.declared.object.ObjectId.{ObjectId}
 use Rattle.tx_core.specs.States.{fold_of}
-use Rattle.check_point.specs.Operations.{ops_of}
+use Rattle.tx_core.specs.Operations.{ops_of}
 use Rattle.check_point.specs.Points.{state_in, state_over}
 use Rattle.check_point.proofs.states.changed_states.Given as goal
 

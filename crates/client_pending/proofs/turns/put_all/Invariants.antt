@@ -1,6 +1,6 @@
 use Rattle.std.proofs.Common.{◌≡◌, ◌++◌, take}
 use Rattle.ids_core.specs.declared.object.ObjectId.{ObjectId}
-use Rattle.dc_talk.specs.Objects.{ops_from}
+use Rattle.tx_core.specs.Operations.{ops_from}
 use Rattle.client_pending.specs.Indexes.{listed}
 use Rattle.client_pending.proofs.turns.put_all.Given as goal
 

@@ -2,7 +2,7 @@ use Rattle.std.proofs.Common.{◌++◌, ◌∷◌, ◌+◌, drop, sym, ap, ◌�
 use Rattle.std.specs.Prelude.{flat_map}
 use Rattle.std.proofs.lemmas.List.{drop_more}
 use Rattle.std.proofs.Math.ListN.{drop_of_length-le}
-use Rattle.dc_talk.specs.Objects.{ops_of}
+use Rattle.tx_core.specs.Operations.{ops_of}
 use Rattle.client_pending.specs.Indexes.{listed, counted}
 use Rattle.client_pending.proofs.Ops.{first_gone}
 use Rattle.client_pending.proofs.turns.take_txs.Goals as goal

@@ -1,6 +1,6 @@
 use Rattle.std.proofs.Common.{◌≡◌, drop}
-use Rattle.dc_talk.specs.Objects.{ops_from}
 use Rattle.tx_core.specs.States.{fold_of}
+use Rattle.tx_core.specs.Operations.{ops_from}
 use Rattle.dc_talk.proofs.fold.fold_updates.Given as goal
 
 abbrev pub invariant-loop-place : goal.invariant-loop-place

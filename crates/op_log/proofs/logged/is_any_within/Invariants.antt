@@ -1,5 +1,5 @@
 use Rattle.std.proofs.Common.{◌≡◌, drop}
-use Rattle.op_log.specs.Logs.{is_any_within}
+use Rattle.vv_core.specs.Stamps.{is_any_within}
 use Rattle.op_log.proofs.logged.is_any_within.Given as goal
 
 abbrev pub invariant-loop-stamp : goal.invariant-loop-stamp

@@ -11,7 +11,7 @@ use Rattle.op_log.proofs.slots.add_at.Goals as goal
 pub returns-in-Some-clause-found : goal.returns-in-Some-clause-found
 returns-in-Some-clause-found c =
     let there = sym c.in-Some.ensures.value in
-    IfOk-weaker c.add_if.result _ _ (λ found is. is ∙ has_dot_some c.args.dot.now c.args.stamp.now c.args.number _ _ c.requires.keyed c.requires.rises c.requires.one there) c.add_if.ensures.found
+    IfOk-weaker c.add_if.result _ _ (λ found is. is ∙ has_dot_some c.args.dot.now c.args.number _ _ c.requires.keyed c.requires.rises c.requires.one there) c.add_if.ensures.found
 
 pub returns-in-Some-clause-ok : goal.returns-in-Some-clause-ok
 returns-in-Some-clause-ok c =
@@ -33,7 +33,7 @@ returns-in-Some-clause-keyed c =
     subst IsKeyed (sym t.0) (keyed_set c.args.number _ _ c.requires.keyed (c.add_if.ensures.number ∙ number))
 
 pub returns-in-None-clause-found : goal.returns-in-None-clause-found
-returns-in-None-clause-found c = has_dot_none c.args.dot.now c.args.stamp.now c.args.number _ c.requires.keyed c.requires.one (sym c.in-None.ensures.value)
+returns-in-None-clause-found c = has_dot_none c.args.dot.now c.args.number _ c.requires.keyed c.requires.one (sym c.in-None.ensures.value)
 
 pub returns-in-None-clause-ok : goal.returns-in-None-clause-ok
 returns-in-None-clause-ok c =

@@ -1,8 +1,6 @@
-use Rattle.std.specs.Map.{values_of}
-use Rattle.std.proofs.Common.{rules}
-use Rattle.std.proofs.lemmas.Fn.{filter_same}
-use Rattle.op_log.specs.Tables.{stays}
+use Rattle.std.proofs.Common.{inr, refl, subst}
+use Rattle.op_log.specs.Tables.{Lacks}
 use Rattle.op_log.proofs.sweep.sweep_chain.Goals as goal
 
-pub returns-clause-left : goal.returns-clause-left
-returns-clause-left c = filter_same _ (stays c.args.base.now (values_of c.args.slots.now.entries)) _ (λ x b q called. search rules) _ _ c.retain.ensures.filtered
+pub returns-else-has_number : goal.returns-else-has_number
+returns-else-has_number c = inr (refl, subst (Lacks c.args.number) c.as_slice.ensures.value c.if-has_number.ensures)

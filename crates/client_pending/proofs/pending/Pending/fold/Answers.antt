@@ -2,7 +2,7 @@ use Rattle.std.proofs.Common.{sym, ap, ◌∙◌}
 use Rattle.std.specs.Prelude.{flat_map}
 use Rattle.std.proofs.lemmas.Result.{on_ok_weaker}
 use Rattle.tx_core.specs.States.{fold_of}
-use Rattle.dc_talk.specs.Objects.{ops_of}
+use Rattle.tx_core.specs.Operations.{ops_of}
 use Rattle.client_pending.specs.Indexes.{line_items}
 use Rattle.client_pending.proofs.pending.Pending.fold.Goals as goal
 

@@ -1,0 +1,8 @@
+use Rattle.std.specs.Map.{values_of}
+use Rattle.std.proofs.Common.{rules}
+use Rattle.std.proofs.lemmas.Fn.{filter_same}
+use Rattle.op_log.specs.Tables.{stays}
+use Rattle.op_log.proofs.sweep.leave.Goals as goal
+
+pub returns : goal.returns
+returns c = filter_same _ (stays c.args.base.now (values_of c.args.slots.now.entries)) _ (λ x b q called. search rules) _ _ c.retain.ensures.filtered
