@@ -198,8 +198,8 @@ fn are_many(tally: &Tally) -> bool {
         copies.saturating_sub(copies_done),
         carries.saturating_sub(carries_done),
     );
-    let is_played = steps_done > 5_000 && orders_done > 1_000 && copies_done > 300;
-    let is_missed = missed.0 > 200 && missed.1 > 600 && missed.2 > 100 && missed.3 > 100;
+    let is_played = steps_done > 4_500 && orders_done > 1_000 && copies_done > 300;
+    let is_missed = missed.0 > 200 && missed.1 > 300 && missed.2 > 100 && missed.3 > 100;
     is_played && carries_done > 100 && is_missed && tally.sizes.1 > 10_000
 }
 
