@@ -3,7 +3,6 @@ use Rattle.std.specs.Prelude.{◌≤◌, ℕ, zero, suc, List, [], slice_get}
 use Rattle.std.specs.Option.{unwrap_or}
 use Rattle.ids_core.specs.declared.ids.Dot.{Dot}
 use Rattle.vv_core.specs.declared.stamp.Stamp.{Stamp}
-
 pub use Rattle.vv_core.specs.Stamps.{is_any_within}
 
 -- the stamps of a client's transactions, the client counted from 1
