@@ -1,7 +1,8 @@
 // A centre's log of transactions that are not folded yet. `append OBJECTS COUNT` puts so many of one client in, each with
-// an operation on one of so many counters; `alias` then gives each twenty more stamps, `chain` looks for the operations
-// of a counter twenty times as often, `mine` as often for the client's last number a little behind the newest, and
-// `take_within` takes half of them out. The number is how many were found, or the last number.
+// an operation on one of so many counters; `alias` then gives each one stamp more, `chain` looks as often for the
+// operations of a counter, `mine` as often for the client's last number a little behind the newest, `take_within`
+// takes half of them out, and `prune` copies and takes out all of them in a hundred parts. The number is how many were
+// found, or the last number.
 ghost use Rattle.std.specs.Prelude.{◌≡◌, ◌≢◌, ◌+◌, OnOk, length};
 ghost use Rattle.benchmarks.specs.Logs.{IsBelow};
 
@@ -14,8 +15,8 @@ use std::alloc::Global;
 use tx_core::Record;
 use vv_core::{Stamp, Vector};
 
-// How often each call of a log is made for each of its transactions.
-const ROUNDS: u64 = 20;
+// In how many parts a log is pruned.
+const PARTS: u64 = 100;
 
 /// What is found, for the form, the number of counters and the count; nothing where they are of no form.
 pub fn worked(
@@ -39,6 +40,7 @@ pub fn worked(
         "chain" => Some(chained(alloc, objects, count)),
         "mine" => Some(asked(alloc, objects, count)),
         "take_within" => Some(taken(alloc, objects, count)),
+        "prune" => Some(pruned(alloc, objects, count)),
         _ => None,
     }
 }
@@ -94,23 +96,23 @@ fn appended(alloc: Global, objects: u32, count: u32) -> Result<i128, Fault>
     Ok(log.chain(&counter_of(0)?).len() as i128)
 }
 
-// How often a transaction of such a log was given one more stamp.
+// How many transactions of such a log were given one more stamp.
 fn aliased(alloc: Global, objects: u32, count: u32) -> Result<i128, Fault>
     requires objects { objects ≢ 0 }
     requires count { count ≢ 0 }
 {
     let mut log = log_of(alloc, objects, count)?;
     let mut found: u64 = 0;
-    for turn in 0..u64::from(count) * ROUNDS {
-        let number = turn % u64::from(count);
-        let dot = Dot { client: 1, number };
-        if log.alias(
-            &dot,
-            &Stamp {
-                centre: 2,
-                seq: turn,
-            },
-        )? {
+    for turn in 0..u64::from(count) {
+        let dot = Dot {
+            client: 1,
+            number: turn,
+        };
+        let stamp = Stamp {
+            centre: 2,
+            seq: turn,
+        };
+        if log.alias(&dot, &stamp)? {
             found = found.saturating_add(1);
         }
     }
@@ -123,7 +125,7 @@ fn chained(alloc: Global, objects: u32, count: u32) -> Result<i128, Fault>
 {
     let log = log_of(alloc, objects, count)?;
     let mut most = 0;
-    for turn in 0..u64::from(count) * ROUNDS {
+    for turn in 0..u64::from(count) {
         let object = counter_of((turn % u64::from(objects)) as u32)?;
         most = log.chain(&object).len().max(most);
     }
@@ -137,7 +139,7 @@ fn asked(alloc: Global, objects: u32, count: u32) -> Result<i128, Fault>
     let log = log_of(alloc, objects, count)?;
     let here = at(u64::from(count).saturating_sub(10));
     let mut last = 0;
-    for _ in 0..u64::from(count) * ROUNDS {
+    for _ in 0..u64::from(count) {
         last = log.mine(1, &here);
     }
     Ok(i128::from(last))
@@ -149,4 +151,20 @@ fn taken(alloc: Global, objects: u32, count: u32) -> Result<i128, Fault>
 {
     let mut log = log_of(alloc, objects, count)?;
     Ok(i128::from(log.take_within(&at(u64::from(count / 2)))))
+}
+
+// How many transactions such a log had, copied and taken out in so many parts.
+fn pruned(alloc: Global, objects: u32, count: u32) -> Result<i128, Fault>
+    requires { objects ≢ 0 }
+{
+    let mut log = log_of(alloc, objects, count)?;
+    let mut gone: u64 = 0;
+    for part in 1..PARTS + 1 {
+        let base = at(u64::from(count) * part / PARTS);
+        let copies = log.within(&base)?;
+        if copies.len() as u64 == log.take_within(&base) {
+            gone = gone.saturating_add(copies.len() as u64);
+        }
+    }
+    Ok(i128::from(gone))
 }

@@ -1,7 +1,7 @@
 // Folds of a transaction's updates into the state of an object.
 ghost use Rattle.std.specs.Prelude.{◌≡◌, ◌≤◌, length, OnOk};
 ghost use Rattle.ids_core.specs.declared.limits.TheConstants.{MOST_UPDATES};
-ghost use Rattle.dc_talk.specs.Objects.{ops_from};
+ghost use Rattle.tx_core.specs.Operations.{ops_from};
 ghost use Rattle.tx_core.specs.States.{fold_of};
 
 use ids_core::{Dot, Mark, NoMemory, ObjectId, OpId};

@@ -2,7 +2,7 @@
 ghost use Rattle.std.specs.Prelude.{◌≡◌, ◌<◌, ◌≤◌, ◌++◌, ◌∷◌, [], List, All, cond, flat_map, length, map, OnOk, IfOk};
 ghost use Rattle.ids_core.specs.declared.limits.TheConstants.{MOST_UPDATES};
 ghost use Rattle.ids_core.specs.Ids.{same_object};
-ghost use Rattle.dc_talk.specs.Objects.{mark};
+ghost use Rattle.tx_core.specs.Operations.{mark};
 ghost use Rattle.tx_graph.specs.Nodes.{Node};
 ghost use Rattle.tx_graph.specs.Values.{acts_of, nodes_in};
 ghost use Rattle.tx_graph.specs.Acts.{bare_of};
