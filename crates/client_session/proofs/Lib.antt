@@ -1,3 +1,4 @@
 pub mod Following
 pub mod Changing
 mod Folding
+mod Keeping

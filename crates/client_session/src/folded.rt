@@ -1,5 +1,5 @@
 // The states that a client has of objects, kept with all that is pending and open folded in.
-ghost use Rattle.std.specs.Prelude.{◌≡◌, ◌≤◌, ℕ, [], length, is_some, Some, None, All, IfOk, OnOk, OnErr, false};
+ghost use Rattle.std.specs.Prelude.{◌≡◌, ◌≤◌, ◌<◌, ℕ, [], length, is_some, Some, None, All, IfOk, OnOk, OnErr, false, if◌then◌else◌};
 ghost use Rattle.std.specs.Bool.{OnFalse, OnTrue};
 ghost use Rattle.std.specs.Option.{unwrap_or};
 ghost use Rattle.std.specs.Map.{lookup};
@@ -15,10 +15,23 @@ use client_pending::Pending;
 use dc_talk::fold_updates;
 use ids_core::{Dot, Mark, NoMemory, ObjectId};
 use lru::LruCache;
+use std::alloc::Global;
+use std::num::NonZeroUsize;
 use tx_core::{Op, State, Update};
 
 /// States of objects, the most recently used first: at most as many as the cache has entries.
 pub(crate) type Folded = LruCache<ObjectId, State>;
+
+// None is kept, for a cache of so many entries.
+pub(crate) fn new_folded(alloc: Global, most: usize) -> Result<Folded, NoMemory>
+    requires { 1 ≤ most }
+    ensures { IfOk result (λ folded. folded.entries ≡ []) }
+{
+    match NonZeroUsize::new(most) {
+        Some(most) => Ok(LruCache::sparse(alloc, most)?),
+        None => unreachable!(),
+    }
+}
 
 // Keeps what the client has of an object, whose state at the snapshot is given, where commits that are
 // pending or the open transaction change it. Where memory is refused it is not kept.
@@ -131,6 +144,15 @@ pub(crate) fn let_all_go(folded: &mut Folded, updates: &[Update])
 {
     for update in updates {
         let_go(folded, &update.object);
+    }
+}
+
+// Lets all states go, unless they are kept.
+pub(crate) fn clear_unless(folded: &mut Folded, are_kept: bool)
+    ensures { folded.new.entries ≡ (if are_kept then folded.old.entries else []) }
+{
+    if !are_kept {
+        folded.clear();
     }
 }
 

@@ -22,8 +22,8 @@ returns-in-Some c =
     let some : IsSome (lookup (same_object k) es) = subst IsSome (sym there) refl in
     record {
       there = OnTrue_from c.is_ok.result _ (λ ok seen is.
-        let own = lookup-written k k es w some ∙ ap (λ b. cond b (Some w) (lookup (same_object k) es)) (same_object-itself k) in
-        let same = same_Some w seen (sym own ∙ is) in
-        (c.in-Some.state.now, there, sym same ∙ success c.fold.result (sym c.is_ok.ensures.value ∙ ok) c.fold.ensures.ok));
+          let own = lookup-written k k es w some ∙ ap (λ b. cond b (Some w) (lookup (same_object k) es)) (same_object-itself k) in
+          let same = same_Some w seen (sym own ∙ is) in
+          (c.in-Some.state.now, there, sym same ∙ success c.fold.result (sym c.is_ok.ensures.value ∙ ok) c.fold.ensures.ok));
       apart = λ o seen apart is. sym (lookup-written k o es w some ∙ ap (λ b. cond b (Some w) (lookup (same_object o) es)) apart) ∙ is;
     }
