@@ -5,7 +5,7 @@ ghost use Rattle.tx_core.specs.Checks.{IsFitUpdate};
 ghost use Rattle.client_session.specs.SessionAnswers.{MayBeShort};
 ghost use Rattle.dc_talk.specs.Calls.{sort_of_change, is_modest, named, op_of, tags_in};
 
-use crate::folded::{follow, let_go};
+use crate::folded::{follow, let_go, seen, stand};
 use crate::session::Session;
 use crate::views::updates_of;
 use dc_talk::{Call, Change, Outcome, Refusal};
@@ -53,12 +53,14 @@ impl Session {
         ensures err { IfErr result (λ refusal. (refusal ≡ Refusal.NoMemory) × (self.new ≡ self.old)) }
     {
         let object = update.object;
-        let id = OpId {
-            dot: self.next_dot(),
-            place: updates_of(&self.draft).len() as u16,
+        let mark = Mark {
+            rank: self.clock + 1,
+            id: OpId {
+                dot: self.next_dot(),
+                place: updates_of(&self.draft).len() as u16,
+            },
         };
-        let rank = self.clock + 1;
-        follow(&mut self.folded, &object, &Mark { rank, id }, &update.op);
+        follow(&mut self.folded, &object, &mark, &update.op);
         let pushed = push(&mut self.draft, update);
         if pushed.is_err() {
             let_go(&mut self.folded, &object);
@@ -130,7 +132,25 @@ impl Session {
         ensures short { result ≡ Err Refusal.NoMemory → IsSome (viewed self.old object.now) }
         ensures cache { self.new ≡ record self.old { cache = promoted object.now self.old.vector self.old.cache } }
     {
-        few(self.tags(alloc, object, name)?)
+        let at = self.vector;
+        let rank = self.clock + 1;
+        let dot = self.next_dot();
+        match self.cache.find(object, &at) {
+            None => Err(Refusal::NeedsFetch { object: *object }),
+            Some(base) => {
+                let updates = updates_of(&self.draft);
+                stand(
+                    &mut self.folded,
+                    object,
+                    base,
+                    &self.pending,
+                    rank,
+                    &dot,
+                    updates,
+                )?;
+                few(seen(&self.folded, object, base).tags_of(alloc, name)?)
+            }
+        }
     }
 }
 

@@ -1,13 +1,12 @@
 // What a client has of an object.
-ghost use Rattle.std.specs.Prelude.{◌≡◌, ◌≢◌, [], Some, None, IsSome, IfSome, IfOk, IfErr};
+ghost use Rattle.std.specs.Prelude.{◌≡◌, ◌≢◌, [], Some, None, IsSome, IfOk, IfErr};
 ghost use Rattle.std.specs.Option.{unwrap_or};
-ghost use Rattle.tx_core.specs.States.{tags_of};
 ghost use Rattle.dc_talk.specs.Clients.{promoted};
 
 use crate::folded::{seen, stand};
 use crate::session::Session;
 use dc_talk::{Call, Outcome, Refusal};
-use ids_core::{Name, ObjectId, Tags};
+use ids_core::ObjectId;
 use std::alloc::Global;
 use tx_core::{Update, Updates, Value};
 
@@ -41,41 +40,6 @@ impl Session {
                     updates,
                 )?;
                 Ok(seen(&self.folded, object, base).value(alloc)?)
-            }
-        }
-    }
-
-    // The identifiers that are live of a word or key in what the client has of an object, whose entry
-    // becomes the first of the cache.
-    pub(crate) fn tags(
-        &mut self,
-        alloc: Global,
-        object: &ObjectId,
-        name: &Name,
-    ) -> Result<Tags, Refusal>
-        ensures got { IfOk result (λ tags. IfSome (viewed self.old object.now) (λ state. tags ≡ tags_of state name.now)) }
-        ensures there { IfOk result (λ tags. IsSome (viewed self.old object.now)) }
-        ensures refused { IfErr result (λ refusal. refusal ≢ Refusal.NoMemory → (refusal ≡ Refusal.NeedsFetch object.now) × (viewed self.old object.now ≡ None)) }
-        ensures short { result ≡ Err Refusal.NoMemory → IsSome (viewed self.old object.now) }
-        ensures cache { self.new ≡ record self.old { cache = promoted object.now self.old.vector self.old.cache } }
-    {
-        let at = self.vector;
-        let rank = self.clock + 1;
-        let dot = self.next_dot();
-        match self.cache.find(object, &at) {
-            None => Err(Refusal::NeedsFetch { object: *object }),
-            Some(base) => {
-                let updates = updates_of(&self.draft);
-                stand(
-                    &mut self.folded,
-                    object,
-                    base,
-                    &self.pending,
-                    rank,
-                    &dot,
-                    updates,
-                )?;
-                Ok(seen(&self.folded, object, base).tags_of(alloc, name)?)
             }
         }
     }

@@ -1,7 +1,7 @@
 use Rattle.std.proofs.Common.{sym, ap, ◌∙◌}
 use Rattle.dc_talk.specs.Clients.{next_dot}
 use Rattle.client_session.proofs.Keeping.{looked, missed}
-use Rattle.client_session.proofs.session.Session.tags.Goals as goal
+use Rattle.client_session.proofs.session.Session.live.Goals as goal
 
 pub invariant_of-self : goal.invariant_of-self
 invariant_of-self c = rw c.find.follows.holds-at-none (missed _ c.args.object.now c.self.inside.folded.entries c.self.invariant)
