@@ -33,8 +33,8 @@ hundred() {
             if (turn % 4 == 1) print c " set r.note w" turn % 50 "\n" c " read r.note"
             if (turn % 4 == 2) print c " add s.cart w" turn % 50 "\n" c " read s.cart"
             if (turn % 4 == 3) print c " put m.cart k" turn % 50 " w" turn % 7 "\n" c " read m.cart"
-            print c " read c.total\n" c " commit\n" c " push\n" c " refresh\n" c " read c.total"
-            print c " read r.note"
+            print c " read c.total\n" c " commit\n" c " push\n" c " refresh\n" c " read r.note"
+            print c " read c.total"
         }
     }'
 }
@@ -128,21 +128,13 @@ table() {
 last_of() {
     case $1 in
     one) echo "c1 sees $2 own $2" ;;
-    hundred) echo "c$(((($2 - 1) * 37) % 100 + 1)) read r.note $(note_of "$2")" ;;
+    hundred) echo "c$((($2 - 1) * 37 % 100 + 1)) read c.total $2" ;;
     names) echo "c1 sees $2 own $2" ;;
     reads) echo "c1 read c.n$2 0" ;;
     adds) echo "c1 commit $((($2 + 255) / 256))" ;;
     words) echo "c1 sees $2 own $2" ;;
     crowd) echo "c$2 read s.words {w}" ;;
     esac
-}
-
-# note_of TURNS: the word that was written last.
-note_of() {
-    awk -v count="$1" 'BEGIN {
-        for (turn = count - 1; turn % 4 != 1; turn--);
-        print "w" turn % 50
-    }'
 }
 
 # row_of CELLS KIBIBYTES TOOK BEFORE MOST: prints a row. The status of the script is 1 where the ratio to
