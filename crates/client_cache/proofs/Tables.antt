@@ -5,7 +5,7 @@ use Rattle.std.proofs.lemmas.Bool.{false≢true}
 use Rattle.std.specs.Option.{option_map_or}
 use Rattle.std.specs.Map.{keys_of, lookup, lookup_entry, remove_entry}
 use Rattle.std.specs.List.{IsDistinct, AllByRecursion}
-use Rattle.std.proofs.lemmas.List.{take-map, length-map}
+use Rattle.std.proofs.lemmas.List.{take-map, length-map, take_all}
 use Rattle.std.proofs.lemmas.Map.Keys.{IsDistinct-head, IsDistinct-tail}
 use Rattle.std.proofs.lemmas.Option.{none-some, same_Some}
 use Rattle.lru.specs.LruCache as lru
@@ -123,12 +123,6 @@ module _ (o : ObjectId) where
   front zero x xs some = absurd (omega arith)
   front (suc n) x xs some = let less : suc n - 1 ≡ n = omega arith in rw less refl
 
-  whole : {X : Type 0} (n : ℕ) (xs : List X) → length xs ≤ n → take n xs ≡ xs
-  whole zero [] few = refl
-  whole zero (x ∷ xs) few = absurd (omega arith)
-  whole (suc n) [] few = refl
-  whole (suc n) (x ∷ xs) few = ap (λ ys. x ∷ ys) (whole n xs (omega arith))
-
   -- the table after a new state of the object was put in
   pub put : (c : lru.LruCache ObjectId Held) (h : Held) → 1 ≤ c.cap → length c.entries ≤ c.cap → entries_of (lru.put_entries same_object c o h) ≡ kept c.cap (entry_of (o, h)) (entries_of c.entries)
   put c h some few = by (lookup_entry (same_object o) c.entries) refl
@@ -139,4 +133,4 @@ module _ (o : ObjectId) where
           let gone = one_gone c.entries f is in
           let less = gone.less in
           let n : length (entries_of (remove_entry (same_object o) c.entries)) ≡ length (remove_entry (same_object o) c.entries) = length-map (remove_entry (same_object o) c.entries) entry_of in
-          rw (gone.rest, front c.cap (entry_of (o, h)) (entries_of (remove_entry (same_object o) c.entries)) some, whole (c.cap - 1) (entries_of (remove_entry (same_object o) c.entries)) (omega (arith, n, less)), gone.key) refl
+          rw (gone.rest, front c.cap (entry_of (o, h)) (entries_of (remove_entry (same_object o) c.entries)) some, take_all (c.cap - 1) (entries_of (remove_entry (same_object o) c.entries)) (omega (arith, n, less)), gone.key) refl

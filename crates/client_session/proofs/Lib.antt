@@ -1,4 +1,4 @@
 pub mod Following
 pub mod Changing
-mod Folding
-mod Keeping
+mod Found
+mod Standing

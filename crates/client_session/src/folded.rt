@@ -35,7 +35,6 @@ pub(crate) fn new_folded(alloc: Global, most: usize) -> Result<Folded, NoMemory>
 
 // Keeps what the client has of an object, whose state at the snapshot is given, where commits that are
 // pending or the open transaction change it. Where memory is refused it is not kept.
-#[allow(clippy::too_many_arguments)]
 pub(crate) fn stand(
     folded: &mut Folded,
     object: &ObjectId,

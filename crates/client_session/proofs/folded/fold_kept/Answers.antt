@@ -5,7 +5,7 @@ use Rattle.std.proofs.lemmas.Bool.{OnTrue_from}
 use Rattle.std.proofs.lemmas.Option.{same_Some}
 use Rattle.ids_core.specs.Ids.{same_object}
 use Rattle.ids_core.specs.Same.{same_object-itself}
-use Rattle.client_session.proofs.Folding.{lookup-written}
+use Rattle.client_session.proofs.Found.{lookup-written}
 use Rattle.client_session.proofs.folded.fold_kept.Goals as goal
 
 -- what holds on success holds where it is found

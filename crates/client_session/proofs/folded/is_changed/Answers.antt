@@ -1,5 +1,5 @@
 use Rattle.std.proofs.lemmas.Bool.{OnFalse_at, OnFalse_from}
-use Rattle.client_session.proofs.Folding.{none_behind}
+use Rattle.client_session.proofs.Found.{none_behind}
 use Rattle.client_session.proofs.folded.is_changed.Goals as goal
 
 pub returns-else-may_change : goal.returns-else-may_change

@@ -1,7 +1,7 @@
 use Rattle.std.proofs.Common.{All, false, ◌≡◌, subst}
 use Rattle.std.proofs.lemmas.List.{take_all}
 use Rattle.ids_core.specs.Ids.{same_object}
-use Rattle.client_session.proofs.Folding.{one_let_go}
+use Rattle.client_session.proofs.Found.{one_let_go}
 use Rattle.client_session.proofs.folded.let_all_go.Goals as goal
 
 pub loop-update-preserved : goal.loop-update-preserved

@@ -2,7 +2,7 @@ use Rattle.std.proofs.Common.{cond, None, ap, ◌∙◌}
 use Rattle.std.specs.Map.{lookup}
 use Rattle.ids_core.specs.Ids.{same_object}
 use Rattle.ids_core.specs.Same.{same_object-itself}
-use Rattle.client_session.proofs.Folding.{lookup-gone}
+use Rattle.client_session.proofs.Found.{lookup-gone}
 use Rattle.client_session.proofs.folded.let_go.Goals as goal
 
 pub returns-clause-gone : goal.returns-clause-gone

@@ -1,7 +1,7 @@
 use Rattle.std.proofs.Common.{sym, ap, ◌∙◌}
 use Rattle.std.specs.Map.{lookup}
 use Rattle.ids_core.specs.Ids.{same_object}
-use Rattle.client_session.proofs.Folding.{lookup-put, lookup-put-own}
+use Rattle.client_session.proofs.Found.{lookup-put, lookup-put-own}
 use Rattle.client_session.proofs.folded.put.Goals as goal
 
 pub returns-clause-there : goal.returns-clause-there

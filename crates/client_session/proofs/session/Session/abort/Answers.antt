@@ -1,5 +1,5 @@
 use Rattle.std.proofs.Common.{sym}
-use Rattle.client_session.proofs.Keeping.{aborted}
+use Rattle.client_session.proofs.Standing.{aborted}
 use Rattle.client_session.proofs.session.Session.abort.Goals as goal
 
 pub invariant_of-self-in-Some : goal.invariant_of-self-in-Some

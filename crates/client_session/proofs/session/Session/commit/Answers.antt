@@ -1,4 +1,4 @@
-use Rattle.client_session.proofs.Keeping.{closed, none_open}
+use Rattle.client_session.proofs.Standing.{closed, none_open}
 use Rattle.client_session.proofs.session.Session.commit.Goals as goal
 
 pub invariant_of-self : goal.invariant_of-self

@@ -1,4 +1,4 @@
-use Rattle.client_session.proofs.Keeping.{fetched}
+use Rattle.client_session.proofs.Standing.{fetched}
 use Rattle.client_session.proofs.session.Session.hear_object.Goals as goal
 
 pub invariant_of-self-then-eq-2 : goal.invariant_of-self-then-eq-2

@@ -1,5 +1,5 @@
 use Rattle.std.proofs.Common.{sym}
-use Rattle.client_session.proofs.Keeping.{snapped}
+use Rattle.client_session.proofs.Standing.{snapped}
 use Rattle.client_session.proofs.session.Session.hear_snap.Goals as goal
 
 pub invariant_of-self : goal.invariant_of-self

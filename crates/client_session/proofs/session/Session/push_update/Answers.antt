@@ -1,6 +1,7 @@
 use Rattle.std.proofs.Common.{sym, ap, length, ◌∙◌}
 use Rattle.dc_talk.specs.Clients.{next_dot}
-use Rattle.client_session.proofs.Keeping.{pushed, let_go, failed, succeeded}
+use Rattle.client_pending.proofs.Ops.{no_error}
+use Rattle.client_session.proofs.Standing.{pushed, let_go, failed}
 use Rattle.client_session.proofs.session.Session.push_update.Goals as goal
 
 pub invariant_of-self : goal.invariant_of-self
@@ -10,7 +11,7 @@ invariant_of-self c =
 
 pub invariant_of-self-else-is_err : goal.invariant_of-self-else-is_err
 invariant_of-self-else-is_err c =
-    let more = succeeded c.push-pushed.result (sym c.is_err.ensures.value ∙ c.if-is_err.false) c.push-pushed.ensures.ok in
+    let more = no_error c.push-pushed.result (sym c.is_err.ensures.value ∙ c.if-is_err.false) c.push-pushed.ensures.ok in
     let dot_is = c.next_dot.ensures ∙ ap next_dot (sym c.self.view_is) in
     let some = rw (← c.self.view_is) at c.requires.is_open in
     let room = rw (← c.self.view_is) at c.requires.place in

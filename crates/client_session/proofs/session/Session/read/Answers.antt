@@ -1,6 +1,6 @@
 use Rattle.std.proofs.Common.{sym, ap, ◌∙◌}
 use Rattle.dc_talk.specs.Clients.{next_dot}
-use Rattle.client_session.proofs.Keeping.{looked, missed}
+use Rattle.client_session.proofs.Standing.{looked, missed}
 use Rattle.client_session.proofs.session.Session.read.Goals as goal
 
 pub invariant_of-self : goal.invariant_of-self

@@ -1,6 +1,6 @@
 -- The states that are kept folded are still what the client has of objects, after each step of a session.
 use Rattle.std.proofs.Common.{◌≡◌, ◌≤◌, ◌<◌, ◌⊎◌, inl, inr, ℕ, zero, suc, ◌+◌, ◌-◌, max, drop, Bool, true, false, cond, List, [], ◌∷◌, ◌++◌, take, length, All, Option, Some, None, IsSome, refl, sym, ap, ◌∙◌, subst, arith, append-nil, append_assoc, length-append}
-use Rattle.std.specs.Prelude.{flat_map, ◌&&◌, IfSome, IfErr, OnOk, Result, Ok, Err, is_err, if◌then◌else◌, IsTrue, ◌≢◌}
+use Rattle.std.specs.Prelude.{flat_map, ◌&&◌, IfSome, IfErr, Result, Ok, Err, is_err, if◌then◌else◌, IsTrue, ◌≢◌}
 use Rattle.std.specs.Bool.{OnTrue}
 use Rattle.std.proofs.lemmas.List.Elements.{All-push}
 use Rattle.std.specs.Option.{unwrap_or, option_map}
@@ -10,6 +10,7 @@ use Rattle.std.proofs.lemmas.Option.{none-some, same_Some}
 use Rattle.std.proofs.lemmas.Grind.{flat_map-append}
 use Rattle.std.proofs.lemmas.List.Sums.{fold-append}
 use Rattle.list_core.proofs.Choices.{is_none_true}
+use Rattle.list_core.proofs.Firsts.{first_that_some}
 use Rattle.list_core.specs.Firsts.{first_that, without_first, in_front, brought_forward}
 use Rattle.ids_core.specs.declared.limits.TheConstants.{MOST_NUMBER, MOST_PENDING, MOST_UPDATES}
 use Rattle.ids_core.specs.declared.ids.Dot.{Dot}
@@ -33,7 +34,7 @@ use Rattle.dc_talk.specs.Rule.{can_follow}
 use Rattle.client_pending.proofs.Ops.{one_more, ops_from-last}
 use Rattle.client_session.specs.Sessions.{IsClient, IsDraft}
 use Rattle.client_session.specs.Folded.{StateEntries, HadApart, Follows, ops_behind}
-use Rattle.client_session.proofs.Folding.{no_ops_from}
+use Rattle.client_session.proofs.Found.{no_ops_from}
 use Rattle.client_session.proofs.Following.{followed, follows_closed}
 use Rattle.client_session.proofs.Changing.{grown}
 
@@ -53,30 +54,14 @@ module _ {X : Type 0} (p q : X → Bool) where
   forward-other : ((x : X) → q x ≡ true → p x ≡ false) → (xs : List X) → first_that p (brought_forward q xs) ≡ first_that p xs
   forward-other apart xs = by (first_that q xs) refl ∙ without-other apart xs
     where
-      passes : (ys : List X) (y : X) → first_that q ys ≡ Some y → q y ≡ true
-      passes [] y is = absurd (none-some y is)
-      passes (z ∷ ys) y is = at (q z) refl is (passes ys y)
-        where
-          at : (b : Bool) → q z ≡ b → cond b (Some z) (first_that q ys) ≡ Some y → (first_that q ys ≡ Some y → q y ≡ true) → q y ≡ true
-          at true test is rest = ap q (sym (same_Some z y is)) ∙ test
-          at false test is rest = rest is
-
       by : (f : Option X) → first_that q xs ≡ f → first_that p (in_front f (without_first q xs)) ≡ first_that p (without_first q xs)
       by None is = refl
-      by (Some y) is = ap (λ c. cond c (Some y) (first_that p (without_first q xs))) (apart y (passes xs y is))
+      by (Some y) is = ap (λ c. cond c (Some y) (first_that p (without_first q xs))) (apart y (first_that_some q xs y is).1)
 
 -- what passes first is still the first once it is in front
 forward-same : {X : Type 0} (p : X → Bool) (xs : List X) → first_that p (brought_forward p xs) ≡ first_that p xs
 forward-same {X} p xs = by (first_that p xs) refl
   where
-    passes : (ys : List X) (y : X) → first_that p ys ≡ Some y → p y ≡ true
-    passes [] y is = absurd (none-some y is)
-    passes (z ∷ ys) y is = at (p z) refl is (passes ys y)
-      where
-        at : (b : Bool) → p z ≡ b → cond b (Some z) (first_that p ys) ≡ Some y → (first_that p ys ≡ Some y → p y ≡ true) → p y ≡ true
-        at true test is rest = ap p (sym (same_Some z y is)) ∙ test
-        at false test is rest = rest is
-
     absent : (ys : List X) → first_that p ys ≡ None → first_that p (without_first p ys) ≡ None
     absent [] is = refl
     absent (z ∷ ys) is = at (p z) refl is (absent ys)
@@ -87,7 +72,7 @@ forward-same {X} p xs = by (first_that p xs) refl
 
     by : (f : Option X) → first_that p xs ≡ f → first_that p (in_front f (without_first p xs)) ≡ f
     by None is = absent xs is
-    by (Some y) is = rw (passes xs y is) refl
+    by (Some y) is = rw (first_that_some p xs y is).1 refl
 
 -- what is first among the first few is so among all
 among : {X : Type 0} (p : X → Bool) (n : ℕ) (xs : List X) (x : X) → first_that p (take n xs) ≡ Some x → first_that p xs ≡ Some x
@@ -336,8 +321,3 @@ none_open (u ∷ us) b some fails = absurd (false≢true (sym fails ∙ some (λ
 pub failed : {T P : Type 0} (r : Result T Refusal) → is_err r ≡ true → IfErr r (λ refusal. (refusal ≡ NoMemory) × P) → P
 failed (Ok x) is left = cc
 failed (Err e) is left = left.1
-
--- what success leaves
-pub succeeded : {T E P : Type 0} (r : Result T E) → is_err r ≡ false → OnOk r P → P
-succeeded (Ok x) is left = left
-succeeded (Err e) is left = cc
