@@ -1,1 +1,2 @@
 pub mod Promoting
+pub mod Tables

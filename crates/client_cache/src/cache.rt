@@ -1,16 +1,17 @@
-// The states of objects that a client keeps, a plain list.
-ghost use Rattle.std.specs.Prelude.{◌≡◌, ◌≤◌, ◌<◌, [], ◌∷◌, length, vec_len, position, slice_get, IfOk, IfSome, OnOk, OnErr};
-ghost use Rattle.std.specs.Bool.{OnTrue, OnFalse};
-ghost use Rattle.std.specs.Option.{option_map};
-ghost use Rattle.list_core.specs.Firsts.{without_first};
+// The states of objects that a client keeps.
+ghost use Rattle.std.specs.Option.{option_copied};
+ghost use Rattle.std.specs.Prelude.{◌≡◌, ◌≤◌, [], is_some, option_map, slice_get, IfOk, OnOk, OnErr};
+ghost use Rattle.std.specs.Bool.{OnTrue};
+ghost use Rattle.std.specs.Map.{lookup};
 ghost use Rattle.ids_core.specs.Ids.{same_object};
-ghost use Rattle.dc_talk.specs.Clients.{is_entry, cached, promoted};
+ghost use Rattle.dc_talk.specs.Clients.{cached, promoted};
+ghost use Rattle.client_cache.specs.Tables.{entries_of, is_held_at};
 
-use dc_talk::Cached;
 use ids_core::{NoMemory, ObjectId};
-use list_core::bring_forward;
+use lru::LruCache;
 use std::alloc::Global;
 use std::marker::Model;
+use std::num::NonZeroUsize;
 use tx_core::State;
 use vv_core::Vector;
 
@@ -18,21 +19,29 @@ use vv_core::Vector;
 /// the entries, the most recently used first, with the most that there may be (1 or more).
 #[derive(Drop)]
 pub struct Cache {
-    entries: Vec<Cached>,
-    capacity: usize,
+    table: Table,
+}
+
+// The entries, found by their objects, in the order of their last use.
+type Table = LruCache<ObjectId, Held>;
+
+// What is kept of an object: its state at a vector.
+#[derive(Drop)]
+pub(crate) struct Held {
+    pub(crate) vector: Vector,
+    pub(crate) state: State,
 }
 
 impl Model for Cache {
     ghost use Rattle.tx_core.specs.States.{state_codes};
-    ghost use Rattle.client_cache.specs.Caches.{Entries, IsCache};
+    ghost use Rattle.client_cache.specs.Caches.{Entries};
+    ghost use Rattle.client_cache.specs.Tables.{entries_of};
 
     ghost Value = { Entries };
 
     ghost coded = { Prim.hlevel state_codes };
 
-    ghost view = { λ c. record { entries = c.entries.items; capacity = c.capacity } };
-
-    ghost invariant = { λ c. IsCache c.entries.items c.capacity };
+    ghost view = { λ c. record { entries = entries_of c.table.entries; capacity = c.table.cap } };
 }
 
 impl Cache {
@@ -46,10 +55,12 @@ impl Cache {
         requires { 1 ≤ capacity }
         ensures { IfOk result (λ cache. cache ≡ record { entries = []; capacity = capacity }) }
     {
-        Ok(Cache {
-            entries: Vec::new(alloc),
-            capacity,
-        })
+        match NonZeroUsize::new(capacity) {
+            Some(capacity) => Ok(Cache {
+                table: LruCache::sparse(alloc, capacity)?,
+            }),
+            None => unreachable!(),
+        }
     }
 
     /// The state of the object at that vector, where there is one. Its entry becomes the most
@@ -58,8 +69,8 @@ impl Cache {
         ensures* ends { sem 𝓛 (EndsAs self.entry (record self.old { entries = promoted object.now at.now self.old.entries })) }
         ensures value { option_copied result ≡ cached object.now at.now self.old.entries }
     {
-        if promote(&mut self.entries, object, at) {
-            Some(&self.entries[0].state)
+        if promote(&mut self.table, object, at) {
+            first(&self.table)
         } else {
             None
         }
@@ -73,63 +84,40 @@ impl Cache {
         ensures ok { OnOk result (self.new.entries ≡ kept self.old.capacity (record { object = object.now; vector = at.now; state = state }) self.old.entries) }
         ensures err { OnErr result (self.new.entries ≡ self.old.entries) }
     {
-        let entry = Cached {
-            object: *object,
-            vector: *at,
-            state,
-        };
-        put(&mut self.entries, entry)?;
-        self.entries.truncate(self.capacity);
+        let held = Held { vector: *at, state };
+        let _size = self.table.len();
+        self.table.put(*object, held)?;
         Ok(())
     }
 }
 
-// Brings the entry of the object at the vector forward; whether there is one.
-fn promote(entries: &mut Vec<Cached>, object: &ObjectId, at: &Vector) -> bool
-    ensures entries { entries.new.items ≡ promoted object.now at.now entries.old.items }
-    ensures len { vec_len entries.new ≡ vec_len entries.old }
-    ensures none { OnFalse result (cached object.now at.now entries.old.items ≡ None) }
-    ensures some { OnTrue result (0 < vec_len entries.new) }
-    ensures first { OnTrue result (cached object.now at.now entries.old.items ≡ option_map (λ c. c.state) (slice_get entries.new.items 0)) }
+// Makes the entry of the object at the vector the most recently used; whether there is one.
+fn promote(table: &mut Table, object: &ObjectId, at: &Vector) -> bool
+    ensures entries { entries_of table.new.entries ≡ promoted object.now at.now (entries_of table.old.entries) }
+    ensures capacity { table.new.cap ≡ table.old.cap }
+    ensures there { result ≡ is_some (cached object.now at.now (entries_of table.old.entries)) }
+    ensures first { OnTrue result (cached object.now at.now (entries_of table.old.entries) ≡ option_map (λ e. e.1.state) (slice_get table.new.entries 0)) }
 {
-    match entry_place(entries.as_slice(), object, at) {
+    let _size = table.len();
+    has(table, object, at) && table.promote(object)
+}
+
+// Whether what is kept of the object is at the vector.
+fn has(table: &Table, object: &ObjectId, at: &Vector) -> bool
+    ensures { result ≡ is_held_at at.now (lookup (same_object object.now) table.now.entries) }
+{
+    match table.peek(object) {
+        Some(held) => held.vector == *at,
         None => false,
-        Some(place) => {
-            bring_forward(entries, place);
-            true
-        }
     }
 }
 
-// Puts an entry before all others, in place of the one of its object.
-fn put(entries: &mut Vec<Cached>, entry: Cached) -> Result<(), NoMemory>
-    ensures ok { OnOk result (entries.new.items ≡ entry ∷ without_first (λ c. same_object c.object entry.object) entries.old.items) }
-    ensures err { OnErr result (entries.new.items ≡ entries.old.items) }
+// The state of the most recently used entry.
+fn first(table: &Table) -> Option<&State>
+    ensures { option_copied result ≡ option_map (λ e. e.1.state) (slice_get table.now.entries 0) }
 {
-    match object_place(entries.as_slice(), &entry.object) {
-        None => entries.insert(0, entry)?,
-        Some(place) => {
-            bring_forward(entries, place);
-            entries[0] = entry;
-        }
+    match table.peek_mru() {
+        Some((_, held)) => Some(&held.state),
+        None => None,
     }
-    Ok(())
-}
-
-// The first entry of the object at the vector.
-fn entry_place(entries: &[Cached], object: &ObjectId, at: &Vector) -> Option<usize>
-    ensures place { result ≡ position (is_entry object.now at.now) entries.now }
-    ensures inside { IfSome result (λ place. place < length entries.now) }
-{
-    entries
-        .iter()
-        .position(|entry| entry.object == *object && entry.vector == *at)
-}
-
-// The first entry of the object.
-fn object_place(entries: &[Cached], object: &ObjectId) -> Option<usize>
-    ensures place { result ≡ position (λ c. same_object c.object object.now) entries.now }
-    ensures inside { IfSome result (λ place. place < length entries.now) }
-{
-    entries.iter().position(|entry| entry.object == *object)
 }

@@ -1,2 +1,2 @@
 mod Lines
-mod Ops
+pub mod Ops

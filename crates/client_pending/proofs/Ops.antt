@@ -22,10 +22,11 @@ abbrev pub PutsLast : (ObjectId → List (Mark × Op)) → (ObjectId → List (M
 PutsLast f g a x = (g a ≡ f a ++ x ∷ []) × ((o : ObjectId) → same_object a o ≡ false → g o ≡ f o)
 
 -- what one update adds to the operations of an object
-abbrev one_more : ObjectId → Mark → Update → List (Mark × Op)
+abbrev pub one_more : ObjectId → Mark → Update → List (Mark × Op)
 one_more o m u = cond (same_object u.object o) ((m, u.op) ∷ []) []
 
-ops_from-last : (o : ObjectId) (rank : ℕ) (dot : Dot) (place : ℕ) (us : List Update) (u : Update) → ops_from o rank dot place (us ++ u ∷ []) ≡ ops_from o rank dot place us ++ one_more o (mark rank dot (place + length us)) u
+-- the operations of updates with one more behind them
+pub ops_from-last : (o : ObjectId) (rank : ℕ) (dot : Dot) (place : ℕ) (us : List Update) (u : Update) → ops_from o rank dot place (us ++ u ∷ []) ≡ ops_from o rank dot place us ++ one_more o (mark rank dot (place + length us)) u
 ops_from-last o rank dot place [] u = ap (λ p. one_more o (mark rank dot p) u) plus
   where
     plus : place ≡ place + 0

@@ -1,5 +1,6 @@
 // Commits that are pending.
 ghost use Rattle.std.specs.Prelude.{◌≡◌, ◌≤◌, ◌++◌, ◌∷◌, [], length, drop, vec_len, flat_map, IfErr, OnOk};
+ghost use Rattle.std.specs.Bool.{OnFalse};
 ghost use Rattle.std.specs.Option.{option_copied};
 ghost use Rattle.ids_core.specs.declared.limits.TheConstants.{MOST_UPDATES};
 ghost use Rattle.tx_core.specs.States.{fold_of};
@@ -76,6 +77,14 @@ impl Pending {
     {
         take_txs(&mut self.index, &self.txs.as_slice()[..count]);
         drop_front(&mut self.txs, count);
+    }
+
+    /// Whether a commit may have an operation on an object: where it says no, none has. Time: logarithmic in
+    /// the number of objects.
+    pub fn may_change(&self, object: &ObjectId) -> bool
+        ensures { OnFalse result (flat_map (ops_of object.now) self.now ≡ []) }
+    {
+        self.index.get(object).is_some()
     }
 
     /// Folds the operations of all commits on an object, in their order, into its state. Where memory

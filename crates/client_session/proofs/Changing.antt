@@ -1,13 +1,12 @@
 -- What a change leaves of a session.
 use Rattle.std.proofs.Common.{◌≡◌, ◌≤◌, ◌<◌, ℕ, Bool, true, false, cond, List, [], ◌∷◌, ◌++◌, length, Option, Some, None, refl, ap, ◌∙◌, length-append, arith}
-use Rattle.std.specs.Prelude.{IfSome, IsSome, OnOk, IfErr, Result, Ok, Err, nat_lt, is_some}
+use Rattle.std.specs.Prelude.{IfSome, IsSome, nat_lt, is_some}
 use Rattle.std.specs.Option.{unwrap_or}
 use Rattle.std.proofs.lemmas.List.Elements.{All-push}
 use Rattle.list_core.proofs.Choices.{option_map-none}
 use Rattle.ids_core.specs.declared.ids.OpId.{OpId}
 use Rattle.ids_core.specs.declared.limits.TheConstants.{MOST_TAGS, MOST_UPDATES}
 use Rattle.ids_core.specs.declared.object.ObjectId.{ObjectId}
-use Rattle.tx_core.specs.declared.op.Op.{Op}
 use Rattle.tx_core.specs.declared.tx.Update.{Update}
 use Rattle.tx_core.specs.declared.state.State.{State}
 use Rattle.tx_core.specs.States.{tags_of}
@@ -17,14 +16,14 @@ use Rattle.dc_talk.specs.declared.calls.Change.TheVariants.{Inc, Write, Add, Rem
 use Rattle.dc_talk.specs.declared.calls.Call.TheVariants.{Change as ChangeCall}
 use Rattle.dc_talk.specs.declared.calls.Outcome.TheVariants.{Fine, Refused}
 use Rattle.dc_talk.specs.declared.calls.Refusal.{Refusal}
-use Rattle.dc_talk.specs.declared.calls.Refusal.TheVariants.{NeedsFetch, TooManyTags, NoMemory}
+use Rattle.dc_talk.specs.declared.calls.Refusal.TheVariants.{NeedsFetch, TooManyTags}
 use Rattle.dc_talk.specs.Clients.{Client, cached, promoted, view}
 use Rattle.dc_talk.specs.Calls.{sort_of_change, is_modest, named, op_of, viewed, look_up_outcome, looked_up, did}
 use Rattle.client_cache.proofs.Promoting.{promoted_absent}
-use Rattle.client_session.specs.Sessions.{IsClient, IsDraft}
+use Rattle.client_session.specs.Sessions.{IsDraft}
 
 -- the operation of a change that is taken is fit for its object
-fits : (o : ObjectId) (c : Change) (over : List OpId) → sort_of_change c ≡ o.sort → is_modest c ≡ true → length over ≤ MOST_TAGS → IsFitUpdate (record { object = o; op = op_of c over })
+pub fits : (o : ObjectId) (c : Change) (over : List OpId) → sort_of_change c ≡ o.sort → is_modest c ≡ true → length over ≤ MOST_TAGS → IsFitUpdate (record { object = o; op = op_of c over })
 fits o (Inc delta) over kind modest few = record { kind = kind; delta = modest; tags = omega arith }
 fits o (Write word) over kind modest few = record { kind = kind; delta = modest; tags = omega arith }
 fits o (Add word) over kind modest few = record { kind = kind; delta = modest; tags = few }
@@ -33,31 +32,11 @@ fits o (Put key word) over kind modest few = record { kind = kind; delta = modes
 fits o (Erase key) over kind modest few = record { kind = kind; delta = modest; tags = few }
 
 -- one more update that is fit, where there is place for it
-grown : (clock : ℕ) (draft : Option (List Update)) (update : Update) → IsSome draft → length (unwrap_or draft []) < MOST_UPDATES → IsFitUpdate update → IfSome draft (IsDraft clock) → IsDraft clock (unwrap_or draft [] ++ update ∷ [])
+pub grown : (clock : ℕ) (draft : Option (List Update)) (update : Update) → IsSome draft → length (unwrap_or draft []) < MOST_UPDATES → IsFitUpdate update → IfSome draft (IsDraft clock) → IsDraft clock (unwrap_or draft [] ++ update ∷ [])
 grown clock None update some place fit is = cc
 grown clock (Some updates) update some place fit is =
     let more = length-append updates (update ∷ []) in
     record { rank = is.rank; few = omega (arith, more, place); fit = All-push IsFitUpdate updates update is.fit fit }
-
--- the open transaction after a push that may be refused
-pushed : {X : Type 0} (clock : ℕ) (old new : Option (List Update)) (update : Update) (r : Result X Refusal) → IsSome old → length (unwrap_or old []) < MOST_UPDATES → IsFitUpdate update → IfSome old (IsDraft clock) → OnOk r (new ≡ Some (unwrap_or old [] ++ update ∷ [])) → IfErr r (λ refusal. (refusal ≡ NoMemory) × (new ≡ old)) → IfSome new (IsDraft clock)
-pushed clock old new update (Ok x) some place fit is ok err = rw ok (grown clock old update some place fit is)
-pushed clock old new update (Err refusal) some place fit is ok err = rw err.1 is
-
-pub changed : {X : Type 0} (s : Client) (o : ObjectId) (c : Change) (over : List OpId) (op : Op) (draft : Option (List Update)) (r : Result X Refusal) → IsClient s → IsSome s.draft → length (unwrap_or s.draft []) < MOST_UPDATES → sort_of_change c ≡ o.sort → is_modest c ≡ true → op ≡ op_of c over → length over ≤ MOST_TAGS → OnOk r (draft ≡ Some (unwrap_or s.draft [] ++ record { object = o; op = op } ∷ [])) → IfErr r (λ refusal. (refusal ≡ NoMemory) × (draft ≡ s.draft)) → IsClient (record s { draft = draft })
-changed s o c over op draft r is some place kind modest same few ok err =
-    record {
-      client = is.client;
-      mine = is.mine;
-      own = is.own;
-      clock = is.clock;
-      count = is.count;
-      room = is.room;
-      pending = is.pending;
-      fit = is.fit;
-      sent = is.sent;
-      draft = pushed s.clock s.draft draft (record { object = o; op = op }) r some place (rw same (fits o c over kind modest few)) is.draft ok err;
-    }
 
 -- a change that is refused for its many identifiers
 crowded : (s : Client) (o : ObjectId) (c : Change) (r : Refusal) (count : ℕ) (test : Bool) → cond test (Refused (TooManyTags count)) Fine ≡ Refused r → record s { cache = looked_up s o c } ≡ did s (ChangeCall o c) (Refused r)

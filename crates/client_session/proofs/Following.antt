@@ -17,13 +17,22 @@ no_draft : (clock : ℕ) (draft : Option (List Update)) → is_none draft ≡ tr
 no_draft clock None is = tt
 no_draft clock (Some updates) is = cc
 
+-- a snapshot follows only where no transaction is open
+pub follows_closed : (s : Client) (vector : List ℕ) (mine top : ℕ) → can_follow s vector mine top ≡ true → is_none s.draft ≡ true
+follows_closed s vector mine top follows =
+    let most = and_parts _ (nat_le mine s.own) follows in
+    let least = and_parts _ (nat_le s.mine mine) most.0 in
+    let ranked = and_parts _ (nat_le top MOST_NUMBER) least.0 in
+    let covered = and_parts _ (covers vector s.vector) ranked.0 in
+    let wide = and_parts (is_none s.draft) (length vector == length s.vector) covered.0 in
+    wide.0
+
 pub followed : (s : Client) (vector : List ℕ) (mine top : ℕ) → IsClient s → can_follow s vector mine top ≡ true → IsClient (record s { vector = vector; mine = mine; clock = max s.clock top; pending = drop (mine - s.mine) s.pending })
 followed s vector mine top is follows =
     let most = and_parts _ (nat_le mine s.own) follows in
     let least = and_parts _ (nat_le s.mine mine) most.0 in
     let ranked = and_parts _ (nat_le top MOST_NUMBER) least.0 in
     let covered = and_parts _ (covers vector s.vector) ranked.0 in
-    let wide = and_parts (is_none s.draft) (length vector == length s.vector) covered.0 in
     let low : s.mine ≤ mine = leb-true s.mine mine least.1 in
     let high : mine ≤ s.own = leb-true mine s.own most.1 in
     let rank : top ≤ MOST_NUMBER = leb-true top MOST_NUMBER ranked.1 in
@@ -42,5 +51,5 @@ followed s vector mine top is follows =
       pending = All-drop (λ tx. length tx.updates ≤ MOST_UPDATES) (mine - s.mine) s.pending is.pending;
       fit = All-drop (λ tx. All IsFitUpdate tx.updates) (mine - s.mine) s.pending is.fit;
       sent = is.sent;
-      draft = no_draft (max s.clock top) s.draft wide.0;
+      draft = no_draft (max s.clock top) s.draft (follows_closed s vector mine top follows);
     }

@@ -1,2 +1,4 @@
 pub mod Following
 pub mod Changing
+mod Found
+mod Standing

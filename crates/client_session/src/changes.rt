@@ -5,9 +5,11 @@ ghost use Rattle.tx_core.specs.Checks.{IsFitUpdate};
 ghost use Rattle.client_session.specs.SessionAnswers.{MayBeShort};
 ghost use Rattle.dc_talk.specs.Calls.{sort_of_change, is_modest, named, op_of, tags_in};
 
+use crate::folded::{follow, let_go, seen, stand};
 use crate::session::Session;
+use crate::views::updates_of;
 use dc_talk::{Call, Change, Outcome, Refusal};
-use ids_core::{MOST_TAGS, MOST_UPDATES, Name, ObjectId, Tags};
+use ids_core::{MOST_TAGS, MOST_UPDATES, Mark, Name, ObjectId, OpId, Tags};
 use std::alloc::Global;
 use tx_core::{Op, Update, Updates, is_small_delta};
 
@@ -36,10 +38,34 @@ impl Session {
                 Err(refusal) => Err(refusal),
                 Ok(op) => {
                     let object = *object;
-                    push_update(&mut self.draft, Update { object, op })
+                    self.push_update(Update { object, op })
                 }
             },
         }
+    }
+
+    // Puts an update at the end of the open ones, and takes it into what is kept of its object.
+    fn push_update(&mut self, update: Update) -> Result<(), Refusal>
+        requires is_open { IsSome self.old.draft }
+        requires place { length (draft_updates self.old) < MOST_UPDATES }
+        requires fit { IsFitUpdate update }
+        ensures ok { OnOk result (self.new ≡ record self.old { draft = Some (draft_updates self.old ++ update ∷ []) }) }
+        ensures err { IfErr result (λ refusal. (refusal ≡ Refusal.NoMemory) × (self.new ≡ self.old)) }
+    {
+        let object = update.object;
+        let mark = Mark {
+            rank: self.clock + 1,
+            id: OpId {
+                dot: self.next_dot(),
+                place: updates_of(&self.draft).len() as u16,
+            },
+        };
+        follow(&mut self.folded, &object, &mark, &update.op);
+        let pushed = push(&mut self.draft, update);
+        if pushed.is_err() {
+            let_go(&mut self.folded, &object);
+        }
+        pushed
     }
 
     // Why a change is refused before any look-up.
@@ -106,8 +132,25 @@ impl Session {
         ensures short { result ≡ Err Refusal.NoMemory → IsSome (viewed self.old object.now) }
         ensures cache { self.new ≡ record self.old { cache = promoted object.now self.old.vector self.old.cache } }
     {
-        let state = self.look_up(object)?;
-        few(state.tags_of(alloc, name)?)
+        let at = self.vector;
+        let rank = self.clock + 1;
+        let dot = self.next_dot();
+        match self.cache.find(object, &at) {
+            None => Err(Refusal::NeedsFetch { object: *object }),
+            Some(base) => {
+                let updates = updates_of(&self.draft);
+                stand(
+                    &mut self.folded,
+                    object,
+                    base,
+                    &self.pending,
+                    rank,
+                    &dot,
+                    updates,
+                )?;
+                few(seen(&self.folded, object, base).tags_of(alloc, name)?)
+            }
+        }
     }
 }
 
@@ -135,7 +178,7 @@ fn is_modest(change: &Change) -> bool
 }
 
 // Puts an update at the end of the open ones.
-fn push_update(draft: &mut Option<Updates>, update: Update) -> Result<(), Refusal>
+fn push(draft: &mut Option<Updates>, update: Update) -> Result<(), Refusal>
     requires { IsSome draft.old }
     ensures ok { OnOk result (draft.new ≡ Some (unwrap_or draft.old [] ++ update ∷ [])) }
     ensures err { IfErr result (λ refusal. (refusal ≡ Refusal.NoMemory) × (draft.new ≡ draft.old)) }

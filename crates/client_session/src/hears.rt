@@ -1,11 +1,13 @@
 // What a session hears of a centre.
 ghost use Rattle.std.specs.Prelude.{◌≡◌, ◌≤◌, ◌-◌, ◌&&◌, ◌==◌, if◌then◌else◌, min, max, drop, vec_len, true, IfOk, OnOk, OnErr};
+ghost use Rattle.std.specs.Bool.{OnTrue};
 ghost use Rattle.ids_core.specs.Ids.{same_sort};
 ghost use Rattle.tx_core.specs.States.{sort_of};
 ghost use Rattle.dc_talk.specs.Clients.{same_vector, kept};
 ghost use Rattle.dc_talk.specs.Rule.{is_linked, sent_through, can_follow, takes, heard};
 ghost use Rattle.client_session.specs.SessionAnswers.{heard_as, is_object};
 
+use crate::folded::{clear_unless, let_go};
 use crate::session::Session;
 use dc_talk::{Ask, Connection, Say};
 use ids_core::{Dot, MOST_NUMBER, NoMemory, ObjectId};
@@ -73,6 +75,8 @@ impl Session {
         ensures new { self.new ≡ (if (client == self.old.client) && is_linked centre self.old.link && can_follow self.old vector.now mine top then record self.old { vector = vector.now; mine = mine; clock = max self.old.clock top; pending = drop (mine - self.old.mine) self.old.pending } else self.old) }
     {
         if client == self.client && self.is_linked(centre) && self.can_follow(vector, mine, top) {
+            let is_same = self.is_at(vector, mine);
+            clear_unless(&mut self.folded, is_same);
             self.pending.drop_front((mine - self.mine) as usize);
             self.vector = *vector;
             self.mine = mine;
@@ -97,6 +101,7 @@ impl Session {
         if *at == self.vector && state.sort() == object.sort {
             let copy = state.copy()?;
             self.cache.keep(object, at, copy)?;
+            let_go(&mut self.folded, object);
             Ok(Heard::Took)
         } else {
             Ok(Heard::Ignored)
@@ -129,6 +134,13 @@ impl Session {
             None => false,
             Some(link) => link.centre == centre,
         }
+    }
+
+    // Whether the snapshot is this one.
+    fn is_at(&self, vector: &Vector, mine: u64) -> bool
+        ensures { OnTrue result ((vector.now ≡ self.now.vector) × (mine ≡ self.now.mine)) }
+    {
+        *vector == self.vector && mine == self.mine
     }
 
     // Whether the snapshot can follow this one.

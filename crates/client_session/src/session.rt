@@ -2,6 +2,7 @@
 ghost use Rattle.std.specs.Prelude.{◌≡◌, ◌≢◌, ◌≤◌, ◌<◌, ◌↔◌, ◌++◌, ◌∷◌, [], ◌+◌, length, vec_len, vec_capacity, IsSome, IsTrue, IfOk, IfErr, OnOk, OnErr, IfSome, IfNone};
 ghost use Rattle.ids_core.specs.declared.limits.TheConstants.{MOST_CENTRES, MOST_CLIENTS};
 
+use crate::folded::{Folded, let_all_go, new_folded};
 use client_cache::Cache;
 use client_pending::Pending;
 use dc_talk::{Call, Connection, Outcome, Refusal};
@@ -45,12 +46,15 @@ pub struct Session {
     pub(crate) link: Option<Connection>,
     pub(crate) draft: Option<Updates>,
     pub(crate) cache: Cache,
+    // What the client has of objects that it looked up at this snapshot, where something is pending or open.
+    pub(crate) folded: Folded,
 }
 
 impl Model for Session {
     ghost use Rattle.tx_core.specs.States.{state_codes};
     ghost use Rattle.dc_talk.specs.Clients.{Client};
     ghost use Rattle.client_session.specs.Sessions.{IsClient};
+    ghost use Rattle.client_session.specs.Folded.{Follows};
 
     ghost Value = { Client };
 
@@ -58,11 +62,11 @@ impl Model for Session {
 
     ghost view = { λ s. record { client = s.client; vector = s.vector; own = s.own; mine = s.mine; clock = s.clock; pending = s.pending; link = s.link; draft = s.draft; cache = s.cache.entries; capacity = s.cache.capacity } };
 
-    ghost invariant = { λ s. IsClient (record { client = s.client; vector = s.vector; own = s.own; mine = s.mine; clock = s.clock; pending = s.pending; link = s.link; draft = s.draft; cache = s.cache.entries; capacity = s.cache.capacity }) };
+    ghost invariant = { λ s. let seen : Client = record { client = s.client; vector = s.vector; own = s.own; mine = s.mine; clock = s.clock; pending = s.pending; link = s.link; draft = s.draft; cache = s.cache.entries; capacity = s.cache.capacity } in IsClient seen × Follows s.folded.entries seen };
 }
 
 impl Session {
-    ghost use Rattle.dc_talk.specs.Clients.{new_client, draft_updates};
+    ghost use Rattle.dc_talk.specs.Clients.{new_client, next_dot, draft_updates};
     ghost use Rattle.dc_talk.specs.Calls.{Ends, committed, begin_outcome, commit_outcome};
     ghost use Rattle.client_session.specs.SessionAnswers.{facts_of};
 
@@ -84,6 +88,7 @@ impl Session {
             link: None,
             draft: None,
             cache: Cache::new(alloc, cache)?,
+            folded: new_folded(alloc, cache)?,
         })
     }
 
@@ -159,11 +164,13 @@ impl Session {
         ensures refused { IfErr result (λ refusal. Ends self.old self.new Call.Abort (Outcome.Refused refusal)) }
         ensures known { result ≢ Err Refusal.NoMemory }
     {
-        if self.draft.is_none() {
-            return Err(Refusal::NotOpen);
+        match self.draft.take() {
+            None => Err(Refusal::NotOpen),
+            Some(updates) => {
+                let_all_go(&mut self.folded, updates.as_slice());
+                Ok(())
+            }
         }
-        self.draft = None;
-        Ok(())
     }
 
     fn begin_refusal(&self) -> Option<Refusal>
@@ -207,6 +214,16 @@ impl Session {
         }
     }
 
+    // The dot of the open transaction, or of the next one.
+    pub(crate) fn next_dot(&self) -> Dot
+        ensures { result ≡ next_dot self.now }
+    {
+        Dot {
+            client: self.client,
+            number: self.own + 1,
+        }
+    }
+
     // Makes the open transaction the last commit that is pending: the new number.
     fn commit_draft(&mut self) -> Result<u64, Refusal>
         requires open { IsSome self.old.draft }
@@ -214,13 +231,10 @@ impl Session {
         ensures ok { IfOk result (λ number. (number ≡ self.old.own + 1) × (self.new ≡ committed self.old)) }
         ensures err { IfErr result (λ refusal. (refusal ≡ Refusal.NoMemory) × (self.new ≡ self.old)) }
     {
+        let dot = self.next_dot();
         match self.draft.take() {
             None => unreachable!(),
             Some(updates) => {
-                let dot = Dot {
-                    client: self.client,
-                    number: self.own + 1,
-                };
                 let tx = Tx {
                     dot,
                     rank: self.clock + 1,

@@ -6,6 +6,7 @@ use Rattle.tx_core.specs.declared.state.State.{State}
 use Rattle.tx_core.specs.States.{empty_of, fold_of}
 use Rattle.tx_core.specs.Operations.{ops_of}
 use Rattle.dc_talk.specs.Records.{has, inside, firsts}
+
 -- the state of the object at vector w, after the records A: the fold over the first record of each
 -- dot that is inside w
 abbrev pub state_at : ObjectId → List Record → List ℕ → State

@@ -42,7 +42,9 @@ fn give(
 ) -> Result<bool, NoMemory> {
     let of_a = sum(alloc, pending, &objects[0])?;
     let of_b = sum(alloc, pending, &objects[1])?;
-    Ok(of_a == Some(sums[0]) && of_b == Some(sums[1]))
+    let may_change = pending.may_change(&objects[0]) == (sums[0] != 0)
+        && pending.may_change(&objects[1]) == (sums[1] != 0);
+    Ok(of_a == Some(sums[0]) && of_b == Some(sums[1]) && may_change)
 }
 
 // What a read of a counter gives there.

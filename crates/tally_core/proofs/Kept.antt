@@ -45,6 +45,14 @@ module _ {P : Type 0} where
       let same : v ≡ x = is ∙ ap (turned add) (sym (at-sparse nothing is_nothing place_cmp_total place_cmp_same nothing_is es p ∙ ap (λ o. unwrap_or o nothing) there)) in
       sparse_updated nothing is_nothing place_cmp_total place_cmp_same nothing_is es fs p x (Some v) (ap (λ x. cond (is_nothing x) None (Some x)) same) u
 
+  -- a cell that is put where none stands, as nothing there is turned
+  pub seen-raise : (es fs : List (Place × Cell P)) (p : Place) (add : Option P) (v : Cell P) → find es p ≡ None → v ≡ turned add nothing → Updated es fs p (Some v) → seen fs ≡ turn (seen es) (p, add)
+  unfolding change
+  seen-raise es fs p add v gone is u =
+      let x = turned add (cell_at (seen es) p) in
+      let same : v ≡ x = is ∙ ap (turned add) (sym (at-sparse nothing is_nothing place_cmp_total place_cmp_same nothing_is es p ∙ ap (λ o. unwrap_or o nothing) gone)) in
+      sparse_updated nothing is_nothing place_cmp_total place_cmp_same nothing_is es fs p x (Some v) (ap (λ x. cond (is_nothing x) None (Some x)) same) u
+
   -- a cell of nothing that is put where none stands
   pub seen-stand : (es fs : List (Place × Cell P)) (p : Place) (v : Cell P) → find es p ≡ None → v ≡ nothing → Updated es fs p (Some v) → seen fs ≡ seen es
   seen-stand es fs p v gone is u = sparse_kept nothing is_nothing place_cmp_total place_cmp_same nothing_is es fs p (Some v) (rw (gone, is) refl) u

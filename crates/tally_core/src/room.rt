@@ -87,7 +87,8 @@ pub(crate) fn clear_room<P: Copy>(
     }
 }
 
-fn clear<P: Copy>(cells: &mut BTreeMap<Place, Cell<P>>, name: &Name, id: &OpId)
+// Takes the cell of an identifier out, where it is one of 0.
+pub(crate) fn clear<P: Copy>(cells: &mut BTreeMap<Place, Cell<P>>, name: &Name, id: &OpId)
     ensures { seen cells.new.entries ≡ seen cells.old.entries }
 {
     let place = Place {
@@ -112,14 +113,14 @@ fn nothing<P: Copy>() -> Cell<P>
     }
 }
 
-fn is_nothing<P: Copy>(cell: &Cell<P>) -> bool
+pub(crate) fn is_nothing<P: Copy>(cell: &Cell<P>) -> bool
     ensures { result ≡ is_nothing cell.now }
 {
     cell.count == 0 && cell.kept.is_none()
 }
 
 // Whether a tally can rise, or fall, within `i64`.
-fn is_within(rises: bool, count: i64) -> bool
+pub(crate) fn is_within(rises: bool, count: i64) -> bool
     ensures { result ≡ is_within rises count }
 {
     if rises {

@@ -10,7 +10,7 @@ ghost use Rattle.tally_core.specs.Live.{live_ids, live_names, kept_at, IsLiveNam
 use crate::live::{kept_from, live_from, names_in};
 use crate::place::{Cell, Place};
 use crate::room::{clear_room, make_room};
-use crate::turn::turn_all;
+use crate::turn::{raise, turn_all};
 use ids_core::{Name, NoMemory, OpId, Tags};
 use std::alloc::Global;
 use std::collections::BTreeMap;
@@ -72,11 +72,18 @@ impl<P: Copy> Tallies<P> {
         ensures err { OnErr result (self.new ≡ self.old) }
     {
         let over = over.as_slice();
+        if over.is_empty() {
+            return match add {
+                Some(kept) => raise(&mut self.cells, name, id, kept),
+                None => Ok(()),
+            };
+        }
         let room = make_room(&mut self.cells, name, id, add.is_some(), over);
         if room.is_ok() {
             turn_all(&mut self.cells, name, id, add, over);
+        } else {
+            clear_room(&mut self.cells, name, id, over);
         }
-        clear_room(&mut self.cells, name, id, over);
         room
     }
 }

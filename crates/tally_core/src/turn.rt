@@ -1,15 +1,18 @@
 // Tallies changed in place, where a cell stands for each.
-ghost use Rattle.std.specs.Prelude.{◌≡◌, Some, None, fold, is_some, option_map, true, false};
+ghost use Rattle.std.specs.Prelude.{◌≡◌, Some, None, fold, is_some, option_map, true, false, OnOk, OnErr};
+ghost use Rattle.std.specs.Bool.{OnTrue};
 ghost use Rattle.std.specs.Ordering.{eq_by_cmp};
 ghost use Rattle.std.specs.BTreeMap.{get};
 ghost use Rattle.ids_core.specs.Ascending.{IsAscending};
 ghost use Rattle.tally_core.specs.declared.place.Place as the_place;
+ghost use Rattle.tally_core.specs.declared.place.Cell as the_cell;
 ghost use Rattle.tally_core.specs.Places.{place_cmp, place};
-ghost use Rattle.tally_core.specs.Cells.{seen, turn, turned, changed, lowers, cell};
+ghost use Rattle.tally_core.specs.Cells.{seen, turn, turned, changed, lowers, cell, is_nothing};
 ghost use Rattle.tally_core.specs.Room.{Fits, CanLower, is_within};
 
 use crate::place::{Cell, Place};
-use ids_core::{Name, OpId};
+use crate::room::{clear, is_nothing, is_within};
+use ids_core::{Name, NoMemory, OpId};
 use std::collections::BTreeMap;
 
 // The changes of one operation.
@@ -25,10 +28,45 @@ pub(crate) fn turn_all<P: Copy>(
     requires raises { is_some add ≡ true → Fits true cells.old (place name.now id.now) }
     ensures { seen cells.new.entries ≡ changed (seen cells.old.entries) name.now id.now add over.now }
 {
+    let adds = add.is_some();
     if let Some(kept) = add {
         turn(cells, name, id, Some(kept));
     }
     lower_all(cells, name, over);
+    if adds {
+        clear(cells, name, id);
+    }
+}
+
+// One more for an identifier, of an add that sees nothing and keeps something. An `Err` leaves all as it
+// was.
+pub(crate) fn raise<P: Copy>(
+    cells: &mut BTreeMap<Place, Cell<P>>,
+    name: &Name,
+    id: &OpId,
+    kept: P,
+) -> Result<(), NoMemory>
+    ensures ok { OnOk result (seen cells.new.entries ≡ turn (seen cells.old.entries) (place name.now id.now, Some kept)) }
+    ensures err { OnErr result (seen cells.new.entries ≡ seen cells.old.entries) }
+{
+    let place = Place {
+        name: *name,
+        id: *id,
+    };
+    match cells.get(&place) {
+        None => {
+            cells.insert(place, make_cell(1, Some(kept)))?;
+            Ok(())
+        }
+        Some(cell) => {
+            if !is_within(true, cell.count) {
+                return Err(NoMemory);
+            }
+            turn(cells, name, id, Some(kept));
+            clear(cells, name, id);
+            Ok(())
+        }
+    }
 }
 
 // One less for each identifier.
@@ -38,14 +76,35 @@ fn lower_all<P: Copy>(cells: &mut BTreeMap<Place, Cell<P>>, name: &Name, over: &
     ensures { seen cells.new.entries ≡ fold turn (seen cells.old.entries) (lowers name.now over.now) }
 {
     for id in over {
-        turn(cells, name, id, None);
+        lower(cells, name, id);
     }
 }
 
-// One more, of an add that keeps something, or one less.
-fn turn<P: Copy>(cells: &mut BTreeMap<Place, Cell<P>>, name: &Name, id: &OpId, add: Option<P>)
+// One less for an identifier, whose cell goes where nothing is left in it.
+fn lower<P: Copy>(cells: &mut BTreeMap<Place, Cell<P>>, name: &Name, id: &OpId)
+    requires { Fits false cells.old (place name.now id.now) }
+    ensures view { seen cells.new.entries ≡ turn (seen cells.old.entries) (place name.now id.now, None) }
+    ensures apart { (p : the_place.Place) → eq_by_cmp place_cmp (place name.now id.now) p ≡ false → get place_cmp cells.new p ≡ get place_cmp cells.old p }
+{
+    let place = Place {
+        name: *name,
+        id: *id,
+    };
+    if turn(cells, name, id, None) {
+        cells.remove(&place);
+    }
+}
+
+// One more, of an add that keeps something, or one less; whether nothing is left there.
+fn turn<P: Copy>(
+    cells: &mut BTreeMap<Place, Cell<P>>,
+    name: &Name,
+    id: &OpId,
+    add: Option<P>,
+) -> bool
     requires { Fits (is_some add) cells.old (place name.now id.now) }
     ensures view { seen cells.new.entries ≡ turn (seen cells.old.entries) (place name.now id.now, add) }
+    ensures left { OnTrue result ((c : the_cell.Cell P) × (get place_cmp cells.new (place name.now id.now) ≡ Some c) × (is_nothing c ≡ true)) }
     ensures stands { get place_cmp cells.new (place name.now id.now) ≡ option_map (turned add) (get place_cmp cells.old (place name.now id.now)) }
     ensures apart { (p : the_place.Place) → eq_by_cmp place_cmp (place name.now id.now) p ≡ false → get place_cmp cells.new p ≡ get place_cmp cells.old p }
 {
@@ -54,7 +113,10 @@ fn turn<P: Copy>(cells: &mut BTreeMap<Place, Cell<P>>, name: &Name, id: &OpId, a
         id: *id,
     };
     match cells.get_mut(&place) {
-        Some(cell) => *cell = turned(*cell, add),
+        Some(cell) => {
+            *cell = turned(*cell, add);
+            is_nothing(cell)
+        }
         None => unreachable!(),
     }
 }

@@ -6,8 +6,8 @@ use Rattle.tally_core.proofs.Fitting.{lower_first, lower_rest, lowered_more, asc
 use Rattle.tally_core.specs.Places.{least_id}
 use Rattle.tally_core.proofs.turn.lower_all.Goals as goal
 
-pub turn-requires : goal.turn-requires
-turn-requires g c = lower_first c.loop-id.cells c.args.name.now c.args.over.now c.loop-id.id-index least_id c.loop-id-test.true c.loop-id.invariant.2
+pub lower-requires : goal.lower-requires
+lower-requires g c = lower_first c.loop-id.cells c.args.name.now c.args.over.now c.loop-id.id-index least_id c.loop-id-test.true c.loop-id.invariant.2
 
 pub loop-id-preserved : goal.loop-id-preserved
 loop-id-preserved g c =
@@ -15,7 +15,7 @@ loop-id-preserved g c =
     let more = drop_more over i least_id c.loop-id-test.true in
     let up = subst IsAscending more c.loop-id.invariant.1 in
     let can = subst (CanLower c.loop-id.cells name) more c.loop-id.invariant.2 in (
-      lowered_more _ _ _ name over i c.loop-id-test.true c.turn.ensures.view c.loop-id.invariant.0,
+      lowered_more _ _ _ name over i c.loop-id-test.true c.lower.ensures.view c.loop-id.invariant.0,
       ascending_rest (get_or over i least_id) (drop (i + 1) over) up,
-      lower_rest c.loop-id.cells c.turn.new.cells name (get_or over i least_id) (drop (i + 1) over) up c.turn.ensures.apart can,
+      lower_rest c.loop-id.cells c.lower.new.cells name (get_or over i least_id) (drop (i + 1) over) up c.lower.ensures.apart can,
     )

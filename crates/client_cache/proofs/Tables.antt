@@ -1,0 +1,136 @@
+-- A table of what is kept of objects, as the list of its entries.
+use Rattle.std.proofs.Common.{◌≡◌, ◌≤◌, ℕ, zero, suc, ◌+◌, ◌-◌, Bool, true, false, cond, List, [], ◌∷◌, length, take, Option, Some, None, refl, sym, ap, ◌∙◌, subst, arith}
+use Rattle.std.specs.Prelude.{slice_get}
+use Rattle.std.proofs.lemmas.Bool.{false≢true}
+use Rattle.std.specs.Option.{option_map_or}
+use Rattle.std.specs.Map.{keys_of, lookup, lookup_entry, remove_entry}
+use Rattle.std.specs.List.{IsDistinct, AllByRecursion}
+use Rattle.std.proofs.lemmas.List.{take-map, length-map, take_all}
+use Rattle.std.proofs.lemmas.Map.Keys.{IsDistinct-head, IsDistinct-tail}
+use Rattle.std.proofs.lemmas.Option.{none-some, same_Some}
+use Rattle.lru.specs.LruCache as lru
+use Rattle.list_core.specs.Firsts.{first_that, without_first}
+use Rattle.ids_core.specs.declared.object.ObjectId.{ObjectId}
+use Rattle.ids_core.specs.Ids.{same_object}
+use Rattle.ids_core.specs.Same.{same_object-true, same_object_equivalence}
+use Rattle.dc_talk.specs.declared.calls.Cached.{Cached}
+use Rattle.dc_talk.specs.Clients.{is_entry, same_vector, promoted, kept}
+use Rattle.client_cache.specs.declared.cache.Held.{Held}
+use Rattle.client_cache.specs.Tables.{entry_of, entries_of, is_held_at}
+
+-- an object is found the same from either side
+turned : (a b : ObjectId) (r : Bool) → same_object a b ≡ r → same_object b a ≡ r
+turned a b r is = same_object_equivalence.symm b a ∙ is
+
+-- what is kept at the vector is there
+pub there : (w : List ℕ) (kept : Option Held) → is_held_at w kept ≡ true → (h : Held) × (kept ≡ Some h) × (same_vector h.vector w ≡ true)
+there w None is = absurd (false≢true is)
+there w (Some h) is = (h, refl, is)
+
+module _ (o : ObjectId) where
+  -- no entry of other objects is the one
+  others : (w : List ℕ) (es : List (ObjectId × Held)) → AllByRecursion (λ k. same_object o k ≡ false) (keys_of es) → first_that (is_entry o w) (entries_of es) ≡ None
+  others w [] apart = refl
+  others w (e ∷ es) apart = rw (turned o e.0 false apart.0) (others w es apart.1)
+
+  -- where what is kept of the object is not at the vector, no entry is the one
+  pub missed : (w : List ℕ) (es : List (ObjectId × Held)) → IsDistinct same_object (keys_of es) → is_held_at w (lookup (same_object o) es) ≡ false → first_that (is_entry o w) (entries_of es) ≡ None
+  missed w [] distinct is = refl
+  missed w (e ∷ es) distinct is = by (same_object o e.0) refl is (missed w es (IsDistinct-tail same_object e.0 (keys_of es) distinct))
+    where
+      by : (b : Bool) → same_object o e.0 ≡ b → is_held_at w (cond b (Some e.1) (lookup (same_object o) es)) ≡ false → (is_held_at w (lookup (same_object o) es) ≡ false → first_that (is_entry o w) (entries_of es) ≡ None) → first_that (is_entry o w) (entries_of (e ∷ es)) ≡ None
+      by true same is rest =
+          let key : e.0 ≡ o = sym (same_object-true o e.0 same) in
+          rw (turned o e.0 true same, is) (others w es (subst (λ k. AllByRecursion (λ q. same_object k q ≡ false) (keys_of es)) key (IsDistinct-head same_object e.0 (keys_of es) distinct)))
+      by false same is rest = rw (turned o e.0 false same) (rest is)
+
+  -- the entry that is found, and the others
+  pub record Hit (w : List ℕ) (es : List (ObjectId × Held)) (h : Held) : Type 0 where
+    pub first : first_that (is_entry o w) (entries_of es) ≡ Some (entry_of (o, h))
+    pub rest : without_first (is_entry o w) (entries_of es) ≡ entries_of (remove_entry (same_object o) es)
+    pub entry : lookup_entry (same_object o) es ≡ Some (o, h)
+
+  pub hit : (w : List ℕ) (es : List (ObjectId × Held)) (h : Held) → lookup (same_object o) es ≡ Some h → same_vector h.vector w ≡ true → Hit w es h
+  hit w [] h is at = absurd (none-some h is)
+  hit w (e ∷ es) h is at = by (same_object o e.0) refl is (λ there. hit w es h there at)
+    where
+      by : (b : Bool) → same_object o e.0 ≡ b → cond b (Some e.1) (lookup (same_object o) es) ≡ Some h → (lookup (same_object o) es ≡ Some h → Hit w es h) → Hit w (e ∷ es) h
+      by true same there rest =
+          let held : e.1 ≡ h = same_Some e.1 h there in
+          let key : e.0 ≡ o = sym (same_object-true o e.0 same) in
+          let here : same_vector e.1.vector w ≡ true = ap (λ x. same_vector x.vector w) held ∙ at in
+          let one : e ≡ (o, h) = λ i. (key i, held i) in
+          record {
+            first = rw (turned o e.0 true same, here) (ap (λ x. Some (entry_of x)) one);
+            rest = rw (turned o e.0 true same, here, same) refl;
+            entry = rw same (ap Some one);
+          }
+      by false same there rest =
+          let r = rest there in
+          record {
+            first = rw (turned o e.0 false same) r.first;
+            rest = rw (turned o e.0 false same, same) (ap (λ xs. entry_of e ∷ xs) r.rest);
+            entry = rw same r.entry;
+          }
+
+  -- the table whose entry of the object was used has it first
+  pub moved : (w : List ℕ) (es : List (ObjectId × Held)) (h : Held) → Hit w es h → promoted o w (entries_of es) ≡ entries_of (lru.promoted (same_object o) es)
+  moved w es h is = rw (is.first, is.rest, is.entry) refl
+
+  pub moved_first : (w : List ℕ) (es : List (ObjectId × Held)) (h : Held) → Hit w es h → slice_get (lru.promoted (same_object o) es) 0 ≡ Some (o, h)
+  moved_first w es h is = rw is.entry refl
+
+  -- the entries of other objects
+  abbrev apart : List Cached → List Cached
+  apart = without_first (λ c. same_object c.object o)
+
+  none_gone : (es : List (ObjectId × Held)) → lookup_entry (same_object o) es ≡ None → apart (entries_of es) ≡ entries_of es
+  none_gone [] is = refl
+  none_gone (e ∷ es) is = by (same_object o e.0) refl is (none_gone es)
+    where
+      by : (b : Bool) → same_object o e.0 ≡ b → cond b (Some e) (lookup_entry (same_object o) es) ≡ None → (lookup_entry (same_object o) es ≡ None → apart (entries_of es) ≡ entries_of es) → apart (entries_of (e ∷ es)) ≡ entries_of (e ∷ es)
+      by true same none rest = absurd (none-some e (sym none))
+      by false same none rest = rw (turned o e.0 false same) (ap (λ xs. entry_of e ∷ xs) (rest none))
+
+  -- the entry of the object is gone, and the others stand
+  record Gone (es : List (ObjectId × Held)) (f : ObjectId × Held) : Type 0 where
+    rest : apart (entries_of es) ≡ entries_of (remove_entry (same_object o) es)
+    less : length (remove_entry (same_object o) es) + 1 ≡ length es
+    key : f.0 ≡ o
+
+  one_gone : (es : List (ObjectId × Held)) (f : ObjectId × Held) → lookup_entry (same_object o) es ≡ Some f → Gone es f
+  one_gone [] f is = absurd (none-some f is)
+  one_gone (e ∷ es) f is = by (same_object o e.0) refl is (one_gone es f)
+    where
+      by : (b : Bool) → same_object o e.0 ≡ b → cond b (Some e) (lookup_entry (same_object o) es) ≡ Some f → (lookup_entry (same_object o) es ≡ Some f → Gone es f) → Gone (e ∷ es) f
+      by true same there rest =
+          record {
+            rest = rw (turned o e.0 true same, same) refl;
+            less = rw same (omega arith);
+            key = ap (λ x. x.0) (sym (same_Some e f there)) ∙ sym (same_object-true o e.0 same);
+          }
+      by false same there rest =
+          let r = rest there in
+          let l = r.less in
+          record {
+            rest = rw (turned o e.0 false same, same) (ap (λ xs. entry_of e ∷ xs) r.rest);
+            less = rw same (omega (arith, l));
+            key = r.key;
+          }
+
+  -- a list with one element in front that has room
+  front : {X : Type 0} (n : ℕ) (x : X) (xs : List X) → 1 ≤ n → take n (x ∷ xs) ≡ x ∷ take (n - 1) xs
+  front zero x xs some = absurd (omega arith)
+  front (suc n) x xs some = let less : suc n - 1 ≡ n = omega arith in rw less refl
+
+  -- the table after a new state of the object was put in
+  pub put : (c : lru.LruCache ObjectId Held) (h : Held) → 1 ≤ c.cap → length c.entries ≤ c.cap → entries_of (lru.put_entries same_object c o h) ≡ kept c.cap (entry_of (o, h)) (entries_of c.entries)
+  put c h some few = by (lookup_entry (same_object o) c.entries) refl
+    where
+      by : (f : Option (ObjectId × Held)) → lookup_entry (same_object o) c.entries ≡ f → entries_of (option_map_or (λ e. (e.0, h) ∷ remove_entry (same_object o) c.entries) f ((o, h) ∷ take (c.cap - 1) c.entries)) ≡ kept c.cap (entry_of (o, h)) (entries_of c.entries)
+      by None is = rw (none_gone c.entries is, front c.cap (entry_of (o, h)) (entries_of c.entries) some, take-map entry_of (c.cap - 1) c.entries) refl
+      by (Some f) is =
+          let gone = one_gone c.entries f is in
+          let less = gone.less in
+          let n : length (entries_of (remove_entry (same_object o) c.entries)) ≡ length (remove_entry (same_object o) c.entries) = length-map (remove_entry (same_object o) c.entries) entry_of in
+          rw (gone.rest, front c.cap (entry_of (o, h)) (entries_of (remove_entry (same_object o) c.entries)) some, take_all (c.cap - 1) (entries_of (remove_entry (same_object o) c.entries)) (omega (arith, n, less)), gone.key) refl

@@ -1,0 +1,323 @@
+-- The states that are kept folded are still what the client has of objects, after each step of a session.
+use Rattle.std.proofs.Common.{◌≡◌, ◌≤◌, ◌<◌, ◌⊎◌, inl, inr, ℕ, zero, suc, ◌+◌, ◌-◌, max, drop, Bool, true, false, cond, List, [], ◌∷◌, ◌++◌, take, length, All, Option, Some, None, IsSome, refl, sym, ap, ◌∙◌, subst, arith, append-nil, append_assoc, length-append}
+use Rattle.std.specs.Prelude.{flat_map, ◌&&◌, IfSome, IfErr, Result, Ok, Err, is_err, if◌then◌else◌, IsTrue, ◌≢◌}
+use Rattle.std.specs.Bool.{OnTrue}
+use Rattle.std.proofs.lemmas.List.Elements.{All-push}
+use Rattle.std.specs.Option.{unwrap_or, option_map}
+use Rattle.std.specs.Map.{lookup}
+use Rattle.std.proofs.lemmas.Bool.{cases_Bool, false≢true}
+use Rattle.std.proofs.lemmas.Option.{none-some, same_Some}
+use Rattle.std.proofs.lemmas.Grind.{flat_map-append}
+use Rattle.std.proofs.lemmas.List.Sums.{fold-append}
+use Rattle.list_core.proofs.Choices.{is_none_true}
+use Rattle.list_core.proofs.Firsts.{first_that_some}
+use Rattle.list_core.specs.Firsts.{first_that, without_first, in_front, brought_forward}
+use Rattle.ids_core.specs.declared.limits.TheConstants.{MOST_NUMBER, MOST_PENDING, MOST_UPDATES}
+use Rattle.ids_core.specs.declared.ids.Dot.{Dot}
+use Rattle.ids_core.specs.declared.ids.Mark.{Mark}
+use Rattle.ids_core.specs.declared.object.ObjectId.{ObjectId}
+use Rattle.ids_core.specs.Ids.{same_object}
+use Rattle.ids_core.specs.Same.{same_object-true}
+use Rattle.tx_core.specs.declared.op.Op.{Op}
+use Rattle.tx_core.specs.declared.tx.Update.{Update}
+use Rattle.tx_core.specs.declared.tx.Tx.{Tx}
+use Rattle.tx_core.specs.declared.state.State.{State}
+use Rattle.tx_core.specs.States.{step, fold_of}
+use Rattle.tx_core.specs.Checks.{IsFitUpdate}
+use Rattle.dc_talk.specs.declared.calls.Cached.{Cached}
+use Rattle.dc_talk.specs.declared.calls.Connection.{Connection}
+use Rattle.dc_talk.specs.declared.calls.Refusal.{Refusal}
+use Rattle.dc_talk.specs.declared.calls.Refusal.TheVariants.{NoMemory}
+use Rattle.tx_core.specs.Operations.{mark, ops_from, ops_of}
+use Rattle.dc_talk.specs.Clients.{Client, next_dot, next_tx, draft_updates, is_entry, same_vector, cached, promoted, kept, view}
+use Rattle.dc_talk.specs.Rule.{can_follow}
+use Rattle.client_pending.proofs.Ops.{one_more, ops_from-last}
+use Rattle.client_session.specs.Sessions.{IsClient, IsDraft}
+use Rattle.client_session.specs.Folded.{StateEntries, HadApart, Follows, ops_behind}
+use Rattle.client_session.proofs.Found.{no_ops_from}
+use Rattle.client_session.proofs.Following.{followed, follows_closed}
+use Rattle.client_session.proofs.Changing.{grown}
+
+-- ---- what a cache has of an object, after a look-up and after a new entry
+
+module _ {X : Type 0} (p q : X → Bool) where
+  -- an element that does not pass is not missed
+  without-other : ((x : X) → q x ≡ true → p x ≡ false) → (xs : List X) → first_that p (without_first q xs) ≡ first_that p xs
+  without-other apart [] = refl
+  without-other apart (x ∷ xs) = by (q x) refl (without-other apart xs)
+    where
+      by : (b : Bool) → q x ≡ b → first_that p (without_first q xs) ≡ first_that p xs → first_that p (cond b xs (x ∷ without_first q xs)) ≡ first_that p (x ∷ xs)
+      by true is rest = ap (λ c. cond c (Some x) (first_that p xs)) (sym (apart x is))
+      by false is rest = ap (λ o. cond (p x) (Some x) o) rest
+
+  -- nor does it come before others
+  forward-other : ((x : X) → q x ≡ true → p x ≡ false) → (xs : List X) → first_that p (brought_forward q xs) ≡ first_that p xs
+  forward-other apart xs = by (first_that q xs) refl ∙ without-other apart xs
+    where
+      by : (f : Option X) → first_that q xs ≡ f → first_that p (in_front f (without_first q xs)) ≡ first_that p (without_first q xs)
+      by None is = refl
+      by (Some y) is = ap (λ c. cond c (Some y) (first_that p (without_first q xs))) (apart y (first_that_some q xs y is).1)
+
+-- what passes first is still the first once it is in front
+forward-same : {X : Type 0} (p : X → Bool) (xs : List X) → first_that p (brought_forward p xs) ≡ first_that p xs
+forward-same {X} p xs = by (first_that p xs) refl
+  where
+    absent : (ys : List X) → first_that p ys ≡ None → first_that p (without_first p ys) ≡ None
+    absent [] is = refl
+    absent (z ∷ ys) is = at (p z) refl is (absent ys)
+      where
+        at : (b : Bool) → p z ≡ b → cond b (Some z) (first_that p ys) ≡ None → (first_that p ys ≡ None → first_that p (without_first p ys) ≡ None) → first_that p (cond b ys (z ∷ without_first p ys)) ≡ None
+        at true test is rest = absurd (none-some z (sym is))
+        at false test is rest = rw test (rest is)
+
+    by : (f : Option X) → first_that p xs ≡ f → first_that p (in_front f (without_first p xs)) ≡ f
+    by None is = absent xs is
+    by (Some y) is = rw (first_that_some p xs y is).1 refl
+
+-- what is first among the first few is so among all
+among : {X : Type 0} (p : X → Bool) (n : ℕ) (xs : List X) (x : X) → first_that p (take n xs) ≡ Some x → first_that p xs ≡ Some x
+among p zero xs x is = absurd (none-some x is)
+among p (suc n) [] x is = is
+among {X} p (suc n) (y ∷ xs) x is = by (p y) is (among p n xs x)
+  where
+    by : (b : Bool) → cond b (Some y) (first_that p (take n xs)) ≡ Some x → (first_that p (take n xs) ≡ Some x → first_that p xs ≡ Some x) → cond b (Some y) (first_that p xs) ≡ Some x
+    by true is rest = is
+    by false is rest = rest is
+
+-- an entry of one object is none of another
+entry_apart : (k o : ObjectId) (v w : List ℕ) → same_object k o ≡ false → (c : Cached) → is_entry k v c ≡ true → is_entry o w c ≡ false
+entry_apart k o v w apart c is = by (same_object c.object k) refl is
+  where
+    by : (b : Bool) → same_object c.object k ≡ b → b && same_vector c.vector v ≡ true → is_entry o w c ≡ false
+    by true same is = ap (λ b. b && same_vector c.vector w) (ap (λ q. same_object q o) (same_object-true c.object k same) ∙ apart)
+    by false same is = absurd (false≢true is)
+
+-- a look-up at a vector leaves what the cache has there
+pub cached-promoted : (k o : ObjectId) (w : List ℕ) (cache : List Cached) → cached o w (promoted k w cache) ≡ cached o w cache
+cached-promoted k o w cache = ap (option_map (λ c. c.state)) (at (cases_Bool (same_object k o)))
+  where
+    at : (same_object k o ≡ true) ⊎ (same_object k o ≡ false) → first_that (is_entry o w) (promoted k w cache) ≡ first_that (is_entry o w) cache
+    at (inl e) = subst (λ q. first_that (is_entry q w) (promoted k w cache) ≡ first_that (is_entry q w) cache) (same_object-true k o e) (forward-same (is_entry k w) cache)
+    at (inr e) = forward-other (is_entry o w) (is_entry k w) (entry_apart k o w w e) cache
+
+-- an image that is there is that of something
+imaged : {X Y : Type 0} (f : X → Y) (o : Option X) (y : Y) → option_map f o ≡ Some y → (x : X) × (o ≡ Some x) × (f x ≡ y)
+imaged f None y is = absurd (none-some y is)
+imaged f (Some x) y is = (x, refl, same_Some (f x) y is)
+
+-- what the cache has of another object once an entry was put in, it had before
+pub cached-kept : (n : ℕ) (new : Cached) (o : ObjectId) (w : List ℕ) (cache : List Cached) (state : State) → same_object new.object o ≡ false → cached o w (kept n new cache) ≡ Some state → cached o w cache ≡ Some state
+cached-kept n new o w cache state apart is =
+    let found = imaged (λ (c : Cached). c.state) (first_that (is_entry o w) (kept n new cache)) state is in
+    let rest = without_first (λ c. same_object c.object new.object) cache in
+    let whole = among (is_entry o w) n (new ∷ rest) found.0 found.1 in
+    let behind = sym (ap (λ b. cond (b && same_vector new.vector w) (Some new) (first_that (is_entry o w) rest)) apart) ∙ whole in
+    ap (option_map (λ c. c.state)) (sym (without-other (is_entry o w) (λ c. same_object c.object new.object) (λ c same. ap (λ b. b && same_vector c.vector w) (ap (λ q. same_object q o) (same_object-true c.object new.object same) ∙ apart)) cache) ∙ behind) ∙ ap Some found.2
+
+-- ---- what is behind the cache, for each object
+
+-- the operations on an object that are pending or open
+abbrev behind : Client → ObjectId → List (Mark × Op)
+behind s o = ops_behind o s.pending (s.clock + 1) (next_dot s) (draft_updates s)
+
+-- what holds of a session: of the client, and of the states that are kept
+abbrev pub Stands : StateEntries → Client → Type 0
+Stands es s = IsClient s × Follows es s
+
+-- states that follow a client follow each other one that has the same behind a cache that has no more
+kept_on : (s t : Client) (es : StateEntries) → Follows es s → ((o : ObjectId) → behind t o ≡ behind s o) → ((o : ObjectId) (state : State) → cached o t.vector t.cache ≡ Some state → cached o s.vector s.cache ≡ Some state) → Follows es t
+kept_on s t es follows same had o seen state there is = follows o seen state there (had o state is) ∙ ap (fold_of state) (sym (same o))
+
+-- ---- the cache
+
+-- the client with another cache
+cached_so : (s : Client) (cache : List Cached) → IsClient s → IsClient (record s { cache = cache })
+cached_so s cache is = record { client = is.client; mine = is.mine; own = is.own; clock = is.clock; count = is.count; room = is.room; pending = is.pending; fit = is.fit; sent = is.sent; draft = is.draft }
+
+-- a look-up of an object that the cache has not
+pub missed : (s : Client) (k : ObjectId) (es : StateEntries) → Stands es s → Stands es (record s { cache = promoted k s.vector s.cache })
+missed s k es stands = (cached_so s (promoted k s.vector s.cache) stands.0, kept_on s (record s { cache = promoted k s.vector s.cache }) es stands.1 (λ o. refl) (λ o state is. sym (cached-promoted k o s.vector s.cache) ∙ is))
+
+-- a look-up of an object, of which is kept then what the client has of it
+pub looked : (s : Client) (k : ObjectId) (old new : StateEntries) (base : State) (dot : Dot) (updates : List Update) → Stands old s → Some base ≡ cached k s.vector s.cache → dot ≡ next_dot s → updates ≡ draft_updates s → HadApart k old new → ((seen : State) → lookup (same_object k) new ≡ Some seen → seen ≡ fold_of base (ops_behind k s.pending (s.clock + 1) dot updates)) → Stands new (record s { cache = promoted k s.vector s.cache })
+looked s k old new base dot updates stands found dot_is updates_are apart own = (cached_so s (promoted k s.vector s.cache) stands.0, follows)
+  where
+    follows : Follows new (record s { cache = promoted k s.vector s.cache })
+    follows o seen state there is = at (cases_Bool (same_object k o))
+      where
+        was : cached o s.vector s.cache ≡ Some state
+        was = sym (cached-promoted k o s.vector s.cache) ∙ is
+
+        at : (same_object k o ≡ true) ⊎ (same_object k o ≡ false) → seen ≡ view s o state
+        at (inl e) =
+            let key : k ≡ o = same_object-true k o e in
+            let base_is : base ≡ state = same_Some base state (found ∙ (ap (λ q. cached q s.vector s.cache) key ∙ was)) in
+            let kept = own seen (ap (λ q. lookup (same_object q) new) key ∙ there) in
+            kept ∙ ((λ i. fold_of base (ops_behind k s.pending (s.clock + 1) (dot_is i) (updates_are i))) ∙ (λ i. view s (key i) (base_is i)))
+        at (inr e) = stands.1 o seen state (apart o seen e there) was
+
+-- a new state of an object in the cache, where what was kept of the object is let go
+pub fetched : (s : Client) (new : Cached) (old es : StateEntries) → Stands old s → lookup (same_object new.object) es ≡ None → ((o : ObjectId) → same_object new.object o ≡ false → lookup (same_object o) es ≡ lookup (same_object o) old) → Stands es (record s { cache = kept s.capacity new s.cache })
+fetched s new old es stands gone apart = (cached_so s (kept s.capacity new s.cache) stands.0, follows)
+  where
+    follows : Follows es (record s { cache = kept s.capacity new s.cache })
+    follows o seen state there is = at (cases_Bool (same_object new.object o))
+      where
+        at : (same_object new.object o ≡ true) ⊎ (same_object new.object o ≡ false) → seen ≡ view s o state
+        at (inl e) = absurd (none-some seen (sym gone ∙ (ap (λ q. lookup (same_object q) es) (same_object-true new.object o e) ∙ there)))
+        at (inr e) = stands.1 o seen state (sym (apart o e) ∙ there) (cached-kept s.capacity new o s.vector s.cache state e is)
+
+-- ---- the open transaction
+
+-- the client without an open transaction
+no_draft : (s : Client) → IsClient s → IsClient (record s { draft = None })
+no_draft s is = record { client = is.client; mine = is.mine; own = is.own; clock = is.clock; count = is.count; room = is.room; pending = is.pending; fit = is.fit; sent = is.sent; draft = tt }
+
+-- a transaction without updates is closed
+pub closed : (s : Client) (es : StateEntries) → draft_updates s ≡ [] → Stands es s → Stands es (record s { draft = None })
+closed s es none stands = (no_draft s stands.0, kept_on s (record s { draft = None }) es stands.1 (λ o. ap (ops_behind o s.pending (s.clock + 1) (next_dot s)) (sym none)) (λ o state is. is))
+
+-- a transaction is aborted, and the states of the objects that it changed are let go
+pub aborted : (s : Client) (updates : List Update) (old new : StateEntries) → s.draft ≡ Some updates → Stands old s → ((o : ObjectId) (seen : State) → lookup (same_object o) new ≡ Some seen → (lookup (same_object o) old ≡ Some seen) × All (λ u. same_object u.object o ≡ false) updates) → Stands new (record s { draft = None })
+aborted s updates old new is stands left = (no_draft s stands.0, follows)
+  where
+    follows : Follows new (record s { draft = None })
+    follows o seen state there found =
+        let had = left o seen there in
+        let none : ops_from o (s.clock + 1) (next_dot s) 0 (draft_updates s) ≡ [] = ap (λ d. ops_from o (s.clock + 1) (next_dot s) 0 (unwrap_or d [])) is ∙ no_ops_from o (s.clock + 1) (next_dot s) 0 updates had.1 in
+        stands.1 o seen state had.0 found ∙ ap (λ l. fold_of state (flat_map (ops_of o) s.pending ++ l)) none
+
+-- a commit has behind it what was open
+pub committed : (s : Client) (updates : List Update) (tx : Tx) (es : StateEntries) → s.draft ≡ Some updates → tx ≡ next_tx s updates → length s.pending < MOST_PENDING → Stands es s → Stands es (record s { own = s.own + 1; clock = s.clock + 1; pending = s.pending ++ tx ∷ []; draft = None })
+committed s updates tx es is tx_is place stands = subst (λ x. Stands es (record s { own = s.own + 1; clock = s.clock + 1; pending = s.pending ++ x ∷ []; draft = None })) (sym tx_is) (client, kept_on s t es stands.1 same (λ o state is. is))
+  where
+    t : Client
+    t = record s { own = s.own + 1; clock = s.clock + 1; pending = s.pending ++ next_tx s updates ∷ []; draft = None }
+
+    was : IsClient s
+    was = stands.0
+
+    open_was : IsDraft s.clock updates
+    open_was = subst (λ d. IfSome d (IsDraft s.clock)) is was.draft
+
+    sent_more : (link : Option Connection) → IfSome link (λ l. l.sent ≤ s.own) → IfSome link (λ l. l.sent ≤ s.own + 1)
+    sent_more None h = tt
+    sent_more (Some l) h = omega arith
+
+    more : length (s.pending ++ next_tx s updates ∷ []) ≡ length s.pending + 1
+    more = length-append s.pending (next_tx s updates ∷ [])
+
+    client : IsClient (record s { own = s.own + 1; clock = s.clock + 1; pending = s.pending ++ next_tx s updates ∷ []; draft = None })
+    client =
+        let mine : s.mine ≤ s.own = was.mine in
+        let own : s.own ≤ s.clock = was.own in
+        let count : length s.pending + s.mine ≡ s.own = was.count in
+        let rank : s.clock < MOST_NUMBER = open_was.rank in
+        record {
+          client = was.client;
+          mine = omega arith;
+          own = omega arith;
+          clock = omega arith;
+          count = omega (arith, more);
+          room = omega (arith, more, place);
+          pending = All-push (λ tx. length tx.updates ≤ MOST_UPDATES) s.pending (next_tx s updates) was.pending open_was.few;
+          fit = All-push (λ tx. All IsFitUpdate tx.updates) s.pending (next_tx s updates) was.fit open_was.fit;
+          sent = sent_more s.link was.sent;
+          draft = tt;
+        }
+
+    same : (o : ObjectId) → flat_map (ops_of o) (s.pending ++ next_tx s updates ∷ []) ++ [] ≡ behind s o
+    same o =
+        append-nil (flat_map (ops_of o) (s.pending ++ next_tx s updates ∷ [])) ∙ (flat_map-append (ops_of o) s.pending (next_tx s updates ∷ []) ∙ (ap (λ l. flat_map (ops_of o) s.pending ++ l) (append-nil (ops_of o (next_tx s updates))) ∙ ap (λ d. ops_behind o s.pending (s.clock + 1) (next_dot s) (unwrap_or d [])) (sym is)))
+
+-- one more update, which is taken into the state that is kept of its object
+pub pushed : (s : Client) (u : Update) (old new : StateEntries) (dot : Dot) (place : ℕ) → IsSome s.draft → length (draft_updates s) < MOST_UPDATES → IsFitUpdate u → Stands old s → dot ≡ next_dot s → place ≡ length (draft_updates s) → HadApart u.object old new → ((seen : State) → lookup (same_object u.object) new ≡ Some seen → (before : State) × (lookup (same_object u.object) old ≡ Some before) × (seen ≡ step before (mark (s.clock + 1) dot place, u.op))) → Stands new (record s { draft = Some (draft_updates s ++ u ∷ []) })
+pushed s u old new dot place some room fit stands dot_is place_is apart own = (client, follows)
+  where
+    was : IsClient s
+    was = stands.0
+
+    client : IsClient (record s { draft = Some (draft_updates s ++ u ∷ []) })
+    client = record { client = was.client; mine = was.mine; own = was.own; clock = was.clock; count = was.count; room = was.room; pending = was.pending; fit = was.fit; sent = was.sent; draft = grown s.clock s.draft u some room fit was.draft }
+
+    m : Mark
+    m = mark (s.clock + 1) (next_dot s) (length (draft_updates s))
+
+    here : ObjectId → List Update → List (Mark × Op)
+    here o us = ops_from o (s.clock + 1) (next_dot s) 0 us
+
+    after : ObjectId → State → List (Mark × Op) → State
+    after o state l = fold_of state (flat_map (ops_of o) s.pending ++ l)
+
+    follows : Follows new (record s { draft = Some (draft_updates s ++ u ∷ []) })
+    follows o seen state there found = at (cases_Bool (same_object u.object o))
+      where
+        plus : 0 + length (draft_updates s) ≡ length (draft_updates s)
+        plus = omega arith
+
+        more : here o (draft_updates s ++ u ∷ []) ≡ here o (draft_updates s) ++ one_more o m u
+        more = ops_from-last o (s.clock + 1) (next_dot s) 0 (draft_updates s) u ∙ ap (λ n. here o (draft_updates s) ++ one_more o (mark (s.clock + 1) (next_dot s) n) u) plus
+
+        at : (same_object u.object o ≡ true) ⊎ (same_object u.object o ≡ false) → seen ≡ after o state (here o (draft_updates s ++ u ∷ []))
+        at (inl e) =
+            let key : u.object ≡ o = same_object-true u.object o e in
+            let b = own seen (ap (λ q. lookup (same_object q) new) key ∙ there) in
+            let was = stands.1 o b.0 state (ap (λ q. lookup (same_object q) old) (sym key) ∙ b.1) found in
+            let one : one_more o m u ≡ (m, u.op) ∷ [] = ap (λ b. cond b ((m, u.op) ∷ []) []) e in
+            let marked : seen ≡ step b.0 (m, u.op) = b.2 ∙ (λ i. step b.0 (mark (s.clock + 1) (dot_is i) (place_is i), u.op)) in
+            let folded : step (after o state (here o (draft_updates s))) (m, u.op) ≡ fold_of state ((flat_map (ops_of o) s.pending ++ here o (draft_updates s)) ++ (m, u.op) ∷ []) = sym (fold-append step state (flat_map (ops_of o) s.pending ++ here o (draft_updates s)) ((m, u.op) ∷ [])) in
+            marked ∙ (ap (λ x. step x (m, u.op)) was ∙ (folded ∙ (ap (fold_of state) (append_assoc (flat_map (ops_of o) s.pending) (here o (draft_updates s)) ((m, u.op) ∷ [])) ∙ ap (after o state) (ap (λ l. here o (draft_updates s) ++ l) (sym one) ∙ sym more))))
+        at (inr e) =
+            let none : one_more o m u ≡ [] = ap (λ b. cond b ((m, u.op) ∷ []) []) e in
+            stands.1 o seen state (apart o seen e there) found ∙ ap (after o state) (sym (more ∙ (ap (λ l. here o (draft_updates s) ++ l) none ∙ append-nil (here o (draft_updates s)))))
+
+-- no update more, but what was kept of an object is let go
+pub let_go : (s : Client) (k : ObjectId) (old mid new : StateEntries) → Stands old s → HadApart k old mid → lookup (same_object k) new ≡ None → ((o : ObjectId) → same_object k o ≡ false → lookup (same_object o) new ≡ lookup (same_object o) mid) → Stands new s
+let_go s k old mid new stands apart gone rest = (stands.0, follows)
+  where
+    follows : Follows new s
+    follows o seen state there found = at (cases_Bool (same_object k o))
+      where
+        at : (same_object k o ≡ true) ⊎ (same_object k o ≡ false) → seen ≡ view s o state
+        at (inl e) = absurd (none-some seen (sym gone ∙ (ap (λ q. lookup (same_object q) new) (same_object-true k o e) ∙ there)))
+        at (inr e) = stands.1 o seen state (apart o seen e (sym (rest o e) ∙ there)) found
+
+-- ---- a snapshot
+
+-- the same snapshot heard again, where no transaction is open
+heard_again : (s : Client) (vector : List ℕ) (clock mine : ℕ) (es : StateEntries) → draft_updates s ≡ [] → vector ≡ s.vector → mine ≡ s.mine → Follows es s → Follows es (record s { vector = vector; mine = mine; clock = clock; pending = drop (mine - s.mine) s.pending })
+heard_again s vector clock mine es none same no_more follows = kept_on s (record s { vector = vector; mine = mine; clock = clock; pending = drop (mine - s.mine) s.pending }) es follows ops (λ o state is. ap (λ w. cached o w s.cache) (sym same) ∙ is)
+  where
+    zero_more : mine - s.mine ≡ 0
+    zero_more = omega (arith, no_more)
+
+    ops : (o : ObjectId) → ops_behind o (drop (mine - s.mine) s.pending) (clock + 1) (next_dot s) (draft_updates s) ≡ behind s o
+    ops o =
+        ap (λ n. ops_behind o (drop n s.pending) (clock + 1) (next_dot s) (draft_updates s)) zero_more ∙ (ap (λ us. flat_map (ops_of o) s.pending ++ ops_from o (clock + 1) (next_dot s) 0 us) none ∙ ap (λ us. flat_map (ops_of o) s.pending ++ ops_from o (s.clock + 1) (next_dot s) 0 us) (sym none))
+
+-- nothing is kept of what the client has
+emptied : (s : Client) (es : StateEntries) → es ≡ [] → Follows es s
+emptied s es none o seen state there is = absurd (none-some seen (ap (lookup (same_object o)) (sym none) ∙ there))
+
+-- a snapshot that follows, where nothing is kept on unless it is the same
+pub snapped : (s : Client) (vector : List ℕ) (mine top : ℕ) (old new : StateEntries) (same : Bool) → Stands old s → can_follow s vector mine top ≡ true → new ≡ (if same then old else []) → OnTrue same ((vector ≡ s.vector) × (mine ≡ s.mine)) → Stands new (record s { vector = vector; mine = mine; clock = max s.clock top; pending = drop (mine - s.mine) s.pending })
+snapped s vector mine top old new same stands follows is at = (followed s vector mine top stands.0 follows, by same is at)
+  where
+    none : draft_updates s ≡ []
+    none = ap (λ d. unwrap_or d []) (is_none_true s.draft (follows_closed s vector mine top follows))
+
+    by : (b : Bool) → new ≡ (if b then old else []) → OnTrue b ((vector ≡ s.vector) × (mine ≡ s.mine)) → Follows new (record s { vector = vector; mine = mine; clock = max s.clock top; pending = drop (mine - s.mine) s.pending })
+    by true is at = subst (λ es. Follows es (record s { vector = vector; mine = mine; clock = max s.clock top; pending = drop (mine - s.mine) s.pending })) (sym is) (heard_again s vector (max s.clock top) mine old none at.0 at.1 stands.1)
+    by false is at = emptied (record s { vector = vector; mine = mine; clock = max s.clock top; pending = drop (mine - s.mine) s.pending }) new is
+
+-- ---- results
+
+-- of updates of which a test says that there are none, there are none
+pub none_open : (us : List Update) (b : Bool) → (us ≢ [] → IsTrue b) → b ≡ false → us ≡ []
+none_open [] b some fails = refl
+none_open (u ∷ us) b some fails = absurd (false≢true (sym fails ∙ some (λ e. cc)))
+
+-- what want of memory leaves
+pub failed : {T P : Type 0} (r : Result T Refusal) → is_err r ≡ true → IfErr r (λ refusal. (refusal ≡ NoMemory) × P) → P
+failed (Ok x) is left = cc
+failed (Err e) is left = left.1
