@@ -1,3 +1,5 @@
+use Rattle.std.proofs.lemmas.List.Elements.{All-set}
+use Rattle.dc_host.specs.Centres.{IsKeptCentre}
 use Rattle.dc_host.proofs.Trails.{has_answered, has_not_answered}
 use Rattle.dc_host.proofs.kept_door.answer_at.Goals as goal
 
@@ -8,3 +10,6 @@ returns-clause-answered c =
 
 pub returns-clause-none : goal.returns-clause-none
 returns-clause-none c = has_not_answered c.args.kept.now.items c.args.place c.index_mut.result.now c.answer_one.new.kept c.answer_one.result c.index_mut.ensures.value c.answer_one.ensures.none
+
+pub returns-clause-kept : goal.returns-clause-kept
+returns-clause-kept c = All-set IsKeptCentre c.args.kept.now.items c.args.place c.answer_one.new.kept c.answer_one.ensures.kept c.requires.kept
