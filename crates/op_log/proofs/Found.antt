@@ -12,11 +12,13 @@ use Rattle.std.proofs.lemmas.Bool.Decides.{nat_tests}
 use Rattle.list_core.specs.Members.{In}
 use Rattle.list_core.proofs.Members.{In_filter, In_from_filter}
 use Rattle.op_log.specs.declared.logged.Logged.{Logged}
-use Rattle.op_log.specs.declared.places.Place.{Place}
+use Rattle.stamp_index.specs.declared.places.Place.{Place}
 use Rattle.op_log.specs.Logs.{is_inside, within_of}
-use Rattle.op_log.specs.Places.{is_among, is_numbered, reached_of, HasReached, IsPlaced}
+use Rattle.stamp_index.specs.Places.{is_numbered, reached_of}
+use Rattle.op_log.specs.Places.{is_among, HasReached, IsPlaced}
 use Rattle.op_log.specs.Tables.{found_of, Rises, IsKeyed}
-use Rattle.op_log.proofs.Items.{found_none, found_some, rises_one, rises_same, rises_filter}
+use Rattle.stamp_index.proofs.Finds.{found_none, found_some}
+use Rattle.op_log.proofs.Items.{rises_one, rises_same, rises_filter}
 use Rattle.op_log.proofs.Numbers.{found_at}
 use Rattle.op_log.proofs.Reaching.{reached_inside, inside_reached}
 use Rattle.op_log.proofs.Taking.{member_at}

@@ -19,11 +19,13 @@ use Rattle.vv_core.specs.declared.stamp.Stamp.{Stamp}
 use Rattle.tx_core.specs.declared.tx.Record.{Record}
 use Rattle.op_log.specs.declared.chains.Cell.{Cell}
 use Rattle.op_log.specs.declared.logged.Logged.{Logged}
-use Rattle.op_log.specs.declared.places.Place.{Place}
+use Rattle.stamp_index.specs.declared.places.Place.{Place}
 use Rattle.op_log.specs.Logs.{cells_in, chain_of, first_of, has_dot, is_inside, left_of, stamped, with_stamp}
-use Rattle.op_log.specs.Places.{place_cmp, place_of, has_place, IsPlaced, HasFitNumbers}
+use Rattle.stamp_index.specs.Places.{place_cmp, place_of, has_place, HasFitNumbers}
+use Rattle.op_log.specs.Places.{IsPlaced}
 use Rattle.op_log.specs.Tables.{listed, Rises, IsKeyed, Names, IsSwept, IsTable, IsLog}
-use Rattle.op_log.proofs.Items.{found_none, finds_none, rises_more, rises_map, stamped_number, stamped_tx, stamps_none, chain_of-with_stamp, chain_more}
+use Rattle.stamp_index.proofs.Finds.{found_none, finds_none}
+use Rattle.op_log.proofs.Items.{rises_more, rises_map, stamped_number, stamped_tx, stamps_none, chain_of-with_stamp, chain_more}
 use Rattle.op_log.proofs.Numbers.{OnlyAt}
 use Rattle.op_log.proofs.Placed.{placed_same, placed_more, placed_stamped, fit_fewer, fit_more, fit_stamped}
 use Rattle.op_log.proofs.Taking.{values_of-filter}

@@ -3,7 +3,6 @@ mod Ops
 pub mod Items
 mod Numbers
 mod Owns
-mod PlaceOrders
 mod Placed
 mod Reaching
 mod Sweeping

@@ -19,7 +19,8 @@ use Rattle.vv_core.specs.declared.stamp.Stamp.{Stamp}
 use Rattle.op_log.specs.declared.logged.Logged.{Logged}
 use Rattle.op_log.specs.Logs.{has_dot, with_one, stamped, with_stamp}
 use Rattle.op_log.specs.Tables.{Rises, IsKeyed}
-use Rattle.op_log.proofs.Items.{finds_none, stamps_none}
+use Rattle.stamp_index.proofs.Finds.{finds_none}
+use Rattle.op_log.proofs.Items.{stamps_none}
 
 -- ---- keys
 

@@ -22,7 +22,7 @@ use Rattle.ids_core.specs.Orders.{dot_cmp}
 use Rattle.op_log.specs.declared.logged.Logged.{Logged}
 use Rattle.op_log.specs.Logs.{is_inside, mine_in}
 use Rattle.op_log.specs.Tables.{Names, HasFits, is_own_inside}
-use Rattle.op_log.proofs.Items.{found_none, found_some}
+use Rattle.stamp_index.proofs.Finds.{found_none, found_some}
 
 -- ---- the greatest number
 

@@ -9,11 +9,13 @@ use Rattle.ids_core.specs.declared.ids.Dot.{Dot}
 use Rattle.ids_core.specs.Ids.{same_dot}
 use Rattle.vv_core.specs.declared.stamp.Stamp.{Stamp}
 use Rattle.op_log.specs.declared.logged.Logged.{Logged}
-use Rattle.op_log.specs.declared.places.Place.{Place}
+use Rattle.stamp_index.specs.declared.places.Place.{Place}
 use Rattle.op_log.specs.Logs.{has_dot, with_one, stamped, with_stamp}
-use Rattle.op_log.specs.Places.{place_cmp, place_of, has_place, HasFitNumbers, IsPlaced}
-use Rattle.op_log.proofs.Items.{found_some, stamped_number}
-use Rattle.op_log.proofs.PlaceOrders.{place_same, place_itself}
+use Rattle.stamp_index.specs.Places.{place_cmp, place_of, has_place, HasFitNumbers}
+use Rattle.op_log.specs.Places.{IsPlaced}
+use Rattle.stamp_index.proofs.Finds.{found_some}
+use Rattle.op_log.proofs.Items.{stamped_number}
+use Rattle.stamp_index.proofs.PlaceOrders.{place_same, place_itself}
 
 -- of a choice that is true where a test holds, one of both holds
 cond_true : (b c : Bool) → cond b true c ≡ true → (b ≡ true) ⊎ (c ≡ true)

@@ -8,10 +8,11 @@ use Rattle.vv_core.specs.declared.stamp.Stamp.{Stamp}
 use Rattle.vv_core.specs.Vectors.{at, within}
 use Rattle.vv_core.specs.Stamps.{is_any_within}
 use Rattle.op_log.specs.declared.logged.Logged.{Logged}
-use Rattle.op_log.specs.declared.places.Place.{Place}
+use Rattle.stamp_index.specs.declared.places.Place.{Place}
 use Rattle.op_log.specs.Logs.{is_inside}
-use Rattle.op_log.specs.Places.{place_of, is_reached, reached_of, HasReached, IsPlaced}
-use Rattle.op_log.proofs.PlaceOrders.{place_In, In_place, place_reached, reached_within}
+use Rattle.stamp_index.specs.Places.{place_of, is_reached, reached_of}
+use Rattle.op_log.specs.Places.{HasReached, IsPlaced}
+use Rattle.stamp_index.proofs.PlaceOrders.{place_In, In_place, place_reached, reached_within}
 
 -- a stamp within the vector, where one is
 stamp_within : (w : List ℕ) (stamps : List Stamp) → is_any_within w stamps ≡ true → (s : Stamp) × In s stamps × (within s w ≡ true)

@@ -21,11 +21,13 @@ use Rattle.ids_core.specs.Orders.{object_cmp, same_object-by_cmp}
 use Rattle.tx_core.specs.declared.tx.Update.{Update}
 use Rattle.op_log.specs.declared.chains.Cell.{Cell}
 use Rattle.op_log.specs.declared.logged.Logged.{Logged}
-use Rattle.op_log.specs.declared.places.Place.{Place}
+use Rattle.stamp_index.specs.declared.places.Place.{Place}
 use Rattle.op_log.specs.Logs.{cell, cells_from, cells_of, chain_of, is_inside, is_inside_at, left_of}
-use Rattle.op_log.specs.Places.{reached_of, IsPlaced}
+use Rattle.stamp_index.specs.Places.{reached_of}
+use Rattle.op_log.specs.Places.{IsPlaced}
 use Rattle.op_log.specs.Tables.{listed, stays, Rises, Ascends, Lacks, HasCell, IsSwept, MaySwept}
-use Rattle.op_log.proofs.Items.{finds_none, found_none, found_some, get_or_In, rises_one, rises_filter}
+use Rattle.stamp_index.proofs.Finds.{finds_none, found_none, found_some}
+use Rattle.op_log.proofs.Items.{get_or_In, rises_one, rises_filter}
 use Rattle.op_log.proofs.Reaching.{reached_inside}
 
 -- ---- what stays of a chain

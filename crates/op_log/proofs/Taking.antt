@@ -19,14 +19,15 @@ use Rattle.ids_core.specs.Orders.{dot_cmp}
 use Rattle.vv_core.specs.declared.stamp.Stamp.{Stamp}
 use Rattle.vv_core.specs.Vectors.{at}
 use Rattle.op_log.specs.declared.logged.Logged.{Logged}
-use Rattle.op_log.specs.declared.places.Place.{Place}
+use Rattle.stamp_index.specs.declared.places.Place.{Place}
 use Rattle.op_log.specs.Logs.{is_inside, within_of}
-use Rattle.op_log.specs.Places.{place_of, has_place, is_reached, reached_of, IsPlaced}
+use Rattle.stamp_index.specs.Places.{place_of, has_place, is_reached, reached_of}
+use Rattle.op_log.specs.Places.{IsPlaced}
 use Rattle.op_log.specs.Tables.{Rises, IsKeyed, IsTable}
 use Rattle.op_log.proofs.Items.{rises_one}
 use Rattle.op_log.proofs.Numbers.{at_number, keyed_head, keyed_tail, found_at, lost_at}
 use Rattle.op_log.proofs.Placed.{placed_less, fit_fewer}
-use Rattle.op_log.proofs.PlaceOrders.{place_In, In_place}
+use Rattle.stamp_index.proofs.PlaceOrders.{place_In, In_place}
 use Rattle.op_log.proofs.Reaching.{reached_inside}
 
 -- ---- lists

@@ -13,9 +13,10 @@ use Rattle.ids_core.specs.Orders.{dot_cmp, object_cmp}
 use Rattle.tx_core.specs.declared.tx.Update.{Update}
 use Rattle.op_log.specs.declared.chains.Cell.{Cell}
 use Rattle.op_log.specs.declared.logged.Logged.{Logged}
-use Rattle.op_log.specs.declared.places.Place.{Place}
+use Rattle.stamp_index.specs.declared.places.Place.{Place}
 use Rattle.op_log.specs.Logs.{is_inside, is_inside_at, chain_of, left_of}
-use Rattle.op_log.specs.Places.{IsPlaced, HasFitNumbers}
+use Rattle.stamp_index.specs.Places.{HasFitNumbers}
+use Rattle.op_log.specs.Places.{IsPlaced}
 
 -- the operations of a chain, none where there is no chain
 abbrev pub chain_items : {A : Type 0} → Option (Vec Cell A) → List Cell

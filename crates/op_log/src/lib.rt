@@ -7,7 +7,6 @@ mod chains;
 mod dots;
 mod log;
 mod logged;
-mod places;
 mod slots;
 mod stamps;
 mod sweep;

@@ -6,7 +6,6 @@ ghost use Rattle.op_log.specs.Logs.{chain_of, is_inside_at, mine_in, within_of, 
 use crate::chains::{Cell, Chains, chain_at};
 use crate::dots::{Dots, mine_of, name};
 use crate::logged::Logged;
-use crate::places::Places;
 use crate::slots::{Slots, is_inside_at};
 use crate::stamps::{alias_at, keep_stamped};
 use crate::sweep::sweep_chains;
@@ -14,6 +13,7 @@ use crate::take::take_all;
 use crate::turns::{put_tx, take_tx};
 use crate::within::copies_within;
 use ids_core::{Dot, NoMemory, ObjectId};
+use stamp_index::Places;
 use std::alloc::Global;
 use std::collections::{BTreeMap, BTreeSet};
 use std::marker::Model;

@@ -1,11 +1,10 @@
 // A transaction in the log.
 ghost use Rattle.std.specs.Prelude.{◌≡◌, ◌++◌, ◌∷◌, [], IfOk, OnOk, OnErr};
-ghost use Rattle.vv_core.specs.Vectors.{at, within};
-ghost use Rattle.vv_core.specs.Stamps.{is_any_within};
 ghost use Rattle.op_log.specs.Logs.{is_inside, first_of, with_one};
 
 use ids_core::NoMemory;
 use list_core::List;
+use stamp_index::is_any_within;
 use std::alloc::Global;
 use tx_core::{Record, Tx};
 use vv_core::{Stamp, Vector};
@@ -47,35 +46,5 @@ impl Logged {
     {
         self.stamps.push(*stamp)?;
         Ok(())
-    }
-}
-
-// Whether one of the stamps is within the vector.
-fn is_any_within(stamps: &[Stamp], at: &Vector) -> bool
-    ensures { result ≡ is_any_within at.now stamps.now }
-{
-    for stamp in stamps {
-        if has(at, stamp) {
-            return true;
-        }
-    }
-    false
-}
-
-// Whether the stamp is within the vector.
-fn has(at: &Vector, stamp: &Stamp) -> bool
-    ensures { result ≡ within stamp.now at.now }
-{
-    stamp.seq <= entry(at, stamp.centre)
-}
-
-// The entry of a centre, 0 where the vector has none.
-pub(crate) fn entry(vector: &Vector, centre: u8) -> u64
-    ensures { result ≡ at vector.now centre }
-{
-    if centre < 1 || vector.width() < centre {
-        0
-    } else {
-        vector.get(centre)
     }
 }

@@ -5,15 +5,15 @@ ghost use Rattle.std.specs.BTreeMap.{is_at};
 ghost use Rattle.list_core.specs.Members.{In};
 ghost use Rattle.ids_core.specs.Ids.{same_dot};
 ghost use Rattle.op_log.specs.declared.logged.Logged.{Logged as LoggedOf};
-ghost use Rattle.op_log.specs.declared.places.Place.{Place};
+ghost use Rattle.stamp_index.specs.declared.places.Place.{Place};
 ghost use Rattle.op_log.specs.Logs.{has_dot, with_stamp};
-ghost use Rattle.op_log.specs.Places.{place_cmp, place_of, has_place};
+ghost use Rattle.stamp_index.specs.Places.{place_cmp, place_of, has_place};
 ghost use Rattle.op_log.specs.Tables.{Rises, IsKeyed};
 
 use crate::logged::Logged;
-use crate::places::{Places, lift, note};
 use crate::slots::{Slots, add_at, is_named, keep};
 use ids_core::{Dot, NoMemory};
+use stamp_index::{Places, lift, note};
 use vv_core::Stamp;
 
 // Keeps a transaction, whose number is above all others and has no stamp yet, with a stamp. An `Err` leaves

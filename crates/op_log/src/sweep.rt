@@ -9,15 +9,15 @@ ghost use Rattle.ids_core.specs.Orders.{object_cmp};
 ghost use Rattle.vv_core.specs.Vectors.{at};
 ghost use Rattle.tx_core.specs.declared.tx.Update.{Update as UpdateOf};
 ghost use Rattle.op_log.specs.declared.logged.Logged.{Logged};
-ghost use Rattle.op_log.specs.declared.places.Place.{Place as PlaceOf};
-ghost use Rattle.op_log.specs.Places.{IsPlaced, HasFitNumbers, reached_of};
+ghost use Rattle.stamp_index.specs.declared.places.Place.{Place as PlaceOf};
+ghost use Rattle.stamp_index.specs.Places.{HasFitNumbers, reached_of};
+ghost use Rattle.op_log.specs.Places.{IsPlaced};
 ghost use Rattle.op_log.specs.Tables.{listed, stays, Rises, IsKeyed, Finds, Ascends, Lacks, HasCell, IsSwept, MaySwept, StaysSwept};
 
 use crate::chains::{Cell, Chain, Chains, clear_at};
-use crate::logged::entry;
-use crate::places::{Places, reached};
 use crate::slots::{Slots, is_inside_at};
 use ids_core::ObjectId;
+use stamp_index::{Places, entry, reached};
 use tx_core::Update;
 use vv_core::Vector;
 

@@ -6,15 +6,14 @@ ghost use Rattle.std.specs.BTreeMap.{is_at};
 ghost use Rattle.list_core.specs.Members.{In};
 ghost use Rattle.vv_core.specs.declared.stamp.Stamp.{Stamp as StampOf};
 ghost use Rattle.op_log.specs.declared.logged.Logged.{Logged};
-ghost use Rattle.op_log.specs.declared.places.Place.{Place as PlaceOf};
+ghost use Rattle.stamp_index.specs.declared.places.Place.{Place as PlaceOf};
 ghost use Rattle.op_log.specs.Logs.{is_inside, within_of};
-ghost use Rattle.op_log.specs.Places.{has_place, place_of, reached_of};
+ghost use Rattle.stamp_index.specs.Places.{has_place, place_of, reached_of};
 ghost use Rattle.op_log.specs.Tables.{IsTable};
 
 use crate::dots::{Dots, forget};
-use crate::logged::entry;
-use crate::places::{Places, first_reached, lift};
 use crate::slots::Slots;
+use stamp_index::{Places, entry, first_reached, lift};
 use vv_core::{Stamp, Vector};
 
 // Takes the transactions with a stamp within the vector out, with their dots and stamps: how many.

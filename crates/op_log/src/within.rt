@@ -4,13 +4,13 @@ ghost use Rattle.std.specs.List.Sorted.{IsStrictlySortedBy};
 ghost use Rattle.std.specs.Map.{values_of};
 ghost use Rattle.std.specs.Ordering.{nat_cmp};
 ghost use Rattle.op_log.specs.Logs.{within_of};
-ghost use Rattle.op_log.specs.Places.{is_reached, is_among, is_numbered, HasFitNumbers, HasReached, IsPlaced};
+ghost use Rattle.stamp_index.specs.Places.{is_reached, is_numbered, HasFitNumbers};
+ghost use Rattle.op_log.specs.Places.{is_among, HasReached, IsPlaced};
 ghost use Rattle.op_log.specs.Tables.{found_of, Rises, IsKeyed};
 
-use crate::logged::entry;
-use crate::places::{Places, reached};
 use crate::slots::Slots;
 use ids_core::NoMemory;
+use stamp_index::{Places, entry, reached};
 use std::alloc::Global;
 use std::collections::BTreeSet;
 use tx_core::Tx;

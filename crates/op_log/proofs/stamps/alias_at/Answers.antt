@@ -2,7 +2,8 @@ use Rattle.std.proofs.Common.{sym, ◌∙◌}
 use Rattle.std.specs.Map.{values_of}
 use Rattle.std.proofs.lemmas.Bool.{false≢true}
 use Rattle.ids_core.specs.Ids.{same_dot}
-use Rattle.op_log.proofs.Items.{found_none, stamps_none}
+use Rattle.stamp_index.proofs.Finds.{found_none}
+use Rattle.op_log.proofs.Items.{stamps_none}
 use Rattle.op_log.proofs.stamps.alias_at.Goals as goal
 
 pub returns-then-not-is_named-clause-ok : goal.returns-then-not-is_named-clause-ok

@@ -3,8 +3,8 @@ use Rattle.std.specs.Map.{values_of}
 use Rattle.list_core.specs.Members.{In}
 use Rattle.tx_core.specs.declared.tx.Update.{Update}
 use Rattle.op_log.specs.declared.logged.Logged.{Logged}
-use Rattle.op_log.specs.declared.places.Place.{Place}
-use Rattle.op_log.specs.Places.{reached_of}
+use Rattle.stamp_index.specs.declared.places.Place.{Place}
+use Rattle.stamp_index.specs.Places.{reached_of}
 use Rattle.op_log.specs.Tables.{IsSwept, MaySwept, StaysSwept}
 use Rattle.op_log.proofs.sweep.sweep_centre.Given as goal
 

@@ -2,7 +2,7 @@ use Rattle.std.proofs.Common.{⊎_elim, subst, arith}
 use Rattle.std.specs.Map.{values_of}
 use Rattle.std.proofs.lemmas.Bool.{cases_lt}
 use Rattle.list_core.specs.Members.{In}
-use Rattle.op_log.specs.Places.{reached_of}
+use Rattle.stamp_index.specs.Places.{reached_of}
 use Rattle.op_log.proofs.Sweeping.{all_swept}
 use Rattle.op_log.proofs.sweep.sweep_chains.Goals as goal
 

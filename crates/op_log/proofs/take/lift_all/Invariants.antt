@@ -1,8 +1,8 @@
 use Rattle.std.proofs.Common.{◌≡◌, ◌≢◌, true, false, take}
 use Rattle.list_core.specs.Members.{In}
 use Rattle.vv_core.specs.declared.stamp.Stamp.{Stamp}
-use Rattle.op_log.specs.declared.places.Place.{Place}
-use Rattle.op_log.specs.Places.{has_place, place_of}
+use Rattle.stamp_index.specs.declared.places.Place.{Place}
+use Rattle.stamp_index.specs.Places.{has_place, place_of}
 use Rattle.op_log.proofs.take.lift_all.Given as goal
 
 abbrev pub invariant-loop-stamp : goal.invariant-loop-stamp

@@ -2,7 +2,7 @@ use Rattle.std.proofs.Common.{⊎_elim, ap, sym, ◌∙◌, subst, arith, length
 use Rattle.std.specs.Map.{values_of}
 use Rattle.std.proofs.lemmas.Bool.{cases_lt}
 use Rattle.list_core.specs.Members.{In}
-use Rattle.op_log.specs.Places.{reached_of}
+use Rattle.stamp_index.specs.Places.{reached_of}
 use Rattle.op_log.proofs.Taking.{none_inside, all_left, reached_fewer, left_few, left_count}
 use Rattle.op_log.proofs.take.take_all.Goals as goal
 

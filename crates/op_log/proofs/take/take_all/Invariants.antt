@@ -1,9 +1,9 @@
 use Rattle.std.proofs.Common.{◌≡◌, ◌<◌, ℕ}
 use Rattle.std.specs.Prelude.{not, filter}
 use Rattle.list_core.specs.Members.{In}
-use Rattle.op_log.specs.declared.places.Place.{Place}
+use Rattle.stamp_index.specs.declared.places.Place.{Place}
 use Rattle.op_log.specs.Logs.{is_inside}
-use Rattle.op_log.specs.Places.{reached_of}
+use Rattle.stamp_index.specs.Places.{reached_of}
 use Rattle.op_log.specs.Tables.{IsTable}
 use Rattle.op_log.proofs.take.take_all.Given as goal
 

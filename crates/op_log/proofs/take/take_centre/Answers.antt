@@ -3,7 +3,7 @@ use Rattle.std.specs.Prelude.{not, filter}
 use Rattle.std.specs.Map.{values_of}
 use Rattle.list_core.specs.Members.{In}
 use Rattle.op_log.specs.Logs.{is_inside}
-use Rattle.op_log.specs.Places.{is_reached}
+use Rattle.stamp_index.specs.Places.{is_reached}
 use Rattle.op_log.proofs.Reaching.{inside_reached}
 use Rattle.op_log.proofs.Taking.{kept_less, member_at}
 use Rattle.op_log.proofs.take.take_centre.Goals as goal

@@ -1,8 +1,8 @@
 use Rattle.std.proofs.Common.{◌≡◌, true, length}
 use Rattle.std.specs.Prelude.{not, filter}
-use Rattle.op_log.specs.declared.places.Place.{Place}
+use Rattle.stamp_index.specs.declared.places.Place.{Place}
 use Rattle.op_log.specs.Logs.{is_inside}
-use Rattle.op_log.specs.Places.{has_place}
+use Rattle.stamp_index.specs.Places.{has_place}
 use Rattle.op_log.specs.Tables.{IsTable}
 use Rattle.op_log.proofs.take.take_centre.Given as goal
 

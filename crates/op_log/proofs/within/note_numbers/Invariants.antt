@@ -1,6 +1,7 @@
 use Rattle.std.proofs.Common.{◌≡◌, ℕ}
 use Rattle.std.specs.Prelude.{◌||◌, filter}
-use Rattle.op_log.specs.Places.{is_among, is_numbered, is_reached}
+use Rattle.stamp_index.specs.Places.{is_numbered, is_reached}
+use Rattle.op_log.specs.Places.{is_among}
 use Rattle.op_log.proofs.within.note_numbers.Given as goal
 
 abbrev pub invariant-loop-place : goal.invariant-loop-place

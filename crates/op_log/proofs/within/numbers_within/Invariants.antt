@@ -1,5 +1,6 @@
 use Rattle.std.proofs.Common.{◌≡◌, ◌<◌, ℕ, true}
-use Rattle.op_log.specs.Places.{is_among, is_numbered, reached_of}
+use Rattle.stamp_index.specs.Places.{is_numbered, reached_of}
+use Rattle.op_log.specs.Places.{is_among}
 use Rattle.op_log.proofs.within.numbers_within.Given as goal
 
 abbrev pub invariant-loop-centre : goal.invariant-loop-centre

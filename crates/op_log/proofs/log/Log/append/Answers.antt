@@ -2,7 +2,7 @@ use Rattle.std.proofs.Common.{◌<◌, ◌≡◌, ℕ, true, false, cond, ◌++�
 use Rattle.std.specs.Prelude.{All}
 use Rattle.op_log.specs.Logs.{has_dot}
 use Rattle.std.specs.BTreeMap.{is_at}
-use Rattle.op_log.specs.Places.{place_cmp, has_place, place_of}
+use Rattle.stamp_index.specs.Places.{place_cmp, has_place, place_of}
 use Rattle.op_log.specs.Tables.{IsLog}
 use Rattle.op_log.proofs.Keeping.{names_kept, new_place, log_same, log_more, numbers_below}
 use Rattle.op_log.proofs.Ops.{put_back, no_error, some_error}

@@ -18,9 +18,9 @@ use Rattle.ids_core.specs.Orders.{both_equal}
 use Rattle.vv_core.specs.declared.stamp.Stamp.{Stamp}
 use Rattle.vv_core.specs.Vectors.{at, within}
 use Rattle.vv_core.proofs.Entrywise.{at_past}
-use Rattle.op_log.specs.declared.places.Place.{Place}
-use Rattle.op_log.specs.Places.{place_cmp, place_of, has_place, is_reached, HasFitNumbers}
-use Rattle.op_log.proofs.Items.{found_none, found_some}
+use Rattle.stamp_index.specs.declared.places.Place.{Place}
+use Rattle.stamp_index.specs.Places.{place_cmp, place_of, has_place, is_reached, HasFitNumbers}
+use Rattle.stamp_index.proofs.Finds.{found_none, found_some}
 
 -- ---- which places are there
 

@@ -2,9 +2,9 @@ use Rattle.std.proofs.Common.{◌≡◌, rules, ◌∙◌}
 use Rattle.std.specs.Prelude.{filter}
 use Rattle.std.specs.declared.ops.Bound.TheVariants.{Included}
 use Rattle.std.specs.BTreeMap.Range.{range_contains}
-use Rattle.op_log.specs.Places.{place_cmp}
-use Rattle.op_log.proofs.PlaceOrders.{first_place, last_place, all_between}
-use Rattle.op_log.proofs.places.reached.Goals as goal
+use Rattle.stamp_index.specs.Places.{place_cmp}
+use Rattle.stamp_index.proofs.PlaceOrders.{first_place, last_place, all_between}
+use Rattle.stamp_index.proofs.places.reached.Goals as goal
 
 pub returns : goal.returns
 returns c =
