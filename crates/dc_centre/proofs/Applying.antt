@@ -9,6 +9,7 @@ use Rattle.list_core.specs.Members.{In}
 use Rattle.list_core.proofs.Members.{All-In, In-All, In_left, In_right, In_either}
 use Rattle.ids_core.specs.declared.limits.TheConstants.{MOST_CENTRES, MOST_CLIENTS, MOST_UPDATES}
 use Rattle.ids_core.specs.declared.ids.Dot.{Dot}
+use Rattle.ids_core.specs.declared.object.ObjectId.{ObjectId}
 use Rattle.ids_core.specs.Ids.{same_dot}
 use Rattle.ids_core.specs.Same.{same_dot-true, same_dot-same}
 use Rattle.vv_core.specs.declared.stamp.Stamp.{Stamp}
@@ -26,6 +27,9 @@ use Rattle.point_law.proofs.StandingFor.{none_stand, known_stands, new_stands, k
 use Rattle.dc_talk.specs.Records.{count, vector, guard, first_stamp, top, has}
 use Rattle.dc_talk.specs.Dots.{dots_of}
 use Rattle.dc_talk.proofs.Counts.{count_more, guard_more}
+use Rattle.point_law.specs.declared.served.Served.{Served}
+use Rattle.point_law.specs.Served.{IsServed, AreServed, ServedEntries, served_of}
+use Rattle.point_law.proofs.Serving.{kept_on, served_more}
 use Rattle.dc_centre.specs.Applied.{AppliedView, IsNext, is_fresh, IsGuard, IsCentreOf, IsRanged, IsPlaced, IsApplied}
 use Rattle.dc_centre.proofs.Firsts.{new_dot, has_before, has_last, first_had, first_new, first_stamp_range}
 
@@ -288,6 +292,19 @@ applied_more n x lasts A r h is noted =
       placed = placed_more n A r next h.placed;
       ranged = ranged_more n A r next h.ranged;
     }
+
+-- and so are the states that were served
+pub served_after : (n : ℕ) (x y : AppliedView) (A : List Record) (r : Record) (fresh : Bool) (served : ServedEntries) → IsApplied n x A → IsApplied n y (A ++ r ∷ []) → IsNext x r → y.counts ≡ raised x.counts r.stamp → y.point ≡ x.point → y.log ≡ with_one x.log r fresh → AreServed x.counts x.point x.log served → AreServed y.counts y.point y.log served
+served_after n x y A r fresh served h more next counts point log are = record {
+  states = λ o. kept_on (IsServed x.point x.log o) (λ s. Covers x.counts s.at) (IsServed y.point y.log o) (served_of served o) (λ s is here. on o s is here) (are.states o) (are.here o);
+  here = λ o. kept_on (IsServed x.point x.log o) (λ s. Covers x.counts s.at) (λ s. Covers y.counts s.at) (served_of served o) (λ s is here. subst (λ (v : List ℕ). Covers v s.at) (sym counts) (Covers_trans (raised x.counts r.stamp) x.counts s.at (Covers-join_left x.counts _) here)) (are.states o) (are.here o);
+}
+  where
+    stored : StandFor (A ++ r ∷ []) x.point (with_one x.log r fresh)
+    stored = subst (λ (l : LogView). StandFor (A ++ r ∷ []) x.point l) log (subst (λ (p : PointView). StandFor (A ++ r ∷ []) p y.log) point more.stored)
+
+    on : (o : ObjectId) (s : Served) → IsServed x.point x.log o s → Covers x.counts s.at → IsServed y.point y.log o s
+    on o s is here = subst (λ (l : LogView). IsServed y.point l o s) (sym log) (subst (λ (p : PointView). IsServed p (with_one x.log r fresh) o s) (sym point) (served_more A x.point x.log o r fresh s h.stored stored (stamp_out x.counts s.at r.stamp here next.seq) is))
 
 -- ---- what is kept once more is folded
 

@@ -11,6 +11,7 @@ use Rattle.tx_core.specs.declared.tx.Record.{Record}
 use Rattle.op_log.specs.Logs.{LogView}
 use Rattle.check_point.specs.Points.{PointView, HasFewUpdates}
 use Rattle.point_law.specs.StandFor.{StandFor}
+use Rattle.point_law.specs.Served.{ServedEntries, AreServed}
 use Rattle.dc_talk.specs.Records.{count, vector, guard, first_stamp, top, has}
 use Rattle.dc_talk.specs.Dots.{dots_of}
 
@@ -75,7 +76,8 @@ pub record IsApplied (n : ℕ) (x : AppliedView) (A : List Record) : Type 0 wher
   pub placed : (e k : ℕ) → 1 ≤ k → k ≤ count e A → IsPlaced A e k
   pub ranged : (r : Record) → In r A → IsRanged n A r
 
--- all that is kept is as it is after some records
-pub record IsSomeApplied (n : ℕ) (x : AppliedView) : Type 0 where
+-- all that is kept is as it is after some records, and so are the states that were served
+pub record IsSomeApplied (n : ℕ) (x : AppliedView) (served : ServedEntries) : Type 0 where
   pub records : List Record
   pub is : IsApplied n x records
+  pub states : AreServed x.counts x.point x.log served

@@ -15,15 +15,18 @@ use check_point::Point;
 use dup_guard::Guard;
 use ids_core::{Dot, NoMemory, ObjectId};
 use op_log::Log;
-use point_law::{keep, mine_at, prune, state_at};
+use point_law::{ServedStates, keep, mine_at, prune, serve};
 use std::alloc::Global;
+use std::collections::BTreeMap;
 use std::marker::Model;
 use tx_core::{Record, State, Tx};
 use vv_core::{Stamp, Vector};
 
 /// What a centre keeps of the records that it applied: how many there are of each centre, the last
 /// number of each client with its first stamp, the greatest rank, and the transactions, those within a
-/// vector folded into states, and the others in a log.
+/// vector folded into states, and the others in a log. Beside them it keeps states that it served, each of
+/// an object with many operations in the log at a vector within the counts, until it is pruned: they are
+/// what point and log tell, and no contract shows them.
 #[derive(Drop)]
 pub struct Applied {
     vector: Vector,
@@ -31,6 +34,7 @@ pub struct Applied {
     top: u64,
     point: Point,
     log: Log,
+    served: ServedStates,
 }
 
 impl Model for Applied {
@@ -44,7 +48,7 @@ impl Model for Applied {
 
     ghost view = { λ a. record { counts = a.vector; lasts = a.guard; greatest = a.top; point = a.point; log = a.log } };
 
-    ghost invariant = { λ a. IsSomeApplied (length a.vector) (record { counts = a.vector; lasts = a.guard; greatest = a.top; point = a.point; log = a.log }) };
+    ghost invariant = { λ a. IsSomeApplied (length a.vector) (record { counts = a.vector; lasts = a.guard; greatest = a.top; point = a.point; log = a.log }) a.served.entries };
 }
 
 impl Applied {
@@ -61,6 +65,7 @@ impl Applied {
             top: 0,
             point: Point::new(alloc, n)?,
             log: Log::new(alloc)?,
+            served: BTreeMap::new(alloc),
         })
     }
 
@@ -122,11 +127,22 @@ impl Applied {
         mine_at(&self.point, &self.log, client, at)
     }
 
-    /// The state of an object at a vector.
-    pub fn state(&self, alloc: Global, object: &ObjectId, at: &Vector) -> Result<State, NoMemory>
-        ensures { IfOk result (λ state. state ≡ state_told self.now.point self.now.log object.now at.now) }
+    /// The state of an object at a vector within the counts that covers the base. Nothing that is seen
+    /// changes. Time: for an object with few operations in the log these, and else what came since its
+    /// state was last kept.
+    pub fn state(
+        &mut self,
+        alloc: Global,
+        object: &ObjectId,
+        at: &Vector,
+    ) -> Result<State, NoMemory>
+        requires width { length at.now ≡ length self.old.counts }
+        requires covers { Covers at.now self.old.point.vector }
+        requires here { Covers self.old.counts at.now }
+        ensures state { IfOk result (λ state. state ≡ state_told self.old.point self.old.log object.now at.now) }
+        ensures same { self.new ≡ self.old }
     {
-        state_at(alloc, &self.point, &self.log, object, at)
+        serve(alloc, &self.point, &self.log, &mut self.served, object, at)
     }
 
     /// The dependency vector of its client's next transaction.
@@ -171,7 +187,9 @@ impl Applied {
         ensures same { OnOk result ((A : List RecordOf) → IsApplied (length self.old.counts) self.old A → IsApplied (length self.old.counts) self.new A) }
         ensures err { OnErr result (self.new ≡ self.old) }
     {
-        prune(alloc, &mut self.point, &mut self.log, to)
+        prune(alloc, &mut self.point, &mut self.log, to)?;
+        self.served.clear();
+        Ok(())
     }
 }
 

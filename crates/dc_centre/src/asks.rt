@@ -60,14 +60,15 @@ impl Centre {
 
     /// The answer to a fetch, in two copies.
     pub(crate) fn object(
-        &self,
+        &mut self,
         alloc: Global,
         object: &ObjectId,
         at: &Vector,
     ) -> Result<(Say, Say), NoMemory>
-        requires { length at.now ≡ self.now.settings.n }
-        ensures answer { IfOk result (λ says. says.0 ≡ row_over self.now (Fetch object.now at.now)) }
+        requires { length at.now ≡ self.old.settings.n }
+        ensures answer { IfOk result (λ says. says.0 ≡ row_over self.old (Fetch object.now at.now)) }
         ensures copy { IfOk result (λ says. says.1 ≡ says.0) }
+        ensures same { self.new ≡ self.old }
     {
         if let Some(lack) = Vector::first_lack(&self.applied.vector(), at) {
             return Ok((lacks(lack), lacks(lack)));

@@ -56,7 +56,7 @@ module _ (w : List ℕ) where
       ap (λ b. (b && is_inside w x) || is_inside_at w number items) other ∙ none_inside items number (λ y i. apart y (inr i))
 
   -- that of a transaction in the log is inside where one of its stamps is
-  number_inside : (items : List Logged) (x : Logged) → Apart (λ (x : Logged). x.number) items → In x items → is_inside_at w x.number items ≡ is_inside w x
+  pub number_inside : (items : List Logged) (x : Logged) → Apart (λ (x : Logged). x.number) items → In x items → is_inside_at w x.number items ≡ is_inside w x
   number_inside [] x apart i = absurd i
   number_inside (y ∷ items) x apart (inl same) = subst (λ y. is_inside_at w x.number (y ∷ items) ≡ is_inside w x) same (go (is_inside w x) (none_inside items x.number (subst (λ (y : Logged). (z : Logged) → In z items → y.number ≡ z.number → ⊥) (sym same) apart.0)))
     where
@@ -69,27 +69,28 @@ module _ (w : List ℕ) where
       let other : (y.number == x.number) ≡ false = false_from_ne_true (y.number == x.number) (λ same. apart.0 x i (eqb-true y.number x.number same)) in
       ap (λ b. (b && is_inside w y) || is_inside_at w x.number items) other ∙ number_inside items x apart.1 i
 
-  module _ (test : ℕ → Bool) (o : ObjectId) where
-    -- of one transaction all cells are inside, or none is
-    cells_inside : (x : Logged) → test x.number ≡ is_inside w x → filter (λ c. test c.tx) (cells_of o x) ≡ cond (is_inside w x) (cells_of o x) []
-    cells_inside x is = at (is_inside w x) (λ c i. ap test (cells_number o x.number x.tx.rank x.tx.dot 0 x.tx.updates c i) ∙ is)
-      where
-        at : (b : Bool) → ((c : Cell) → In c (cells_of o x) → test c.tx ≡ b) → filter (λ c. test c.tx) (cells_of o x) ≡ cond b (cells_of o x) []
-        at true all = filter_all (λ (c : Cell). test c.tx) (cells_of o x) all
-        at false none = filter_none (λ (c : Cell). test c.tx) (cells_of o x) none
+module _ (test : ℕ → Bool) (passes : Logged → Bool) (o : ObjectId) where
+  -- of one transaction all cells pass, or none does
+  cells_passing : (x : Logged) → test x.number ≡ passes x → filter (λ c. test c.tx) (cells_of o x) ≡ cond (passes x) (cells_of o x) []
+  cells_passing x is = at (passes x) (λ c i. ap test (cells_number o x.number x.tx.rank x.tx.dot 0 x.tx.updates c i) ∙ is)
+    where
+      at : (b : Bool) → ((c : Cell) → In c (cells_of o x) → test c.tx ≡ b) → filter (λ c. test c.tx) (cells_of o x) ≡ cond b (cells_of o x) []
+      at true all = filter_all (λ (c : Cell). test c.tx) (cells_of o x) all
+      at false none = filter_none (λ (c : Cell). test c.tx) (cells_of o x) none
 
-    -- those of all that are inside are the chain of the transactions that are
-    cells_within : (items : List Logged) → ((x : Logged) → In x items → test x.number ≡ is_inside w x) → filter (λ c. test c.tx) (chain_of o items) ≡ chain_of o (filter (is_inside w) items)
-    cells_within [] is = refl
-    cells_within (x ∷ items) is = filter-append (λ (c : Cell). test c.tx) (cells_of o x) (chain_of o items) ∙ (ap (λ l. l ++ filter (λ c. test c.tx) (chain_of o items)) (cells_inside x (is x (inl refl))) ∙ (ap (λ l. cond (is_inside w x) (cells_of o x) [] ++ l) (cells_within items (λ y i. is y (inr i))) ∙ at (is_inside w x)))
-      where
-        at : (b : Bool) → cond b (cells_of o x) [] ++ chain_of o (filter (is_inside w) items) ≡ chain_of o (cond b (x ∷ filter (is_inside w) items) (filter (is_inside w) items))
-        at true = refl
-        at false = refl
+  -- those of all that pass are the chain of the transactions that do
+  pub chain_passing : (items : List Logged) → ((x : Logged) → In x items → test x.number ≡ passes x) → filter (λ c. test c.tx) (chain_of o items) ≡ chain_of o (filter passes items)
+  chain_passing [] is = refl
+  chain_passing (x ∷ items) is = filter-append (λ (c : Cell). test c.tx) (cells_of o x) (chain_of o items) ∙ (ap (λ l. l ++ filter (λ c. test c.tx) (chain_of o items)) (cells_passing x (is x (inl refl))) ∙ (ap (λ l. cond (passes x) (cells_of o x) [] ++ l) (chain_passing items (λ y i. is y (inr i))) ∙ at (passes x)))
+    where
+      at : (b : Bool) → cond b (cells_of o x) [] ++ chain_of o (filter passes items) ≡ chain_of o (cond b (x ∷ filter passes items) (filter passes items))
+      at true = refl
+      at false = refl
 
+module _ (w : List ℕ) where
   -- the operations of a chain whose transaction is inside are those of the transactions that are
   pub chain_inside : (o : ObjectId) (items : List Logged) → Apart (λ (x : Logged). x.number) items → ops_in (filter (λ c. is_inside_at w c.tx items) (chain_of o items)) ≡ flat_map (ops_of o) (txs_of (filter (is_inside w) items))
-  chain_inside o items apart = ap ops_in (cells_within (λ number. is_inside_at w number items) o items (λ x i. number_inside items x apart i)) ∙ chain_ops o (filter (is_inside w) items)
+  chain_inside o items apart = ap ops_in (chain_passing (λ number. is_inside_at w number items) (is_inside w) o items (λ x i. number_inside w items x apart i)) ∙ chain_ops o (filter (is_inside w) items)
 
   -- the greatest number inside is that of the transactions that are
   pub mine_inside : (client : ℕ) (items : List Logged) → greatest client (txs_of (filter (is_inside w) items)) ≡ mine_in client w items

@@ -24,7 +24,7 @@ use Rattle.point_law.specs.Splits.{first_txs, is_inside}
 -- ---- a greater vector
 
 -- a stamp within a vector is within each that covers it
-within_grows : (w base : List ℕ) (s : Stamp) → Covers w base → within s base ≡ true → within s w ≡ true
+pub within_grows : (w base : List ℕ) (s : Stamp) → Covers w base → within s base ≡ true → within s w ≡ true
 within_grows w base s covers is =
     let low = leb-true s.seq (at base s.centre) is in
     let le = covers.holds s.centre in

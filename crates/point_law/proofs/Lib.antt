@@ -5,3 +5,4 @@ pub mod Chains
 pub mod LogSplits
 pub mod LogGrowth
 pub mod StandingFor
+pub mod Serving

@@ -1,3 +1,4 @@
 pub mod Splits
 pub mod LogSplits
 pub mod StandFor
+pub mod Served

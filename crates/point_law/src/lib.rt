@@ -3,7 +3,9 @@
 #![tactic(auto)]
 
 mod laws;
+mod served;
 mod standing;
 
 pub use laws::{law_split, law_split_steps, law_stand_for, law_stand_for_steps};
+pub use served::{Served, ServedStates, serve};
 pub use standing::{keep, mine_at, prune, state_at};

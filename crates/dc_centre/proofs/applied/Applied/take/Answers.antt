@@ -1,10 +1,10 @@
-use Rattle.std.proofs.Common.{◌≡◌, ◌++◌, ◌∷◌, [], ℕ, Bool, List, length, sym, ap, ◌∙◌, subst}
+use Rattle.std.proofs.Common.{◌≡◌, ◌++◌, ◌∷◌, [], ℕ, Bool, List, length, refl, sym, ap, ◌∙◌, subst}
 use Rattle.std.specs.Prelude.{not}
 use Rattle.vv_core.proofs.Entrywise.{length-raised}
 use Rattle.tx_core.specs.declared.tx.Record.{Record}
 use Rattle.point_law.specs.StandFor.{with_one}
 use Rattle.dc_centre.specs.Applied.{AppliedView, IsNext, is_fresh, IsApplied}
-use Rattle.dc_centre.proofs.Applying.{Noted, applied_more, not_logged, fresh_is}
+use Rattle.dc_centre.proofs.Applying.{Noted, applied_more, not_logged, fresh_is, served_after}
 use Rattle.dc_centre.proofs.applied.Applied.take.Goals as goal
 
 pub keep-requires-clause-new : goal.keep-requires-clause-new
@@ -30,12 +30,15 @@ module _ (c : goal.After-self-2-1) where
   noted : Noted c.args.item.now (is_fresh kept c.args.item.now) c.self.inside.guard c.note_if.new.guard
   noted = subst (λ (f : Bool). Noted c.args.item.now f c.self.inside.guard c.note_if.new.guard) fresh (record { numbers = c.note_if.ensures.numbers; stamp = c.note_if.ensures.stamp; others = c.note_if.ensures.others })
 
+  logged : c.keep.new.log ≡ with_one c.self.inside.log c.args.item.now (is_fresh kept c.args.item.now)
+  logged = c.in_ok-keep.ensures.ok ∙ ap (λ (f : Bool). with_one c.self.inside.log c.args.item.now f) fresh
+
   grows : (A : List Record) → IsApplied (length c.self.inside.vector) kept A → IsApplied (length c.self.inside.vector) more (A ++ c.args.item.now ∷ [])
   grows A h =
       let made = applied_more (length c.self.inside.vector) kept c.note_if.new.guard A c.args.item.now h next noted in
       let counts = c.raise-self-inside.ensures.entries in
       let greatest = c.max-self-inside.ensures in
-      let log = c.in_ok-keep.ensures.ok ∙ ap (λ (f : Bool). with_one c.self.inside.log c.args.item.now f) fresh in
+      let log = logged in
       subst (λ (x : AppliedView). IsApplied (length c.self.inside.vector) x (A ++ c.args.item.now ∷ [])) (λ i. record { counts = sym counts i; lasts = c.note_if.new.guard; greatest = sym greatest i; point = c.self.inside.point; log = sym log i }) made
 
 pub invariant_of-self-2 : goal.invariant_of-self-2
@@ -44,6 +47,7 @@ invariant_of-self-2 c =
     record {
       records = c.self.invariant.records ++ c.args.item.now ∷ [];
       is = subst (λ (n : ℕ). IsApplied n (more c) (c.self.invariant.records ++ c.args.item.now ∷ [])) wide (grows c c.self.invariant.records c.self.invariant.is);
+      states = served_after (length c.self.inside.vector) (kept c) (more c) c.self.invariant.records c.args.item.now (is_fresh (kept c) c.args.item.now) c.self.inside.served.entries c.self.invariant.is (grows c c.self.invariant.records c.self.invariant.is) (next c) c.raise-self-inside.ensures.entries refl (logged c) c.self.invariant.states;
     }
 
 pub returns-clause-grown : goal.returns-clause-grown

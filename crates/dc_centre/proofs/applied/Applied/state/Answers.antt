@@ -1,0 +1,14 @@
+use Rattle.std.proofs.Common.{sym, subst}
+use Rattle.vv_core.specs.Vectors.{Covers}
+use Rattle.dc_centre.specs.Applied.{AppliedView}
+use Rattle.dc_centre.proofs.applied.Applied.state.Goals as goal
+
+pub invariant_of-self : goal.invariant_of-self
+invariant_of-self c = record {
+  records = c.self.invariant.records;
+  is = c.self.invariant.is;
+  states = record {
+    states = c.serve.ensures.served;
+    here = c.serve.ensures.here c.self.inside.vector (subst (λ (x : AppliedView). Covers x.counts c.args.at.now) (sym c.self.view_is) c.requires.here) c.self.invariant.states.here;
+  };
+}
