@@ -1,6 +1,7 @@
 #!/bin/sh
 # Times `benchmarks centre`: a centre that stamps so many transactions, or applies as
-# many records of another centre, and is then asked for one state. Prints the rows of the tables in
+# many records of another centre, and is then asked for one state; or one that stamps so many of a hundred
+# clients on one counter, and is asked for its state with each. Prints the rows of the tables in
 # docs/benchmarks.md. Each time is the least of nine runs. The status is 1 where a doubling takes more
 # than 2.4 times as long, or the program gives a wrong end.
 #   bench/centre.sh             times crates/benchmarks/out/benchmarks
@@ -29,4 +30,5 @@ table() {
 
 table commits
 table deliveries
+table fetches
 exit "$status"

@@ -1,5 +1,7 @@
 // A centre that is asked very often. `commits COUNT` has it stamp so many transactions, `deliveries COUNT`
-// has it apply as many records of another centre; the number is what one fetch then sees.
+// has it apply as many records of another centre; the number is what one fetch then sees. `fetches COUNT`
+// has it stamp so many of a hundred clients, and tell the state with each; the number is what the last of
+// these fetches sees.
 ghost use Rattle.std.specs.Prelude.{◌≡◌, IfOk, [], ◌∷◌, pos};
 ghost use Rattle.vv_core.specs.Vectors.{zeros};
 ghost use Rattle.tx_core.specs.declared.op.Op.TheVariants.{Inc};
@@ -16,6 +18,9 @@ use vv_core::{Stamp, Vector};
 // The most transactions that a centre stamps.
 const LIMIT: u64 = 1_000_000;
 
+// How many clients take turns.
+const CLIENTS: u32 = 100;
+
 /// What is fetched, for the form and the count; nothing where they are of no form.
 pub fn worked(alloc: Global, form: &str, count: &str) -> Option<Result<i128, Fault>> {
     let Ok(count) = count.parse::<u32>() else {
@@ -24,6 +29,7 @@ pub fn worked(alloc: Global, form: &str, count: &str) -> Option<Result<i128, Fau
     match form {
         "commits" => Some(after_commits(alloc, count)),
         "deliveries" => Some(after_deliveries(alloc, count)),
+        "fetches" => Some(after_fetches(alloc, count)),
         _ => None,
     }
 }
@@ -52,6 +58,28 @@ fn after_deliveries(alloc: Global, count: u32) -> Result<i128, Fault> {
         centre.step(alloc, &Ask::Deliver { item })?;
     }
     Ok(fetched(alloc, &mut centre, &object, u64::from(count))?)
+}
+
+// The value of the counter that is fetched with each of so many transactions of a hundred clients, each of
+// which adds 1 to it.
+fn after_fetches(alloc: Global, count: u32) -> Result<i128, Fault> {
+    let object = counter(b"total")?;
+    let mut centre = Centre::new(alloc, 1, 2, 1, LIMIT)?;
+    let mut value = 0;
+    for turn in 0..count {
+        let dot = Dot {
+            client: turn % CLIENTS + 1,
+            number: u64::from(turn / CLIENTS) + 1,
+        };
+        let seq = u64::from(turn) + 1;
+        let tx = Tx {
+            dot,
+            ..add_one(alloc, seq, &object)?
+        };
+        centre.step(alloc, &Ask::Commit { tx })?;
+        value = fetched(alloc, &mut centre, &object, seq)?;
+    }
+    Ok(value)
 }
 
 /// The transaction of client 1, of this number and rank, that adds 1 to a counter.

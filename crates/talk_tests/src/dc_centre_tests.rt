@@ -94,6 +94,30 @@ fn a_snapshot_shows_what_is_in_it(rt: HostRuntime) -> Result<(), Fail> {
     stamp_and_ask(&rt, rt.alloc(), &mut centre)
 }
 
+// Has a centre stamp twenty commits, and asks for the counter at later and earlier snapshots, and once it
+// has pruned.
+fn stamp_and_fetch(rt: &impl Abort, alloc: Global, centre: &mut Centre) -> Result<(), Fail> {
+    let object = counter("a")?;
+    for number in 1..21 {
+        assert!(rt; takes(alloc, centre, number, number - 1, ("stamped", 1, number, 0))?);
+    }
+    for (seq, want) in [(16, 80), (20, 100), (18, 90), (20, 100)] {
+        assert!(rt; fetched(alloc, centre, object, single(seq))? == Some(want));
+    }
+    for _ in 0..2 {
+        centre.step(alloc, &Ask::Prune)?;
+    }
+    assert!(rt; fetched(alloc, centre, object, single(18))?.is_none());
+    assert!(rt; fetched(alloc, centre, object, single(20))? == Some(100));
+    Ok(())
+}
+
+#[test]
+fn a_hot_object_is_folded_on(rt: HostRuntime) -> Result<(), Fail> {
+    let mut centre = Centre::new(rt.alloc(), 1, 1, 1, 20)?;
+    stamp_and_fetch(&rt, rt.alloc(), &mut centre)
+}
+
 // Whether the entries are those two.
 fn are_two(entries: &[Entry]) -> bool {
     match entries {
