@@ -54,7 +54,7 @@ fn has_the_second(alloc: Global, a: Name, b: Name) -> Result<bool, Fail> {
     let mut state = State::empty(alloc, Sort::Set)?;
     fill_set(alloc, &mut state, a, b)?;
     let copy = state.copy()?;
-    let want = Names::from_vec(vec![in alloc; b]?);
+    let want = Names::from_vec(alloc, vec![in alloc; b]?)?;
     let is_read = is_words(&copy.value(alloc)?, &want)?;
     let is_set = matches!(copy.sort(), Sort::Set);
     let tags = copy.tags_of(alloc, &b)?.as_slice().len();
@@ -73,7 +73,7 @@ fn a_set_has_what_is_live(rt: HostRuntime) -> Result<(), Fail> {
     law_state_value();
     let (a, b) = (Name::read(b"a")?, Name::read(b"b")?);
     assert!(rt; has_the_second(rt.alloc(), a, b)?);
-    let pairs = NamePairs::from_vec(vec![in rt.alloc(); (a, b)]?);
+    let pairs = NamePairs::from_vec(rt.alloc(), vec![in rt.alloc(); (a, b)]?)?;
     assert!(rt; are_pairs(&pairs, &[(a, b)])?);
     Ok(())
 }

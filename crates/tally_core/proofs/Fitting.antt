@@ -7,7 +7,8 @@ use Rattle.std.proofs.lemmas.Bool.{cases_Bool, and_parts}
 use Rattle.std.specs.Ordering.{eq_by_cmp, is_lt}
 use Rattle.std.specs.declared.cmp.Ordering.TheVariants.{Less}
 use Rattle.std.specs.Cmp.{tied_itself}
-use Rattle.std.specs.BTreeMap.{BTreeMap, get}
+use Rattle.std.specs.Map.{lookup}
+use Rattle.std.specs.BTreeMap.{BTreeMap, get, is_at}
 use Rattle.list_core.specs.Members.{In}
 use Rattle.ids_core.specs.declared.ids.OpId.{OpId}
 use Rattle.ids_core.specs.Orders.{id_cmp, id_cmp_total, name_cmp_total}
@@ -17,7 +18,7 @@ use Rattle.tally_core.specs.declared.place.Place.{Place}
 use Rattle.tally_core.specs.declared.place.Cell.{Cell}
 use Rattle.tally_core.specs.Places.{place, place_cmp, least_id}
 use Rattle.tally_core.specs.Cells.{Tallied, turn, turned, lowers}
-use Rattle.tally_core.specs.Room.{fits, Fits, CanLower, Stays}
+use Rattle.tally_core.specs.Room.{fits, Fits, CanLower, Stays, is_within}
 use Rattle.tally_core.proofs.Places.{place_cmp_same}
 use Rattle.tally_core.proofs.Sparse.{is_same}
 
@@ -80,3 +81,7 @@ module _ {P : Type 0} where
   -- one tally more is lowered
   pub lowered_more : (m n s : Tallied P) (name : List ℕ) (over : List OpId) (i : ℕ) → i < length over → n ≡ turn m (place name (get_or over i least_id), None) → fold turn m (lowers name (drop i over)) ≡ s → fold turn n (lowers name (drop (i + 1) over)) ≡ s
   lowered_more m n s name over i lt is h = ap (λ n. fold turn n (lowers name (drop (i + 1) over))) is ∙ (sym (ap (λ ids. fold turn m (lowers name ids)) (drop_more over i least_id lt)) ∙ h)
+
+-- a tally within the bounds stands where the same entries stand
+pub fits_found : {P : Type 0} (rises : Bool) (m : BTreeMap Place (Cell P)) (fs : List (Place × Cell P)) (p : Place) (c : Cell P) → fs ≡ m.entries → get place_cmp m p ≡ Some c → is_within rises c.count ≡ true → fits rises (lookup (is_at (place_cmp p)) fs) ≡ true
+fits_found rises m fs p c same there within = ap (λ es. fits rises (lookup (is_at (place_cmp p)) es)) same ∙ (ap (fits rises) there ∙ within)

@@ -7,6 +7,7 @@ mod live;
 mod place;
 mod room;
 mod sees;
+mod shared;
 mod tallies;
 mod turn;
 

@@ -7,6 +7,7 @@ ghost use Rattle.tally_core.specs.Room.{Fits, CanLower, Stays, is_within};
 use crate::place::{Cell, Place};
 use ids_core::{Name, NoMemory, OpId};
 use std::collections::BTreeMap;
+use std::collections::btree_map::Entry;
 
 // Sees to it that a cell stands for each identifier, and that no tally will pass an end of `i64`.
 pub(crate) fn make_room<P: Copy>(
@@ -57,16 +58,16 @@ fn stand<P: Copy>(
         name: *name,
         id: *id,
     };
-    match cells.get(&place) {
-        Some(cell) => {
-            if is_within(rises, cell.count) {
+    match cells.entry(place)? {
+        Entry::Occupied(entry) => {
+            if is_within(rises, entry.get().count) {
                 Ok(())
             } else {
                 Err(NoMemory)
             }
         }
-        None => {
-            cells.insert(place, nothing())?;
+        Entry::Vacant(entry) => {
+            entry.insert(nothing());
             Ok(())
         }
     }

@@ -9,33 +9,38 @@ ghost use Rattle.tally_core.specs.Live.{live_ids, live_names, kept_at, IsLiveNam
 
 use crate::live::{kept_from, live_from, names_in};
 use crate::place::{Cell, Place};
-use crate::room::{clear_room, make_room};
-use crate::turn::{raise, turn_all};
+use crate::shared::{begin, cells_or, change_shared};
 use ids_core::{Name, NoMemory, OpId, Tags};
 use std::alloc::Global;
 use std::collections::BTreeMap;
 use std::marker::Model;
+use std::sync::Arc;
 
 /// For each name and identifier a tally: plus one for the add of the identifier, minus one for each
 /// list of seen identifiers that holds it (the observed-remove set of Shapiro and others, INRIA
 /// RR-7506, 2011, with tallies, so that a remove may come before the add that it saw). A tally of 0
 /// is not there. Where a tally is 1 or more, the identifier is live, and what its add keeps is there.
+/// Copies share their cells until one of them is changed, which takes cells of its own first.
 #[derive(Drop)]
 pub struct Tallies<P: Copy> {
-    cells: BTreeMap<Place, Cell<P>>,
+    alloc: Global,
+    cells: Option<Arc<BTreeMap<Place, Cell<P>>>>,
 }
 
 impl<P: Copy> Model for Tallies<P> {
+    ghost use Rattle.std.specs.Prelude.{option_map};
     ghost use Rattle.std.specs.FinMap as map;
+    ghost use Rattle.std.specs.Arc.{arc_value};
     ghost use Rattle.tally_core.specs.Places.{place_cmp, place_code};
     ghost use Rattle.tally_core.specs.declared.place.Cell.{Cell};
     ghost use Rattle.tally_core.specs.Cells.{cell_code, seen};
+    ghost use Rattle.tally_core.specs.Shared.{entries_in};
 
     ghost Value = { map.FinMap place_cmp (Cell P) };
 
     ghost coded = { map.code place_code (cell_code P.code) };
 
-    ghost view = { λ t. seen t.cells.entries };
+    ghost view = { λ t. seen (entries_in (option_map arc_value t.cells)) };
 }
 
 impl<P: Copy> Tallies<P> {
@@ -43,16 +48,15 @@ impl<P: Copy> Tallies<P> {
     pub fn new(alloc: Global) -> Self
         ensures { result ≡ map.empty }
     {
-        Tallies {
-            cells: BTreeMap::new(alloc),
-        }
+        Tallies { alloc, cells: None }
     }
 
-    /// The same tallies again.
+    /// The same tallies again. It takes no memory: the cells are shared until a change.
     pub fn copy(&self) -> Result<Self, NoMemory>
         ensures { IfOk result (λ copy. copy ≡ self.now) }
     {
         Ok(Tallies {
+            alloc: self.alloc,
             cells: self.cells.clone()?,
         })
     }
@@ -60,7 +64,8 @@ impl<P: Copy> Tallies<P> {
     /// Under the name, one more for the identifier if something is added, which then keeps what is
     /// given, and one less for each identifier of `over`. A tally that would pass an end of `i64`
     /// is want of memory too. An `Err` leaves the tallies as they were. Time: logarithmic in the
-    /// number of tallies for each identifier that is named, plus what insertions move.
+    /// number of tallies for each identifier that is named, plus what insertions move, and a walk over
+    /// all of them where a copy shares them.
     pub fn change(
         &mut self,
         name: &Name,
@@ -72,19 +77,16 @@ impl<P: Copy> Tallies<P> {
         ensures err { OnErr result (self.new ≡ self.old) }
     {
         let over = over.as_slice();
-        if over.is_empty() {
-            return match add {
-                Some(kept) => raise(&mut self.cells, name, id, kept),
-                None => Ok(()),
-            };
+        if add.is_none() && over.is_empty() {
+            return Ok(());
         }
-        let room = make_room(&mut self.cells, name, id, add.is_some(), over);
-        if room.is_ok() {
-            turn_all(&mut self.cells, name, id, add, over);
-        } else {
-            clear_room(&mut self.cells, name, id, over);
+        match &mut self.cells {
+            Some(shared) => change_shared(shared, name, id, add, over),
+            None => {
+                self.cells = Some(begin(self.alloc, name, id, add, over)?);
+                Ok(())
+            }
         }
-        room
     }
 }
 
@@ -93,7 +95,8 @@ impl<P: Copy> Tallies<P> {
     pub fn live(&self, alloc: Global, name: &Name) -> Result<Tags, NoMemory>
         ensures { IfOk result (λ tags. tags ≡ live_ids self.now name.now) }
     {
-        match Tags::of(live_from(alloc, &self.cells, name)?) {
+        let empty = BTreeMap::new(alloc);
+        match Tags::of(live_from(alloc, cells_or(&self.cells, &empty), name)?) {
             Ok(tags) => Ok(tags),
             Err(_) => unreachable!(),
         }
@@ -103,7 +106,8 @@ impl<P: Copy> Tallies<P> {
     pub fn kept(&self, alloc: Global, name: &Name) -> Result<Vec<(OpId, P)>, NoMemory>
         ensures { IfOk result (λ list. list.items ≡ kept_at self.now name.now) }
     {
-        kept_from(alloc, &self.cells, name)
+        let empty = BTreeMap::new(alloc);
+        kept_from(alloc, cells_or(&self.cells, &empty), name)
     }
 
     /// The names with a live identifier, ascending.
@@ -112,7 +116,8 @@ impl<P: Copy> Tallies<P> {
         ensures ascending { IfOk result (λ list. IsStrictlySortedBy name_cmp list.items) }
         ensures exact { IfOk result (λ list. (name : List ℕ) → In name list.items ↔ IsLiveName self.now name) }
     {
-        let list = names_in(alloc, &self.cells)?;
+        let empty = BTreeMap::new(alloc);
+        let list = names_in(alloc, cells_or(&self.cells, &empty))?;
         Ok(list)
     }
 }

@@ -14,6 +14,7 @@ use crate::place::{Cell, Place};
 use crate::room::{clear, is_nothing, is_within};
 use ids_core::{Name, NoMemory, OpId};
 use std::collections::BTreeMap;
+use std::collections::btree_map::Entry;
 
 // The changes of one operation.
 pub(crate) fn turn_all<P: Copy>(
@@ -28,12 +29,12 @@ pub(crate) fn turn_all<P: Copy>(
     requires raises { is_some add ≡ true → Fits true cells.old (place name.now id.now) }
     ensures { seen cells.new.entries ≡ changed (seen cells.old.entries) name.now id.now add over.now }
 {
-    let adds = add.is_some();
-    if let Some(kept) = add {
-        turn(cells, name, id, Some(kept));
-    }
+    let empty = match add {
+        Some(kept) => turn(cells, name, id, Some(kept)),
+        None => false,
+    };
     lower_all(cells, name, over);
-    if adds {
+    if empty {
         clear(cells, name, id);
     }
 }
@@ -53,13 +54,13 @@ pub(crate) fn raise<P: Copy>(
         name: *name,
         id: *id,
     };
-    match cells.get(&place) {
-        None => {
-            cells.insert(place, make_cell(1, Some(kept)))?;
+    match cells.entry(place)? {
+        Entry::Vacant(entry) => {
+            entry.insert(make_cell(1, Some(kept)));
             Ok(())
         }
-        Some(cell) => {
-            if !is_within(true, cell.count) {
+        Entry::Occupied(entry) => {
+            if !is_within(true, entry.get().count) {
                 return Err(NoMemory);
             }
             turn(cells, name, id, Some(kept));
@@ -90,8 +91,16 @@ fn lower<P: Copy>(cells: &mut BTreeMap<Place, Cell<P>>, name: &Name, id: &OpId)
         name: *name,
         id: *id,
     };
-    if turn(cells, name, id, None) {
-        cells.remove(&place);
+    match cells.entry(place) {
+        Ok(Entry::Occupied(mut entry)) => {
+            let cell = turned(*entry.get(), None);
+            if is_nothing(&cell) {
+                entry.remove();
+            } else {
+                entry.insert(cell);
+            }
+        }
+        _ => unreachable!(),
     }
 }
 

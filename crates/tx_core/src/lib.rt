@@ -10,7 +10,7 @@ mod tx;
 
 pub use check::{TxFault, is_small_delta};
 pub use laws::{law_state_order, law_state_tags, law_state_value};
-pub use names::{NamePairs, Names};
+pub use names::{NamePairs, Names, SharedList};
 pub use op::Op;
 pub use state::{State, Value};
 pub use tx::{Record, Tx, Update, Updates};

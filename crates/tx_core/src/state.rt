@@ -85,8 +85,8 @@ impl State {
         match self {
             State::Counter(sum) => Ok(Value::Number(sum.value())),
             State::Register(last) => Ok(Value::Word(last.value())),
-            State::Set(set) => Ok(Value::Words(Names::from_vec(set.value(alloc)?))),
-            State::Map(map) => Ok(Value::Pairs(NamePairs::from_vec(map.value(alloc)?))),
+            State::Set(set) => Ok(Value::Words(Names::from_vec(alloc, set.value(alloc)?)?)),
+            State::Map(map) => Ok(Value::Pairs(NamePairs::from_vec(alloc, map.value(alloc)?)?)),
         }
     }
 

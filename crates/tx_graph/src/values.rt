@@ -32,8 +32,8 @@ pub fn value_by_sees(alloc: Global, sort: Sort, acts: &[BareAct]) -> Result<Valu
     match sort {
         Sort::Counter => Ok(Value::Number(sum_of(acts))),
         Sort::Register => Ok(Value::Word(last_write(alloc, acts)?)),
-        Sort::Set => Ok(Value::Words(Names::from_vec(words(alloc, acts)?))),
-        Sort::Map => Ok(Value::Pairs(NamePairs::from_vec(pairs(alloc, acts)?))),
+        Sort::Set => Ok(Value::Words(Names::from_vec(alloc, words(alloc, acts)?)?)),
+        Sort::Map => Ok(Value::Pairs(NamePairs::from_vec(alloc, pairs(alloc, acts)?)?)),
     }
 }
 

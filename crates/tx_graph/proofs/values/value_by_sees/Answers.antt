@@ -8,8 +8,8 @@ returns-in-Counter c = values_like c.args.acts.now c.args.sort _ (λ unique. rw 
 pub returns-in_ok-last_write-in-Register : goal.returns-in_ok-last_write-in-Register
 returns-in_ok-last_write-in-Register c = values_like c.args.acts.now c.args.sort _ (λ unique. rw c.in-Register.is c.in_ok-last_write-in-Register.ensures)
 
-pub returns-in_ok-words-in-Set : goal.returns-in_ok-words-in-Set
-returns-in_ok-words-in-Set c = values_like c.args.acts.now c.args.sort _ (λ unique. rw (c.in-Set.is, c.from_vec.ensures) c.in_ok-words-in-Set.ensures)
+pub returns-in_ok-from_vec-in-Set : goal.returns-in_ok-from_vec-in-Set
+returns-in_ok-from_vec-in-Set c = values_like c.args.acts.now c.args.sort _ (λ unique. rw (c.in-Set.is, c.in_ok-from_vec-in-Set.ensures) c.in_ok-words-in-Set.ensures)
 
-pub returns-in_ok-pairs-in-Map : goal.returns-in_ok-pairs-in-Map
-returns-in_ok-pairs-in-Map c = values_like c.args.acts.now c.args.sort _ (λ unique. rw (c.in-Map.is, c.from_vec-in-Map.ensures) (c.in_ok-pairs-in-Map.ensures (unique c.in-Map.is)))
+pub returns-in_ok-from_vec-in-Map : goal.returns-in_ok-from_vec-in-Map
+returns-in_ok-from_vec-in-Map c = values_like c.args.acts.now c.args.sort _ (λ unique. rw (c.in-Map.is, c.in_ok-from_vec-in-Map.ensures) (c.in_ok-pairs-in-Map.ensures (unique c.in-Map.is)))

@@ -2,6 +2,7 @@ use Rattle.std.proofs.Common.{ap, ◌∙◌}
 use Rattle.std.proofs.lemmas.Bool.{false≢true}
 use Rattle.ids_core.specs.Ascending.{ascends}
 use Rattle.tally_core.proofs.Listed.{live_ascends}
+use Rattle.tally_core.specs.Cells.{seen}
 use Rattle.tally_core.proofs.Shown.{live_seen}
 use Rattle.tally_core.proofs.tallies.Tallies.live.Goals as goal
 
@@ -9,4 +10,4 @@ pub unreachable-requires : goal.unreachable-requires
 unreachable-requires g c = false≢true (c.in-Err.ensures.exact.1 (ap ascends c.in_ok-live_from.ensures.list ∙ live_ascends _ _ c.in_ok-live_from.ensures.ordered))
 
 pub returns : goal.returns
-returns g c = rw (← c.self.view_is) (c.in-Ok.ensures.taken ∙ (c.in_ok-live_from.ensures.list ∙ live_seen _ _ c.in_ok-live_from.ensures.ordered))
+returns g c = rw (← ap seen c.cells_or.ensures ∙ c.self.view_is) (c.in-Ok.ensures.taken ∙ (c.in_ok-live_from.ensures.list ∙ live_seen _ _ c.in_ok-live_from.ensures.ordered))
