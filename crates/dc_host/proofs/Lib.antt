@@ -1,2 +1,3 @@
 pub mod NewCentres
 pub mod Trails
+pub mod Passes
