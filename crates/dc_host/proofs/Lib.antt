@@ -1,3 +1,4 @@
 pub mod NewCentres
 pub mod Trails
 pub mod Passes
+pub mod Rows

@@ -3,6 +3,7 @@
 #![tactic(auto)]
 
 mod centres;
+mod columns;
 mod host_door;
 mod hosts;
 mod kept_door;
