@@ -109,6 +109,11 @@ are_dealt hosts caller row is = subst (ArePasses hosts caller) (sym is) (record 
     each_numbered [] = All-nil (λ (h : CentreHost). caller ≡ caller)
     each_numbered (h ∷ hosts) = All-cons (λ (h : CentreHost). caller ≡ caller) h hosts refl (each_numbered hosts)
 
+-- nothing was done with the passes of a new row
+pub bare_new : (hosts : List CentreHost) (caller : ℕ) → map bare (new_row hosts caller) ≡ new_row hosts caller
+bare_new [] caller = refl
+bare_new (h ∷ hosts) caller = ap (λ (row : List CentrePass). fresh h caller ∷ row) (bare_new hosts caller)
+
 -- ---- passes are sorted by host
 
 -- a pass that was one of this host before any call
