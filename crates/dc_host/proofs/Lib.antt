@@ -1,2 +1,4 @@
 pub mod NewCentres
 pub mod Trails
+pub mod Passes
+pub mod Rows

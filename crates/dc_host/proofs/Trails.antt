@@ -53,7 +53,7 @@ trail_none kept place centre is none = subst (λ i. [] ≡ trail_at (all_seen ke
 -- ---- one centre answers
 
 -- an element that was put at a place is not at another one
-set_else : {X : Type 0} (xs : List X) (place other : ℕ) (x : X) → other ≢ place → slice_get (set xs place x) other ≡ slice_get xs other
+pub set_else : {X : Type 0} (xs : List X) (place other : ℕ) (x : X) → other ≢ place → slice_get (set xs place x) other ≡ slice_get xs other
 set_else [] place other x differs = refl
 set_else (y ∷ xs) zero zero x differs = absurd (differs refl)
 set_else (y ∷ xs) zero (suc other) x differs = refl
@@ -61,7 +61,7 @@ set_else (y ∷ xs) (suc place) zero x differs = refl
 set_else (y ∷ xs) (suc place) (suc other) x differs = set_else xs place other x (λ same. differs (ap suc same))
 
 -- it is at its own
-set_here : {X : Type 0} (xs : List X) (place : ℕ) (x : X) → place < length xs → slice_get (set xs place x) place ≡ Some x
+pub set_here : {X : Type 0} (xs : List X) (place : ℕ) (x : X) → place < length xs → slice_get (set xs place x) place ≡ Some x
 set_here [] place x within = absurd (omega arith)
 set_here (y ∷ xs) zero x within = refl
 set_here (y ∷ xs) (suc place) x within = set_here xs place x (omega arith)

@@ -1,2 +1,4 @@
 pub mod Centres
 pub mod KeptDoors
+pub mod HostDoors
+pub mod Hosts

@@ -1,0 +1,152 @@
+// A door to the centres for one of several threads.
+ghost use Rattle.std.specs.Prelude.{◌≡◌, ◌<◌, ◌++◌, ℕ, List, length, true, IfOk, OnErr};
+ghost use Rattle.host_lock.specs.Hosts.{IsOf, HasCalled};
+ghost use Rattle.hist_lock.specs.History.{entry};
+ghost use Rattle.dc_talk.specs.Answers.{answer};
+ghost use Rattle.dc_talk.specs.Doors.{IsBehind, HasAsked, HasNotAsked, belongs};
+ghost use Rattle.dc_host.specs.HostDoors.{shown_over, place_over, ArePasses, HasCalledAt, HasNotCalledAt};
+
+use crate::hosts::Hosts;
+use dc_centre::Centre;
+use dc_talk::{Ask, Door, Say};
+use host_lock::{Host, Pass};
+use ids_core::NoMemory;
+use io_edge::Gate;
+use std::collections::LinkedList;
+use std::marker::Model;
+use std::sync::Wait;
+
+/// What no ask through a `HostDoor` changes: the actor, and its passes as they were before any call.
+pub struct HostPlace {
+    pub actor: u32,
+    pub passes: LinkedList<Pass<Centre>>,
+}
+
+/// A door over hosts, for the thread of one actor: it has a pass of each centre's host, in order, and borrows the
+/// hosts. It is not alone. It made what was called with its passes, and knows what they have seen. Each ask passes
+/// through the gate before and after its call, with the number of the ask at this door, from 1.
+#[derive(Drop)]
+pub struct HostDoor<'a, R, G: Gate + Drop> {
+    rt: &'a R,
+    hosts: &'a [Host<Centre>],
+    passes: Vec<Pass<Centre>>,
+    actor: u32,
+    asks: u64,
+    gate: G,
+}
+
+impl<'a, R, G: Gate + Drop> Model for HostDoor<'a, R, G> {
+    ghost use Rattle.dc_host.specs.HostDoors.{HostDoorView, ArePasses};
+    ghost use Rattle.tx_core.specs.States.{state_codes};
+
+    ghost Value = { HostDoorView };
+
+    ghost coded = { Prim.hlevel state_codes };
+
+    ghost view = { λ d. record { actor = d.actor; passes = d.passes.items } };
+
+    ghost invariant = { λ d. ArePasses d.hosts.now d.actor d.passes.items };
+}
+
+impl<'a, R, G: Gate + Drop> HostDoor<'a, R, G> {
+    /// The door of an actor to the centres of these hosts, with its passes: one for each host, in order. It takes no
+    /// memory.
+    pub fn new(
+        rt: &'a R,
+        hosts: &'a Hosts,
+        passes: Vec<Pass<Centre>>,
+        actor: u32,
+        gate: G,
+    ) -> HostDoor<'a, R, G>
+        requires { ArePasses hosts.now.hosts actor passes.items }
+        ensures actor { result.actor ≡ actor }
+        ensures passes { result.passes ≡ passes.items }
+    {
+        HostDoor {
+            rt,
+            hosts: hosts.as_slice(),
+            passes,
+            actor,
+            asks: 0,
+            gate,
+        }
+    }
+
+    /// Gives the passes back. It takes no memory.
+    pub fn part(self) -> Vec<Pass<Centre>>
+        ensures { result.items ≡ self.entry.passes }
+    {
+        let HostDoor {
+            rt: _,
+            hosts: _,
+            passes,
+            actor: _,
+            asks: _,
+            gate,
+        } = self;
+        drop(gate);
+        passes
+    }
+}
+
+// One call with one pass.
+fn call_one<R: Wait>(
+    rt: &R,
+    host: &Host<Centre>,
+    pass: &mut Pass<Centre>,
+    ask: &Ask,
+) -> Result<Say, NoMemory>
+    requires { IsOf host.now pass.old }
+    ensures called { IfOk result (λ say. HasCalled answer pass.old ask.now say pass.new) }
+    ensures none { OnErr result ((found : List ℕ) × (pass.new ≡ record pass.old { found = pass.old.found ++ found })) }
+{
+    host.call(rt, pass, ask)
+}
+
+// One call with the pass at a place.
+fn call_at<R: Wait>(
+    rt: &R,
+    hosts: &[Host<Centre>],
+    passes: &mut Vec<Pass<Centre>>,
+    place: usize,
+    ask: &Ask,
+) -> Result<Say, NoMemory>
+    requires passes { (actor : ℕ) × ArePasses hosts.now actor passes.old.items }
+    requires place { place < length passes.old.items }
+    requires inside { place < length hosts.now }
+    ensures called { IfOk result (λ say. HasCalledAt passes.old.items passes.new.items place ask.now say) }
+    ensures none { OnErr result (HasNotCalledAt passes.old.items passes.new.items place) }
+{
+    call_one(rt, &hosts[place], &mut passes[place], ask)
+}
+
+impl<'a, R: Wait, G: Gate + Drop> Door for HostDoor<'a, R, G> {
+    type Place = HostPlace;
+
+    ghost place = { place_over };
+
+    ghost shown = { shown_over };
+
+    /// Has a centre answer an ask of the actor, once its host's turn is free. The answer is the one that is defined
+    /// over what the pass has then seen. After an `Err` nothing was asked. A host's history stays shorter than 2^62
+    /// entries: an ask with which it would grow to that is answered with want of memory. It may wait for ever.
+    fn ask(&mut self, centre: u8, ask: &Ask) -> Result<Say, NoMemory>
+        requires { IsBehind (shown_over self.old) centre }
+        ensures place { place_over self.new ≡ place_over self.old }
+        ensures row { IfOk result (λ say. belongs ask.now say ≡ true) }
+        ensures asked { IfOk result (λ say. HasAsked (shown_over self.old) (shown_over self.new) centre (entry self.old.actor ask.now say)) }
+        ensures none { OnErr result (HasNotAsked (shown_over self.old) (shown_over self.new)) }
+    {
+        self.asks = self.asks.wrapping_add(1);
+        self.gate.before(self.actor, self.asks);
+        let said = call_at(
+            self.rt,
+            self.hosts,
+            &mut self.passes,
+            usize::from(centre) - 1,
+            ask,
+        );
+        self.gate.after(self.actor, self.asks);
+        said
+    }
+}

@@ -1,0 +1,4 @@
+pub mod Seats
+pub mod Histories
+pub mod Steps
+pub mod Hosts

@@ -1,0 +1,53 @@
+// A gate that waits in each of its answers, until a test lets it go on.
+use hist_lock::Machine;
+use ids_core::NoMemory;
+use samples::Gate;
+use std::alloc::Global;
+use std::sync::atomic::{AtomicU64, Ordering};
+use std::sync::{Arc, Wait};
+use std::thread;
+
+/// A gate that says when it has begun to answer, and then waits until it may go on.
+#[derive(Drop)]
+pub struct Held<R: Wait + Send + Drop> {
+    pub rt: R,
+    pub begun: Arc<AtomicU64, Global>,
+    pub may: Arc<AtomicU64, Global>,
+    pub gate: Gate,
+}
+
+impl<R: Wait + Send + Drop> Machine for Held<R> {
+    type Ask = u32;
+
+    type Say = bool;
+
+    type Settings = u64;
+
+    ghost use Rattle.lock_tests.specs.Gates.{gate_reply, gate_stands};
+
+    ghost settings = { λ held. held.gate.most };
+
+    ghost reply = { gate_reply };
+
+    ghost stands = { λ held log. gate_stands held.gate log };
+
+    fn step(&mut self, guest: &u32) -> Result<(bool, bool), NoMemory> {
+        self.begun.store(1, Ordering::SeqCst);
+        wait_for(&self.rt, &self.may);
+        self.gate.step(guest)
+    }
+
+    fn copy_ask(guest: &u32) -> Result<u32, NoMemory> {
+        Gate::copy_ask(guest)
+    }
+}
+
+/// Waits until the flag is not 0.
+pub fn wait_for<R: Wait>(rt: &R, flag: &Arc<AtomicU64, Global>) {
+    for _ in rt.forever() {
+        if flag.load(Ordering::SeqCst) != 0 {
+            break;
+        }
+        thread::yield_now();
+    }
+}

@@ -1,0 +1,166 @@
+// Hosts with two passes, each in a thread of its own.
+ghost use Rattle.std.specs.Prelude.{◌≡◌};
+ghost use Rattle.hist_lock.specs.History.{IsKept};
+ghost use Rattle.host_lock.specs.Hosts.{IsOf};
+ghost use Rattle.lock_tests.specs.Gates.{gate_reply, gate_stands};
+
+use crate::held::{Held, wait_for};
+use hist_lock::{Kept, Machine};
+use host_lock::{Host, Pass, Tried};
+use ids_core::NoMemory;
+use samples::Gate;
+use std::alloc::Global;
+use std::sync::atomic::{AtomicU64, Ordering};
+use std::sync::{Arc, Wait};
+use std::test::Fail;
+use std::thread::{Threads, join};
+
+// One call with a pass, and the pass again.
+fn calls<R: Wait, M: Machine>(
+    rt: &R,
+    host: &Host<M>,
+    mut pass: Pass<M>,
+    ask: &M::Ask,
+) -> (Option<M::Say>, Pass<M>)
+    requires { IsOf host.now pass }
+    ensures { IsOf host.now result.1 × (result.1.number ≡ pass.number) }
+{
+    let said = host.call(rt, &mut pass, ask).ok();
+    (said, pass)
+}
+
+// The pass that had the turn at one try with this one, 0 where the call was made, and the pass again.
+fn tries<M: Machine>(host: &Host<M>, mut pass: Pass<M>, ask: &M::Ask) -> (Option<u32>, Pass<M>)
+    requires { IsOf host.now pass }
+    ensures { IsOf host.now result.1 × (result.1.number ≡ pass.number) }
+{
+    let holder = match host.try_call(&mut pass, ask) {
+        Ok(Tried::Busy { holder }) => Some(holder),
+        Ok(Tried::Done(_)) => Some(0),
+        Err(NoMemory) => None,
+    };
+    (holder, pass)
+}
+
+// What the passes of a gate for one guest are told in two threads, and how many entries come out.
+fn both_call<R: Threads + Wait + Sync>(rt: &R, alloc: Global) -> Option<(bool, bool, usize)> {
+    let (host, mut passes) = Host::new(alloc, Kept::new(alloc, Gate::new(1)), 2).ok()?;
+    let second = passes.pop()?;
+    let first = passes.pop()?;
+    let shared = &host;
+    let (one, other) = join(
+        rt,
+        move || -> (Option<bool>, Pass<Gate>)
+            requires { IsOf shared.now first }
+            ensures { IsOf shared.entry.now result.1 × (result.1.number ≡ first.number) }
+        { calls(rt, shared, first, &70) },
+        move || -> (Option<bool>, Pass<Gate>)
+            requires { IsOf shared.now second }
+            ensures { IsOf shared.entry.now result.1 × (result.1.number ≡ second.number) }
+        { calls(rt, shared, second, &71) },
+    );
+    let mut all = Vec::new(alloc);
+    all.push(one.1).ok()?;
+    all.push(other.1).ok()?;
+    let kept = host.close(all);
+    Some((one.0?, other.0?, kept.trail.len()))
+}
+
+#[test]
+fn one_of_two_threads_is_let_in(rt: HostRuntime) -> Result<(), Fail> {
+    let (one, other, length) = both_call(&rt, rt.alloc()).ok_or("memory")?;
+    assert!(rt; one != other);
+    assert_eq!(rt; length, 2);
+    Ok(())
+}
+
+// While pass 1 is in its call, pass 2 tries, and then lets the call go on.
+fn meanwhile<R: Wait + Send + Drop>(
+    rt: &R,
+    host: &Host<Held<R>>,
+    pass: Pass<Held<R>>,
+    begun: &Arc<AtomicU64, Global>,
+    may: &Arc<AtomicU64, Global>,
+) -> (Option<u32>, Pass<Held<R>>)
+    requires { IsOf host.now pass }
+    ensures { IsOf host.now result.1 × (result.1.number ≡ pass.number) }
+{
+    wait_for(rt, begun);
+    let tried = tries(host, pass, &71);
+    may.store(1, Ordering::SeqCst);
+    tried
+}
+
+// How many entries there are with one call more, at a host over what came out of another.
+fn once_more<R: Wait + Send + Drop>(
+    rt: &R,
+    alloc: Global,
+    kept: Kept<Held<R>>,
+    ask: &u32,
+) -> Option<usize>
+    requires { IsKept gate_reply (λ held log. gate_stands held.gate log) (λ held. held.gate.most) kept.machine kept.trail.entries }
+{
+    let (host, mut passes) = Host::new(alloc, kept, 1).ok()?;
+    let pass = passes.pop()?;
+    let (_said, pass) = calls(rt, &host, pass, ask);
+    passes.push(pass).ok()?;
+    let kept = host.close(passes);
+    Some(kept.trail.len())
+}
+
+// Who had the turn at the tries of pass 2, while pass 1 was in its call and afterwards, and how many entries
+// came out, then and after one call more.
+fn two_passes<R: Threads + Wait + Send + Sync + Drop>(
+    rt: &R,
+    alloc: Global,
+    machine: Held<R>,
+    begun: &Arc<AtomicU64, Global>,
+    may: &Arc<AtomicU64, Global>,
+) -> Option<(u32, u32, usize, usize)>
+    requires { machine.gate.inside ≡ 0 }
+{
+    let (host, mut passes) = Host::new(alloc, Kept::new(alloc, machine), 2).ok()?;
+    let second = passes.pop()?;
+    let first = passes.pop()?;
+    let shared = &host;
+    let (one, other) = join(
+        rt,
+        move || -> (Option<bool>, Pass<Held<R>>)
+            requires { IsOf shared.now first }
+            ensures { IsOf shared.entry.now result.1 × (result.1.number ≡ first.number) }
+        { calls(rt, shared, first, &70) },
+        move || -> (Option<u32>, Pass<Held<R>>)
+            requires { IsOf shared.now second }
+            ensures { IsOf shared.entry.now result.1 × (result.1.number ≡ second.number) }
+        { meanwhile(rt, shared, second, begun, may) },
+    );
+    let (found, second) = other;
+    let (then, second) = tries(&host, second, &72);
+    let mut all = Vec::new(alloc);
+    all.push(one.1).ok()?;
+    all.push(second).ok()?;
+    let kept = host.close(all);
+    let before = kept.trail.len();
+    let after = once_more(rt, alloc, kept, &73)?;
+    Some((found?, then?, before, after))
+}
+
+#[test]
+fn a_try_finds_the_call_of_the_other_pass(rt: HostRuntime) -> Result<(), Fail> {
+    let begun = Arc::new(rt.alloc(), AtomicU64::new(0))?;
+    let may = Arc::new(rt.alloc(), AtomicU64::new(0))?;
+    let machine = Held {
+        rt,
+        begun: Arc::try_clone(&begun)?,
+        may: Arc::try_clone(&may)?,
+        gate: Gate::new(2),
+    };
+    let (found, then, before, after) = two_passes(&rt, rt.alloc(), machine, &begun, &may).ok_or(
+        "memory",
+    )?;
+    assert_eq!(rt; found, 1);
+    assert_eq!(rt; then, 0);
+    assert_eq!(rt; before, 2);
+    assert_eq!(rt; after, 3);
+    Ok(())
+}
