@@ -1,1 +1,4 @@
 pub mod Blocks
+pub mod Spelled
+pub mod Rows
+pub mod MadeLines

@@ -1,0 +1,8 @@
+use Rattle.load_maker.proofs.MadeLines.{made_back, made_read}
+use Rattle.load_maker.proofs.laws.law_made_script.Goals as goal
+
+pub returns-clause-lines : goal.returns-clause-lines
+returns-clause-lines c = made_back
+
+pub returns-clause-read : goal.returns-clause-read
+returns-clause-read c = made_read
