@@ -21,7 +21,7 @@ state_behind-append [] ys state = refl
 state_behind-append (x ∷ xs) ys state = state_behind-append xs ys (x state).1
 
 -- the lines of blocks and others
-lines_made-append : (xs ys : List Block) (state : ℕ) → lines_made (xs ++ ys) state ≡ lines_made xs state ++ lines_made ys (state_behind xs state)
+pub lines_made-append : (xs ys : List Block) (state : ℕ) → lines_made (xs ++ ys) state ≡ lines_made xs state ++ lines_made ys (state_behind xs state)
 lines_made-append [] ys state = refl
 lines_made-append (x ∷ xs) ys state = ap (λ lines. (x state).0 ++ lines) (lines_made-append xs ys (x state).1) ∙ sym (append_assoc (x state).0 (lines_made xs (x state).1) (lines_made ys (state_behind xs (x state).1)))
 

@@ -11,7 +11,7 @@ use Rattle.load_maker.specs.declared.line.Line.{Line}
 use Rattle.load_maker.specs.declared.line.Line.TheVariants.{Centres, Clients, Threads, Rounds, Phase, End, Settle, Down, Prune, Up, Connect, Begin, IncTotal, IncSide, SetNote, AddCart, PutCart, ReadTotal, Commit, Push, Flush, Refresh}
 use Rattle.load_maker.specs.Draws.{drawn, next_state}
 use Rattle.load_maker.specs.Lines.{client_text, line_text, lines_text}
-use Rattle.load_maker.specs.Made.{Block, lines_made, fixed, outage, connect, change, change_of, transaction, transactions, client_load, loads, phase, phases, flush, flushes, last_read, last_reads, settings, blocks, made_lines, made_script}
+use Rattle.load_maker.specs.Made.{Block, lines_made, fixed, outage, connect, change, change_of, transaction, transactions, client_load, loads, phase, phases, flush, flushes, last_read, last_reads, settings, body, blocks, made_lines, made_script}
 use Rattle.load_maker.specs.Rows.{IsRead}
 use Rattle.load_maker.proofs.Spelled.{all_append, digits_pass, decimal_digits}
 use Rattle.load_maker.proofs.Rows as rows
@@ -24,9 +24,12 @@ IsOne client = (1 ≤ client) × (client ≤ 100)
 abbrev IsThere : ℕ → Type 0
 IsThere centre = (1 ≤ centre) × (centre ≤ 3)
 
--- the numbers of a line are in range
-abbrev IsInRange : Line → Type 0
-IsInRange (Clients clients) = IsOne clients
+-- a line is none of the settings, and its numbers are in range
+abbrev pub IsInRange : Line → Type 0
+IsInRange Centres = ⊥
+IsInRange (Clients clients) = ⊥
+IsInRange Threads = ⊥
+IsInRange Rounds = ⊥
 IsInRange (Down centre) = IsThere centre
 IsInRange (Prune centre) = IsThere centre
 IsInRange (Up centre) = IsThere centre
@@ -45,11 +48,11 @@ IsInRange (Refresh client) = IsOne client
 IsInRange _ = Unit {0}
 
 -- such a line is read
-line_read : (line : Line) → IsInRange line → IsRead line
-line_read Centres h number early = rows.centres_line number early
-line_read (Clients clients) h number early = rows.clients_read clients number h.0 (omega (arith, h.1)) early
-line_read Threads h number early = rows.threads_line number early
-line_read Rounds h number early = rows.rounds_line number early
+pub line_read : (line : Line) → IsInRange line → IsRead line
+line_read Centres h number early = absurd h
+line_read (Clients clients) h number early = absurd h
+line_read Threads h number early = absurd h
+line_read Rounds h number early = absurd h
 line_read Phase h number early = rows.phase_line number early
 line_read End h number early = rows.end_line number early
 line_read Settle h number early = rows.settle_line number early
@@ -79,10 +82,10 @@ plain_client client rest one plain = all_append is_plain (client_text client) re
 
 -- a line is plain text
 line_plain : (line : Line) → IsInRange line → list_all is_plain (line_text line) ≡ true
-line_plain Centres h = refl
-line_plain (Clients clients) h = plain_number clients (omega (arith, h.1))
-line_plain Threads h = refl
-line_plain Rounds h = refl
+line_plain Centres h = absurd h
+line_plain (Clients clients) h = absurd h
+line_plain Threads h = absurd h
+line_plain Rounds h = absurd h
 line_plain Phase h = refl
 line_plain End h = refl
 line_plain Settle h = refl
@@ -113,7 +116,7 @@ all_both P [] ys front rest = rest
 all_both P (x ∷ xs) ys front rest = (front.0, all_both P xs ys front.1 rest)
 
 -- lines are in range
-abbrev AreInRange : List Line → Type 0
+abbrev pub AreInRange : List Line → Type 0
 AreInRange lines = AllByRecursion IsInRange lines
 
 -- the lines of a block are, whatever is drawn
@@ -168,24 +171,30 @@ flush_good client one = (connect_good client one, (λ state. (one, tt), tt))
 last_good : (client : ℕ) → IsOne client → AreGood (last_read client)
 last_good client one = (λ state. (one, (one, tt)), tt)
 
-blocks_good : (turns clients many : ℕ) → 1 ≤ clients → clients ≤ 100 → AreGood (blocks turns clients many)
-unfolding blocks
-blocks_good turns clients many some few =
+body_good : (turns clients many : ℕ) → clients ≤ 100 → AreGood (body turns clients many)
+unfolding body
+body_good turns clients many few =
     let settle : IsGood (fixed (Settle ∷ [])) = λ state. (tt, tt) in
     let phased = good_joined (λ turn. phase turns clients) 1 many (λ k low high. phase_good turns clients few) in
     let flushed = good_joined flush 1 clients (λ k low high. flush_good k (low, omega arith)) in
-    let last = good_joined last_read 1 clients (λ k low high. last_good k (low, omega arith)) in (
-      λ state. (tt, ((some, few), (tt, (tt, tt)))),
-      all_both IsGood (phases turns clients many ++ fixed (Settle ∷ []) ∷ flushes clients) (fixed (Settle ∷ []) ∷ last_reads clients)
-      (all_both IsGood (phases turns clients many) (fixed (Settle ∷ []) ∷ flushes clients) phased (settle, flushed))
-      (settle, last),
-    )
+    let last = good_joined last_read 1 clients (λ k low high. last_good k (low, omega arith)) in
+    all_both IsGood (phases turns clients many ++ fixed (Settle ∷ []) ∷ flushes clients) (fixed (Settle ∷ []) ∷ last_reads clients)
+    (all_both IsGood (phases turns clients many) (fixed (Settle ∷ []) ∷ flushes clients) phased (settle, flushed))
+    (settle, last)
 
 -- ---- the lines of a made script
 
-made_good : (num : ℕ) → AreInRange (made_lines num)
-unfolding made_lines
-made_good num = good_lines (blocks 10 100 5) num (blocks_good 10 100 5 (lit≤ tt) (lit≤ tt))
+-- what is done in it
+abbrev pub done : ℕ → List Line
+done num = lines_made (body 10 100 5) num
+
+-- behind the settings
+pub made_is : (num : ℕ) → made_lines num ≡ settings 100 ++ done num
+unfolding made_lines blocks
+made_is num = refl
+
+pub done_good : (num : ℕ) → AreInRange (done num)
+done_good num = good_lines (body 10 100 5) num (body_good 10 100 5 (lit≤ tt))
 
 -- what holds of each line in range holds of each of lines in range
 all_good : (P : Line → Type 0) (lines : List Line) → ((line : Line) → IsInRange line → P line) → AreInRange lines → All P lines
@@ -194,22 +203,40 @@ all_good P (line ∷ lines) each all = All-cons P line lines (each line all.0) (
 
 -- each line is read
 pub made_read : (num : ℕ) → All IsRead (made_lines num)
-made_read num = all_good IsRead (made_lines num) line_read (made_good num)
+made_read num = subst (All IsRead) (sym (made_is num)) all
+  where
+    rest : All IsRead (done num)
+    rest = all_good IsRead (done num) line_read (done_good num)
+
+    all : All IsRead (settings 100 ++ done num)
+    all =
+        All-cons IsRead Centres (Clients 100 ∷ Threads ∷ Rounds ∷ done num) rows.centres_line
+        (All-cons IsRead (Clients 100) (Threads ∷ Rounds ∷ done num) (λ number early. rows.clients_read 100 number (lit≤ tt) (lit≤ tt) early)
+        (All-cons IsRead Threads (Rounds ∷ done num) rows.threads_line (All-cons IsRead Rounds (done num) rows.rounds_line rest)))
 
 -- no byte of plain text is a line feed
 no_feed : (text : List ℕ) → list_all is_plain text ≡ true → All (λ b. b ≢ 10) text
 no_feed [] plain = All-nil (λ b. b ≢ 10)
 no_feed (b ∷ bs) plain = All-cons (λ b. b ≢ 10) b bs (λ is. false≢true (subst (λ b. is_plain b ≡ true) is (and_parts _ _ plain).0)) (no_feed bs (and_parts _ _ plain).1)
 
--- the lines of lines in range
-lines_back : (lines : List Line) → AreInRange lines → lines_of (lines_text lines) ≡ map line_text lines
+-- the lines of lines that are plain text
+pub lines_back : (lines : List Line) → AllByRecursion (λ line. list_all is_plain (line_text line) ≡ true) lines → lines_of (lines_text lines) ≡ map line_text lines
 lines_back [] all = refl
 lines_back (line ∷ lines) all =
     ap lines_of (append_assoc (line_text line) (codes "\n") (lines_text lines))
-    ∙ first_line (line_text line) (lines_text lines) (no_feed (line_text line) (line_plain line all.0))
+    ∙ first_line (line_text line) (lines_text lines) (no_feed (line_text line) all.0)
     ∙ ap (λ rest. line_text line ∷ rest) (lines_back lines all.1)
+
+-- lines in range are plain text
+pub plain_lines : (lines : List Line) → AreInRange lines → AllByRecursion (λ line. list_all is_plain (line_text line) ≡ true) lines
+plain_lines [] all = tt
+plain_lines (line ∷ lines) all = (line_plain line all.0, plain_lines lines all.1)
+
+-- the lines of a text that begins with the settings
+pub settings_back : (lines : List Line) → AreInRange lines → lines_of (lines_text (settings 100 ++ lines)) ≡ map line_text (settings 100 ++ lines)
+settings_back lines all = lines_back (settings 100 ++ lines) (refl, (plain_number 100 (lit< tt), (refl, (refl, plain_lines lines all))))
 
 -- the lines of a made script
 pub made_back : (num : ℕ) → lines_of (made_script num) ≡ map line_text (made_lines num)
 unfolding made_script
-made_back num = lines_back (made_lines num) (made_good num)
+made_back num = ap (λ lines. lines_of (lines_text lines)) (made_is num) ∙ settings_back (done num) (done_good num) ∙ ap (map line_text) (sym (made_is num))

@@ -88,10 +88,14 @@ last_reads clients = flat_map last_read (range_with_len 1 clients)
 abbrev pub settings : ℕ → List Line
 settings clients = Centres ∷ Clients clients ∷ Threads ∷ Rounds ∷ []
 
--- a script of so many clients and phases, with so many transactions of a client in a phase: the centres settle behind
--- the phases, and once more when the clients have sent all that they have
+-- what is done in a script of so many clients and phases, with so many transactions of a client in a phase: the centres
+-- settle behind the phases, and once more when the clients have sent all that they have
+unfoldable pub body : ℕ → ℕ → ℕ → List Block
+body turns clients many = phases turns clients many ++ fixed (Settle ∷ []) ∷ flushes clients ++ fixed (Settle ∷ []) ∷ last_reads clients
+
+-- such a script
 unfoldable pub blocks : ℕ → ℕ → ℕ → List Block
-blocks turns clients many = fixed (settings clients) ∷ phases turns clients many ++ fixed (Settle ∷ []) ∷ flushes clients ++ fixed (Settle ∷ []) ∷ last_reads clients
+blocks turns clients many = fixed (settings clients) ∷ body turns clients many
 
 -- the lines of the script that a number stands for: of 100 clients in 5 phases, with 10 transactions of each in a phase
 unfoldable pub made_lines : ℕ → List Line

@@ -4,6 +4,7 @@ ghost use Rattle.load_maker.specs.Draws.{drawn, next_state};
 
 // The multiplier and the increment of the generator.
 const FACTOR: u64 = 1_103_515_245;
+
 const TERM: u64 = 12_345;
 
 // A state is below 2^31.

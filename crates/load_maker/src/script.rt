@@ -9,7 +9,9 @@ use std::alloc::Global;
 
 // How many clients, phases, and transactions of a client in a phase a made script has.
 const CLIENTS: u32 = 100;
+
 const PHASES: u32 = 5;
+
 const TRANSACTIONS: u32 = 10;
 
 /// The script that a number stands for, from 1 to 999,999,999: a hundred clients make fifty transactions each, in
