@@ -1,9 +1,8 @@
 -- Blocks of lines, written one behind the other.
-use Rattle.std.proofs.Common.{◌≡◌, ℕ, zero, suc, ◌+◌, List, [], ◌∷◌, ◌++◌, refl, sym, ap, ◌∙◌, subst, append_assoc, append-nil, arith, take, length, get_or, add-one}
+use Rattle.std.proofs.Common.{◌≡◌, ℕ, zero, suc, ◌+◌, List, [], ◌∷◌, ◌++◌, refl, sym, ap, ◌∙◌, subst, append_assoc, append-nil, arith, add-one}
 use Rattle.std.specs.Prelude.{flat_map, codes}
 use Rattle.std.specs.List.{range_with_len}
 use Rattle.std.proofs.lemmas.Grind.{flat_map-append}
-use Rattle.list_core.proofs.Ranges.{joined_more}
 use Rattle.load_maker.specs.declared.line.Line.{Line}
 use Rattle.load_maker.specs.declared.maker.Maker.{Maker}
 use Rattle.load_maker.specs.declared.draws.Draws.{Draws}

@@ -1,9 +1,8 @@
 -- How many lines a made script has.
-use Rattle.std.proofs.Common.{◌≡◌, ℕ, zero, suc, ◌+◌, ◌*◌, List, [], ◌∷◌, ◌++◌, length, refl, sym, ap, ◌∙◌, arith}
+use Rattle.std.proofs.Common.{◌≡◌, ℕ, zero, suc, ◌+◌, ◌*◌, List, [], ◌∷◌, ◌++◌, length, refl, ap, ◌∙◌, arith}
 use Rattle.std.specs.Prelude.{flat_map}
 use Rattle.std.specs.List.{range_with_len}
 use Rattle.std.proofs.lemmas.List.{length-append}
-use Rattle.load_maker.specs.declared.line.Line.{Line}
 use Rattle.load_maker.specs.declared.line.Line.TheVariants.{Phase, End, Settle, Begin, IncTotal, ReadTotal, Commit, Push, Refresh}
 use Rattle.load_maker.specs.Draws.{drawn, next_state}
 use Rattle.load_maker.specs.Made.{Block, lines_made, state_behind, fixed, outage, connect, change, change_of, transaction, transactions, client_load, loads, phase, phases, flush, flushes, last_read, last_reads, body}

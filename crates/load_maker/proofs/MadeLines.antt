@@ -1,5 +1,5 @@
 -- All lines of a made script are lines of the grammar of scripts, and they are its lines.
-use Rattle.std.proofs.Common.{◌≡◌, ◌≢◌, ◌≤◌, ◌<◌, ◌+◌, ◌%◌, ◌^◌, ℕ, zero, suc, true, false, List, [], ◌∷◌, ◌++◌, length, map, refl, sym, ap, ◌∙◌, subst, arith, append_assoc, lit<, lit≤}
+use Rattle.std.proofs.Common.{◌≡◌, ◌≢◌, ◌≤◌, ◌<◌, ◌+◌, ◌^◌, ℕ, zero, suc, true, List, [], ◌∷◌, ◌++◌, map, refl, sym, ap, ◌∙◌, subst, arith, append_assoc, lit<, lit≤}
 use Rattle.std.specs.Prelude.{All, codes, decimal, flat_map}
 use Rattle.std.specs.List.{AllByRecursion, list_all, range_with_len}
 use Rattle.std.proofs.lemmas.Bool.{and_parts, false≢true}
@@ -11,7 +11,7 @@ use Rattle.load_maker.specs.declared.line.Line.{Line}
 use Rattle.load_maker.specs.declared.line.Line.TheVariants.{Centres, Clients, Threads, Rounds, Phase, End, Settle, Down, Prune, Up, Connect, Begin, IncTotal, IncSide, SetNote, AddCart, PutCart, ReadTotal, Commit, Push, Flush, Refresh}
 use Rattle.load_maker.specs.Draws.{drawn, next_state}
 use Rattle.load_maker.specs.Lines.{client_text, line_text, lines_text}
-use Rattle.load_maker.specs.Made.{Block, lines_made, fixed, outage, connect, change, change_of, transaction, transactions, client_load, loads, phase, phases, flush, flushes, last_read, last_reads, settings, body, blocks, made_lines, made_script}
+use Rattle.load_maker.specs.Made.{Block, lines_made, fixed, outage, connect, change_of, transaction, transactions, client_load, loads, phase, phases, flush, flushes, last_read, last_reads, settings, body, blocks, made_lines, made_script}
 use Rattle.load_maker.specs.Rows.{IsRead}
 use Rattle.load_maker.proofs.Spelled.{all_append, digits_pass, decimal_digits}
 use Rattle.load_maker.proofs.Rows as rows

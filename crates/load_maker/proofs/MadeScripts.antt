@@ -1,11 +1,9 @@
 -- A made script without the lines of its phases is a script, and with them it is refused at the first of these.
-use Rattle.std.proofs.Common.{◌≡◌, ◌≤◌, ◌+◌, ◌*◌, ℕ, suc, true, false, Bool, cond, List, [], ◌∷◌, ◌++◌, length, map, refl, sym, ap, ◌∙◌, subst, arith, append_assoc, append-nil, lit≤, lit<, Ok, Err, Some, None}
-use Rattle.std.specs.Prelude.{All, Option, Result, filter, is_some, codes, decimal}
+use Rattle.std.proofs.Common.{◌≡◌, ◌≤◌, ◌+◌, ℕ, suc, true, false, Bool, cond, List, [], ◌∷◌, ◌++◌, length, map, refl, sym, ap, ◌∙◌, arith, append_assoc, append-nil, lit≤, lit<, Ok, Err, Some, None}
+use Rattle.std.specs.Prelude.{Option, Result, filter, is_some, codes, decimal}
 use Rattle.std.specs.List.{AllByRecursion, cons_option, filter_map}
 use Rattle.std.proofs.lemmas.Fmt.{decimal_step, decimal_digit}
-use Rattle.std.proofs.lemmas.Bool.{false≢true}
 use Rattle.std.proofs.lemmas.List.{length-append}
-use Rattle.ids_core.specs.declared.limits.TheConstants.{MOST_RECORDS}
 use Rattle.script_text.specs.declared.limits.TheConstants.{MAX_LINES}
 use Rattle.script_text.specs.declared.script.Header.{Header}
 use Rattle.script_text.specs.declared.steps.Step.{Step}
@@ -27,9 +25,9 @@ use Rattle.script_reader.specs.Readings.{header_in, may_stand, nothing_read, rea
 use Rattle.script_reader.specs.Lines.{line_taken, taken}
 use Rattle.script_reader.specs.Scripts.{lines_read, script_read, script_with, ended}
 use Rattle.load_maker.specs.declared.line.Line.{Line}
-use Rattle.load_maker.specs.declared.line.Line.TheVariants.{Centres, Clients, Threads, Rounds, Phase, End, Settle, Down, Prune, Up, Connect, Begin, IncTotal, IncSide, SetNote, AddCart, PutCart, ReadTotal, Commit, Push, Flush, Refresh}
+use Rattle.load_maker.specs.declared.line.Line.TheVariants.{Centres, Clients, Threads, Rounds, Phase, End}
 use Rattle.load_maker.specs.Lines.{line_text, lines_text}
-use Rattle.load_maker.specs.Made.{Block, lines_made, phases, settings, body, made_lines, made_script}
+use Rattle.load_maker.specs.Made.{lines_made, settings, body, made_lines, made_script}
 use Rattle.load_maker.specs.Rows.{made_header, row_meant}
 use Rattle.load_maker.specs.MadeScripts.{is_no_phase, steady_lines, section_meant, script_of_lines}
 use Rattle.load_maker.proofs.Counts.{body_counts}

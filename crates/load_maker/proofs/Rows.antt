@@ -1,13 +1,12 @@
 -- Each line of a made script is one of the grammar of scripts.
 use Rattle.std.proofs.Common.{◌≡◌, ◌≤◌, ◌<◌, ◌-◌, ◌^◌, ℕ, zero, suc, true, false, Bool, List, [], ◌∷◌, ◌++◌, length, get_or, refl, ap, ◌∙◌, subst, append_assoc, arith, Ok, Err, Some, None, pos, lit≤, lit<}
-use Rattle.std.specs.Prelude.{All, Option, Result, cond, codes, decimal, drop, nat_lt, not, take, ◌==◌, ◌&&◌}
+use Rattle.std.specs.Prelude.{Option, Result, cond, codes, decimal, nat_lt, not, take, ◌==◌}
 use Rattle.std.specs.List.{list_all}
-use Rattle.std.proofs.lemmas.Bool.{and_parts, and_from, ne_eqb, false≢true}
+use Rattle.std.proofs.lemmas.Bool.{and_parts, ne_eqb, false≢true}
 use Rattle.std.proofs.lemmas.Bool.Decides.{nat_tests}
 use Rattle.std.proofs.lemmas.Fmt.{length-decimal-le, decimal_nonempty}
 use Rattle.std.proofs.lemmas.List.{length-append}
 use Rattle.std.proofs.lemmas.List.Elements.{All-nil, All-cons}
-use Rattle.ids_core.specs.declared.limits.TheConstants.{MOST_DELTA}
 use Rattle.script_text.specs.declared.limits.TheConstants.{MAX_LINE, MAX_LINES}
 use Rattle.script_text.specs.declared.script.Header.{Header}
 use Rattle.script_reader.specs.declared.fault.Cause.{Cause}
@@ -19,7 +18,6 @@ use Rattle.script_reader.specs.declared.form.Part.TheVariants as part
 use Rattle.script_reader.specs.declared.form.Word.{Word}
 use Rattle.script_reader.specs.declared.form.Word.TheVariants as word
 use Rattle.script_reader.specs.declared.said.Said.{Said}
-use Rattle.script_reader.specs.declared.row.Row.{Row}
 use Rattle.script_reader.specs.declared.row.Row.TheVariants as row
 use Rattle.script_text.specs.declared.steps.Step.TheVariants as step
 use Rattle.script_text.specs.declared.steps.OperatorStep.TheVariants as operator

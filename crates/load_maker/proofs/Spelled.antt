@@ -1,10 +1,9 @@
 -- Numbers in decimal and words, as the grammar of scripts reads them.
-use Rattle.std.proofs.Common.{◌≡◌, ◌≢◌, ◌≤◌, ◌<◌, ◌+◌, ◌*◌, ◌-◌, ◌/◌, ◌%◌, ◌^◌, ℕ, zero, suc, true, false, Bool, List, [], ◌∷◌, ◌++◌, length, get_or, refl, sym, ap, ◌∙◌, subst, arith, le-leb, Ok, Err, pos, drop}
-use Rattle.std.specs.Prelude.{◌&&◌, ◌==◌, All, cond, decimal, fold, nat_lt, nat_le, not, slice_index}
+use Rattle.std.proofs.Common.{◌≡◌, ◌≤◌, ◌<◌, ◌+◌, ◌*◌, ◌-◌, ◌/◌, ◌%◌, ◌^◌, ℕ, suc, true, Bool, List, [], ◌∷◌, ◌++◌, length, get_or, refl, ap, ◌∙◌, arith, le-leb, Ok, Err, pos, drop}
+use Rattle.std.specs.Prelude.{◌&&◌, ◌==◌, cond, decimal, nat_le, not, slice_index}
 use Rattle.std.specs.List.{list_all}
 use Rattle.std.proofs.lemmas.Bool.{and_parts, and_from, ne_eqb, or_left, or_right}
 use Rattle.std.proofs.lemmas.Fmt.{decimal_by_steps, length-decimal-le, first_decimal, decimal_nonempty}
-use Rattle.std.proofs.lemmas.List.{length-append}
 use Rattle.std.proofs.lemmas.List.Folds.{list_all-append}
 use Rattle.std.proofs.lemmas.List.Sums.{fold_push}
 use Rattle.ids_core.specs.declared.limits.TheConstants.{MOST_DELTA}

@@ -1,5 +1,5 @@
 -- What the lines of made scripts say in the grammar of scripts.
-use Rattle.std.specs.Prelude.{◌≡◌, ◌≤◌, ℕ, pos, List, ◌∷◌, ◌++◌, Some, Ok, codes, decimal}
+use Rattle.std.specs.Prelude.{◌≡◌, ◌≤◌, ℕ, pos, List, ◌++◌, Some, Ok, codes, decimal}
 use Rattle.ids_core.specs.declared.object.ObjectId.{ObjectId}
 use Rattle.ids_core.specs.declared.object.Sort.TheVariants.{Counter, Register, Set, Map}
 use Rattle.dc_talk.specs.declared.calls.Change.TheVariants.{Inc, Write, Add, Put}

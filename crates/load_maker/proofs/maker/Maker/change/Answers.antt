@@ -1,5 +1,5 @@
 -- What is put is the change of the kind that was drawn, with the words that were drawn.
-use Rattle.std.proofs.Common.{◌≡◌, ℕ, List, [], ◌∷◌, refl, sym, ap, ◌∙◌, arith}
+use Rattle.std.proofs.Common.{◌≡◌, [], ◌∷◌, refl, sym, ap, ◌∙◌, arith}
 use Rattle.std.proofs.lemmas.Result.{on_ok_weaker}
 use Rattle.load_maker.specs.declared.maker.Maker.{Maker}
 use Rattle.load_maker.specs.declared.line.Line.TheVariants.{SetNote, AddCart, PutCart}
