@@ -1,8 +1,9 @@
 -- Blocks of lines, written one behind the other.
-use Rattle.std.proofs.Common.{◌≡◌, ℕ, zero, suc, ◌+◌, List, [], ◌∷◌, ◌++◌, refl, sym, ap, ◌∙◌, subst, append_assoc, append-nil, arith, add-one}
+use Rattle.std.proofs.Common.{◌≡◌, ℕ, ◌+◌, ◌-◌, List, [], ◌∷◌, ◌++◌, refl, sym, ap, ◌∙◌, subst, append_assoc, append-nil, arith}
 use Rattle.std.specs.Prelude.{flat_map, codes}
 use Rattle.std.specs.List.{range_with_len}
 use Rattle.std.proofs.lemmas.Grind.{flat_map-append}
+use Rattle.list_core.proofs.Ranges.{joined_more}
 use Rattle.load_maker.specs.declared.line.Line.{Line}
 use Rattle.load_maker.specs.declared.maker.Maker.{Maker}
 use Rattle.load_maker.specs.declared.draws.Draws.{Draws}
@@ -45,17 +46,16 @@ makes_append xs ys old mid new front rest = record {
 pub makes_then : (x : Block) (ys : List Block) (old mid new : Maker) → Makes (x ∷ []) old mid → Makes ys mid new → Makes (x ∷ ys) old new
 makes_then x ys old mid new front rest = makes_append (x ∷ []) ys old mid new front rest
 
--- what is joined over the numbers of a range, with one more
-joined_next : (f : ℕ → List Block) (first count next : ℕ) → next ≡ first + count → flat_map f (range_with_len first (count + 1)) ≡ flat_map f (range_with_len first count) ++ f next
-joined_next f first count next is = rw add-one (go first count (is))
-  where
-    go : (first count : ℕ) → next ≡ first + count → flat_map f (range_with_len first (suc count)) ≡ flat_map f (range_with_len first count) ++ f next
-    go first zero is = append-nil (f first) ∙ ap f (omega arith)
-    go first (suc count) is = ap (λ blocks. f first ++ blocks) (go (first + 1) count (omega arith)) ∙ sym (append_assoc (f first) (flat_map f (range_with_len (first + 1) count)) (f next))
+-- what is joined over the numbers from 1 on, with one more
+joined_next : (f : ℕ → List Block) (count : ℕ) → flat_map f (range_with_len 1 count) ++ f (count + 1) ≡ flat_map f (range_with_len 1 (count + 1))
+joined_next f count =
+    let now : count ≡ count + 1 - 1 = omega arith in
+    let next : count + 1 + 1 - 1 ≡ count + 1 = omega arith in
+    ap (λ n. flat_map f (range_with_len 1 n) ++ f (count + 1)) now ∙ joined_more f (count + 1) (omega arith) ∙ ap (λ n. flat_map f (range_with_len 1 n)) next
 
--- blocks of a range of numbers, with those of one more
-pub makes_next : (f : ℕ → List Block) (first count next : ℕ) (old mid new : Maker) → next ≡ first + count → Makes (flat_map f (range_with_len first count)) old mid → Makes (f next) mid new → Makes (flat_map f (range_with_len first (count + 1))) old new
-makes_next f first count next old mid new is front rest = subst (λ blocks. Makes blocks old new) (sym (joined_next f first count next is)) (makes_append (flat_map f (range_with_len first count)) (f next) old mid new front rest)
+-- blocks over the numbers from 1 on, with those of one more
+pub makes_next : (f : ℕ → List Block) (count : ℕ) (old mid new : Maker) → Makes (flat_map f (range_with_len 1 count)) old mid → Makes (f (count + 1)) mid new → Makes (flat_map f (range_with_len 1 (count + 1))) old new
+makes_next f count old mid new front rest = subst (λ blocks. Makes blocks old new) (joined_next f count) (makes_append (flat_map f (range_with_len 1 count)) (f (count + 1)) old mid new front rest)
 
 -- lines that were written in the state before them
 pub makes_fixed : (lines : List Line) (old new : Maker) → new.text.items ≡ old.text.items ++ lines_text lines → new.draws ≡ old.draws → Makes (fixed lines ∷ []) old new

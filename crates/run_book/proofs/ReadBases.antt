@@ -1,5 +1,5 @@
 -- What the reads of a client stand on, in order, and as it is computed along a log.
-use Rattle.std.proofs.Common.{◌≡◌, ℕ, zero, suc, ◌+◌, ◌-◌, ◌≤◌, ◌<◌, ◌⊎◌, inl, inr, ⊎_elim, cond, List, [], ◌∷◌, ◌++◌, length, take, map, Bool, true, false, Some, refl, sym, ap, ◌∙◌, subst, arith, get_or, add-one}
+use Rattle.std.proofs.Common.{◌≡◌, ℕ, ◌+◌, ◌-◌, ◌≤◌, ◌<◌, ◌⊎◌, inl, inr, ⊎_elim, cond, List, [], ◌∷◌, ◌++◌, length, take, map, Bool, true, false, Some, refl, sym, ap, ◌∙◌, subst, arith, get_or, add-one}
 use Rattle.std.specs.Prelude.{Option, filter, flat_map, is_some, slice_get}
 use Rattle.std.specs.List.{range_with_len, AllByRecursion, cons_option}
 use Rattle.std.specs.List.Sorted.{IsStrictlySortedBy}
@@ -22,7 +22,7 @@ use Rattle.dc_talk.specs.declared.log.Note.{Note}
 use Rattle.dc_talk.specs.Entries.{Entry}
 use Rattle.dc_talk.specs.Logs.{Logged}
 use Rattle.dc_talk.specs.Clients.{Client}
-use Rattle.dc_talk.specs.Rule.{after, client_after}
+use Rattle.dc_talk.specs.Rule.{after}
 use Rattle.run_book.specs.Setups.{Setup}
 use Rattle.run_book.specs.declared.book.Book.{Book}
 use Rattle.run_book.specs.declared.replay.Replay.{Replay}
@@ -30,9 +30,9 @@ use Rattle.run_book.specs.Parts.{trail_of, log_of, notes_of, IsClient}
 use Rattle.run_book.specs.Fit.{FitsWith}
 use Rattle.run_book.specs.Graphs.{own_dots, basis, basis_at, client_at}
 use Rattle.run_book.specs.Replay.{Shows, IsInRange}
-use Rattle.run_book.specs.Basis.{dot_stamped, stamped_dots, stamped_cover, basis_of}
+use Rattle.run_book.specs.Basis.{dot_stamped, stamped_dots, stamped_cover}
 use Rattle.run_book.specs.ReadValues.{read_of, object_read}
-use Rattle.run_book.specs.ReadBases.{in_place, in_order, reads_of, bases_of, stamped_lists, stamped_at, basis_by, basis_told}
+use Rattle.run_book.specs.ReadBases.{in_place, in_order, stamped_lists, stamped_at, basis_by, basis_told}
 use Rattle.run_book.proofs.Bases.{shows_basis}
 use Rattle.run_book.proofs.Growth.{wide_after}
 use Rattle.run_book.proofs.Replays.{shows_more}

@@ -1,5 +1,5 @@
 -- What the reads of a client stand on, each dot once and in order.
-use Rattle.std.specs.Prelude.{ℕ, ◌+◌, ◌-◌, cond, filter, flat_map, is_some, length, map, slice_index_or, take, List, [], ◌∷◌, ◌++◌}
+use Rattle.std.specs.Prelude.{ℕ, ◌-◌, cond, filter, flat_map, is_some, length, map, slice_index_or, take, List, [], ◌∷◌, ◌++◌}
 use Rattle.std.specs.List.{range_with_len}
 use Rattle.std.specs.declared.cmp.Ordering.TheVariants.{Less, Equal, Greater}
 use Rattle.ids_core.specs.declared.ids.Dot.{Dot}

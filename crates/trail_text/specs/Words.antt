@@ -1,5 +1,5 @@
 -- Asks and answers as words.
-use Rattle.std.specs.Prelude.{ℕ, Bool, length, List, ◌++◌, codes, decimal, if◌then◌else◌}
+use Rattle.std.specs.Prelude.{ℕ, length, List, ◌++◌, codes, decimal, if◌then◌else◌}
 use Rattle.ids_core.specs.declared.ids.Dot.{Dot}
 use Rattle.dc_talk.specs.declared.ask.Ask.{Ask}
 use Rattle.dc_talk.specs.declared.ask.Ask.TheVariants.{Hello, Refresh, Fetch, Commit, Send, Deliver, Report, Learn, Prune, Stop, Start}
