@@ -1,5 +1,5 @@
 -- The texts of sections as lines are added, and all of them one behind the other.
-use Rattle.std.specs.Prelude.{◌≡◌, ◌≢◌, ◌≤◌, ◌<◌, ◌⊎◌, ◌==◌, ℕ, zero, suc, ◌+◌, ◌-◌, max, Bool, true, false, cond, List, [], ◌∷◌, ◌++◌, map, flat_map, refl, slice_index_or}
+use Rattle.std.specs.Prelude.{◌≡◌, ◌≢◌, ◌≤◌, ◌<◌, ◌⊎◌, ◌==◌, ℕ, suc, ◌+◌, ◌-◌, max, Bool, true, false, cond, List, [], ◌∷◌, ◌++◌, map, flat_map, refl, slice_index_or}
 use Rattle.std.specs.List.{range_with_len}
 use Rattle.std.specs.Global.{Vec}
 use Rattle.std.specs.Prelude.{slice_set, take}
@@ -7,7 +7,7 @@ use Rattle.std.proofs.Common.{inl, inr, ⊎_elim, sym, ap, ◌∙◌, subst, app
 use Rattle.std.proofs.lemmas.Bool.{cases_lt, ne_eqb, eq-eqb}
 use Rattle.std.proofs.Math.ListN.{get_or-append}
 use Rattle.std.proofs.lemmas.Grind.{flat_map-append}
-use Rattle.std.proofs.lemmas.List.{map-append, map-set, length-set, length-map, length-append, get_or-map, get_or-set_same, get_or-set_other, take_all}
+use Rattle.std.proofs.lemmas.List.{map-append, map-set, length-set, length-map, length-append, get_or-set_same, get_or-set_other}
 use Rattle.std.proofs.Math.Seq.{take-suc, get_or-append_seam}
 use Rattle.vv_core.specs.Vectors.{most}
 use Rattle.dc_talk.specs.declared.log.Note.{Note}

@@ -4,6 +4,8 @@
 #![tactic(auto)]
 
 #[cfg(test)]
+mod load_maker_tests;
+#[cfg(test)]
 mod print_text_tests;
 #[cfg(test)]
 mod run_book_stamps;
@@ -19,5 +21,7 @@ mod script_reader_tests;
 mod script_text_tests;
 #[cfg(test)]
 mod top_call_tests;
+#[cfg(test)]
+mod trail_text_tests;
 #[cfg(test)]
 mod world_core_tests;

@@ -1,5 +1,5 @@
 -- The operations of nodes with different dots have different identifiers, and are of their object's kind.
-use Rattle.std.proofs.Common.{◌≡◌, ℕ, suc, ◌+◌, ◌≤◌, inl, inr, Bool, true, false, cond, List, [], ◌∷◌, Some, refl, sym, ap, ◌∙◌, subst, arith}
+use Rattle.std.proofs.Common.{◌≡◌, ℕ, suc, inl, inr, List, [], ◌∷◌, Some, refl, sym, ap, ◌∙◌, subst, arith}
 use Rattle.std.specs.Prelude.{flat_map, slice_get}
 use Rattle.list_core.specs.Members.{In}
 use Rattle.list_core.proofs.Gets.{In_get, get_In}

@@ -1,4 +1,4 @@
-use Rattle.std.proofs.Common.{◌++◌, List, ap, sym, ◌∙◌, append-nil, take_all, length}
+use Rattle.std.proofs.Common.{◌++◌, List, ap, sym, ◌∙◌, append-nil, take_all}
 use Rattle.std.proofs.lemmas.Grind.{flat_map-append}
 use Rattle.std.specs.Global.{Vec}
 use Rattle.std.specs.Prelude.{ℕ, [], ◌∷◌, take}

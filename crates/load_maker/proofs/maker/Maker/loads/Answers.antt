@@ -1,0 +1,6 @@
+use Rattle.load_maker.specs.Made.{client_load}
+use Rattle.load_maker.proofs.Blocks.{makes_next}
+use Rattle.load_maker.proofs.maker.Maker.loads.Goals as goal
+
+pub loop-before-preserved : goal.loop-before-preserved
+loop-before-preserved c = makes_next (client_load c.args.turns) c.loop-before.before _ _ _ c.loop-before.invariant c.in_ok-client_load.ensures

@@ -1,0 +1,5 @@
+pub mod Draws
+pub mod Lines
+pub mod Made
+pub mod Rows
+pub mod MadeScripts
