@@ -1,0 +1,12 @@
+//! What the words of a command line ask of the program, read by `clap`, and the texts that it answers
+//! with itself.
+#![tactic(auto)]
+
+mod app;
+mod form;
+mod matched;
+mod num;
+mod read;
+
+pub use form::{Form, MOST_NUM};
+pub use read::form_of;
