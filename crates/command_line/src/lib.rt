@@ -7,6 +7,8 @@ mod form;
 mod matched;
 mod num;
 mod read;
+mod texts;
 
 pub use form::{Form, MOST_NUM};
 pub use read::form_of;
+pub use texts::{help, usage_line, version_line};
