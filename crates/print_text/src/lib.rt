@@ -5,5 +5,5 @@ mod line;
 mod text;
 mod value;
 
-pub use line::write_line;
+pub use line::{write_lacking, write_line, write_named, write_object, write_vector};
 pub use text::{text_of, write_deed};

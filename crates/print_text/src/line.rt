@@ -329,7 +329,8 @@ fn write_step(
     Ok(())
 }
 
-fn write_object(text: &mut Vec<u8>, object: &ObjectId) -> Result<(), NoMemory>
+/// Writes an object at the end, as scripts name it. An `Err` leaves a part of it there.
+pub fn write_object(text: &mut Vec<u8>, object: &ObjectId) -> Result<(), NoMemory>
     ensures { OnOk result (text.new.items ≡ text.old.items ++ object_text object.now) }
 {
     match object.sort {
@@ -342,7 +343,8 @@ fn write_object(text: &mut Vec<u8>, object: &ObjectId) -> Result<(), NoMemory>
     Ok(())
 }
 
-fn write_vector(text: &mut Vec<u8>, vector: &Vector) -> Result<(), NoMemory>
+/// Writes the entries of a vector at the end, with commas between them. An `Err` leaves a part of them there.
+pub fn write_vector(text: &mut Vec<u8>, vector: &Vector) -> Result<(), NoMemory>
     ensures { OnOk result (text.new.items ≡ text.old.items ++ vector_text vector.now) }
 {
     if let [first, rest @ ..] = vector.as_slice() {
@@ -388,8 +390,9 @@ fn write_lack(text: &mut Vec<u8>, lack: &Lack) -> Result<(), NoMemory>
     write_lacking(text, b"lacks ", lack)
 }
 
-// What is lacked, behind a word.
-fn write_lacking(text: &mut Vec<u8>, word: &[u8], lack: &Lack) -> Result<(), NoMemory>
+/// Writes what is lacked at the end, behind a word: the entry that is needed and the one that is there. An `Err` leaves
+/// a part of it there.
+pub fn write_lacking(text: &mut Vec<u8>, word: &[u8], lack: &Lack) -> Result<(), NoMemory>
     ensures { OnOk result (text.new.items ≡ text.old.items ++ lacking_text word.now lack.now) }
 {
     write_named(text, word, u64::from(lack.centre))?;
@@ -440,8 +443,8 @@ fn write_miss(text: &mut Vec<u8>, miss: Miss) -> Result<(), NoMemory>
     Ok(())
 }
 
-// Words with a number behind them.
-fn write_named(text: &mut Vec<u8>, words: &[u8], number: u64) -> Result<(), NoMemory>
+/// Writes words at the end, and a number behind them. An `Err` leaves a part of it there.
+pub fn write_named(text: &mut Vec<u8>, words: &[u8], number: u64) -> Result<(), NoMemory>
     ensures { OnOk result (text.new.items ≡ text.old.items ++ (words.now ++ decimal number)) }
 {
     text.extend_from_slice(words)?;

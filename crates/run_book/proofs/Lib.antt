@@ -16,3 +16,4 @@ pub mod Bases
 pub mod BareNodes
 pub mod ObjectActs
 pub mod ReadValues
+pub mod ReadBases

@@ -15,5 +15,6 @@ pub mod Played
 pub mod Edits
 pub mod Replay
 pub mod Basis
+pub mod ReadBases
 pub mod BareNodes
 pub mod ReadValues

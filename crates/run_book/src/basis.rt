@@ -86,8 +86,8 @@ impl Book {
         Ok(dots)
     }
 
-    // The entries of a centre.
-    fn trail(&self, centre: u8) -> &[Entry]
+    /// The entries of a centre, none of one that is not there.
+    pub fn trail(&self, centre: u8) -> &[Entry]
         requires { 1 ≤ centre }
         ensures { result.now ≡ trail_of self.now centre }
     {
@@ -115,7 +115,7 @@ fn push_stamped(trail: &[Entry], most: u64, dots: &mut Vec<Dot>) -> Result<(), N
 }
 
 // The dot of a commit that got a stamp.
-fn stamped_dot(entry: &Entry) -> Option<Dot>
+pub fn stamped_dot(entry: &Entry) -> Option<Dot>
     ensures { result ≡ dot_stamped entry.now.ask entry.now.say }
 {
     match &entry.ask {
@@ -128,7 +128,7 @@ fn stamped_dot(entry: &Entry) -> Option<Dot>
 }
 
 // Orders dots, and leaves one of those that are equal.
-fn sort_once(dots: &mut Vec<Dot>)
+pub fn sort_once(dots: &mut Vec<Dot>)
     ensures ascending { IsStrictlySortedBy dot_cmp dots.new.items }
     ensures members { (d : Dot) → In d dots.new.items ↔ In d dots.old.items }
 {

@@ -9,6 +9,7 @@ mod book;
 mod edits;
 mod laws;
 mod object_acts;
+mod read_bases;
 mod read_values;
 mod replay;
 
@@ -19,3 +20,4 @@ pub use laws::{
     law_agree, law_causal, law_closed, law_known, law_numbers, law_one_list, law_pruned,
     law_refusals, law_session, law_sound, law_together, law_value,
 };
+pub use read_bases::Dots;

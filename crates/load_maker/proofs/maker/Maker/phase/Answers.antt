@@ -1,0 +1,6 @@
+use Rattle.std.proofs.lemmas.Result.{on_ok_weaker}
+use Rattle.load_maker.proofs.Blocks.{makes_append, makes_then}
+use Rattle.load_maker.proofs.maker.Maker.phase.Goals as goal
+
+pub returns : goal.returns
+returns c = on_ok_weaker c.put-2.result (λ rest. makes_then _ _ _ _ _ c.in_ok-put.ensures (makes_then _ _ _ _ _ c.in_ok-outage.ensures (makes_append _ _ _ _ _ c.in_ok-loads.ensures rest))) c.put-2.ensures
