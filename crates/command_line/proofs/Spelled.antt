@@ -10,7 +10,7 @@ abbrev pub third : List (List ℕ) → ℕ
 third words = get_or (get_or words 0 []) 2 0
 
 -- the flag stands there or not
-one_flag : (b c : Bool) → spelled (Serial b) ≡ spelled (Serial c) → b ≡ c
+pub one_flag : (b c : Bool) → spelled (Serial b) ≡ spelled (Serial c) → b ≡ c
 one_flag true true same = refl
 one_flag true false same = absurd (let bad : 2 ≡ 1 = ap length same in omega (arith, bad))
 one_flag false true same = absurd (let bad : 1 ≡ 2 = ap length same in omega (arith, bad))

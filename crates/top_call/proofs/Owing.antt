@@ -74,7 +74,7 @@ refused_left bytes false (Some rest) line cause fault limits whole = ap script_r
 abbrev first_byte : List (List ℕ) → ℕ
 first_byte words = get_or (get_or words 0 []) 0 0
 
-some≢none : {X : Type 0} (x : X) → Some x ≡ None → ⊥
+pub some≢none : {X : Type 0} (x : X) → Some x ≡ None → ⊥
 some≢none x e = true≢false (ap is_some e)
 
 -- words that play a script spell no other form
@@ -95,7 +95,7 @@ plays_by words Help is play = absurd play
 plays_by words Version is play = absurd play
 
 -- a question is no form that plays a script
-no_question : (form : Form) (text : List ℕ) → told_text form ≡ Some text → IsPlay form → ⊥
+pub no_question : (form : Form) (text : List ℕ) → told_text form ≡ Some text → IsPlay form → ⊥
 no_question (Serial trail) text told play = some≢none text (sym told)
 no_question (Make num) text told play = play
 no_question Help text told play = play

@@ -16,8 +16,9 @@ use Rattle.run_book.specs.declared.book.Book.{Book}
 use Rattle.run_book.specs.Setups.{Setup, setup_of}
 use Rattle.run_book.specs.Causal.{IsCausal}
 use Rattle.print_text.specs.Text.{text_of}
+use Rattle.trail_text.specs.Trails.{trail_text}
+use Rattle.load_maker.specs.Made.{made_script}
 use Rattle.world_core.specs.Runs.{IsRunOf}
-use Rattle.top_call.specs.Stubs.{made_script, trail_text}
 use Rattle.top_call.specs.declared.engine.Owed.{Owed}
 use Rattle.top_call.specs.declared.top.Ended.{Ended}
 

@@ -4,7 +4,6 @@ ghost use Rattle.run_book.specs.Fit.{FitsWith};
 ghost use Rattle.run_book.specs.Setups.{Setup, setup_of};
 ghost use Rattle.world_core.specs.Runs.{IsInRange, IsRunOf};
 ghost use Rattle.top_call.specs.Runs.{IsOwed, empty_book, given_script, refusal_text, run_text};
-ghost use Rattle.top_call.specs.Stubs.{trail_text as trail_text_of};
 
 use crate::refusal::refusal_line;
 use ids_core::NoMemory;
@@ -13,6 +12,7 @@ use run_book::Book;
 use script_reader::{Cause, ScriptFault, parse};
 use script_text::Script;
 use std::alloc::Global;
+use trail_text::trail_text;
 use world_core::serial;
 
 /// Where an input is no script: its first line at fault, counted from 1, and why it is.
@@ -71,12 +71,6 @@ fn text_of_run(alloc: Global, book: &Book, trail: bool) -> Result<Vec<u8>, NoMem
         text.extend_from_slice(&trail_text(alloc, book)?)?;
     }
     Ok(text)
-}
-
-fn trail_text(alloc: Global, _book: &Book) -> Result<Vec<u8>, NoMemory>
-    ensures { IfOk result (λ text. (setup : Setup) → FitsWith _book.now setup → text.items ≡ trail_text_of _book.now setup) }
-{
-    Ok(Vec::new(alloc))
 }
 
 // What is owed for a script: it is played on one thread, and its text is that of the run.

@@ -4,13 +4,13 @@ ghost use Rattle.command_line.specs.Forms.{IsForm, spelled};
 ghost use Rattle.command_line.specs.Texts.{usage_text};
 ghost use Rattle.io_edge.specs.Streams.{HasRisen};
 ghost use Rattle.top_call.specs.Runs.{EndsSo, Given, IsAnswerable, IsCausalRun, IsDone, IsOwed, IsPlay, IsRefusal, IsStatus, IsUsage, Plays, Wrote, WroteFront, WroteNothing, WroteShort, empty_book, given_by, given_script, texts};
-ghost use Rattle.top_call.specs.Stubs.{made_script};
 
 use crate::engine::{Fault, Owed, answer, owed_for};
 use crate::stream::{ReadFault, read_input, write_all};
 use command_line::{Form, form_of, help, usage_line, version_line};
 use ids_core::NoMemory;
 use io_edge::{Gate, Sink, Source, WriteFault};
+use load_maker::script_of;
 use run_book::Book;
 use std::alloc::Global;
 
@@ -39,13 +39,6 @@ fn usage(alloc: Global) -> Result<Owed, NoMemory>
         book: Book::new(alloc, 1, 1),
         fault: None,
     })
-}
-
-// The script that is made of a number.
-fn script_of(alloc: Global, _num: u32) -> Result<Vec<u8>, NoMemory>
-    ensures { IfOk result (λ text. text.items ≡ made_script _num) }
-{
-    Ok(Vec::new(alloc))
 }
 
 // Reads an input, and what is owed for it.
