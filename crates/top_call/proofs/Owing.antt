@@ -158,7 +158,7 @@ end_met trail new bytes past owed limits whole (Refused r) zero = absurd (omega 
 end_met trail new bytes past owed limits whole (Misused u) zero = absurd (omega (arith, zero, u.status))
 
 -- a run of what a source had left
-run_left : (left other : Option (List ℕ)) (book : Book) → left ≡ other → IsCausalRun left book → IsCausalRun other book
+abbrev run_left : (left other : Option (List ℕ)) (book : Book) → left ≡ other → IsCausalRun left book → IsCausalRun other book
 run_left left other book same run = record { bytes = run.bytes; input = subst (λ l. IfSome l (λ all. all ≡ run.bytes)) same run.input; read = run.read; spelled = run.spelled; run = run.run; causal = run.causal }
 
 -- what is owed for a script is owed for the words that play it, whatever the sink has
