@@ -32,8 +32,8 @@ bases_by n trail notes setup a =
 
 -- the text of the trails, by the trails and the notes
 abbrev text_by : ℕ → (ℕ → List Entry) → (ℕ → List Note) → Setup → List ℕ
-text_by n trail notes setup = flat_map (λ centre. entries_text centre 1 (trail centre)) (centres n)
-    ++ flat_map (λ client. bases_text client 1 (bases_by n trail (notes (client + 1)) setup (client + 1))) (range_with_len 1 setup.clients)
+text_by n trail notes setup = flat_map (λ centre. entries_text centre (trail centre)) (centres n)
+    ++ flat_map (λ client. bases_text client (bases_by n trail (notes (client + 1)) setup (client + 1))) (range_with_len 1 setup.clients)
 
 by_parts : (b : Book) (setup : Setup) → trail_text b setup ≡ text_by b.n (trail_of b) (notes_of b) setup
 by_parts b setup = refl
