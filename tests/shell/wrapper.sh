@@ -10,6 +10,8 @@ repo=$room/repo
 make_repository() {
     mkdir -p "$repo/bin" "$repo/tools" "$repo/crates/low/src" "$repo/crates/swift_sim/src" \
         "$repo/crates/swift_sim/specs"
+    mkdir "$repo/docs"
+    cp "$root/docs/help.txt" "$repo/docs/help.txt"
     cp "$root/swift_sim" "$repo/swift_sim"
     echo '# the crates
 swift_sim: low
@@ -124,8 +126,8 @@ has_help() {
 
 check_wrapper_help() {
     wrapped --help
-    also 'help' 0 has_help 'usage: ./swift_sim serial < SCRIPT' './swift_sim --prove' 'Status 1' \
-        'examples/first-path.script' 'docs/script.md' 'logic dac8208d650f15bf'
+    also 'help' 0 has_help 'swift_sim serial --trail < SCRIPT' './swift_sim --prove' 'Status 1' \
+        'docs/script.md' 'logic dac8208d650f15bf'
     also 'help makes nothing' 0 is_called
     printf 'a\nb' | PATH=$repo/tools /bin/sh "$repo/swift_sim" serial x >"$room/out" 2>"$room/err"
     status=$?

@@ -8,5 +8,6 @@ pub mod Noted
 pub mod Partings
 pub mod Agreeing
 pub mod Logs
+pub mod TrailTexts
 pub mod Scripts
 pub mod Outputs

@@ -1,7 +1,7 @@
 -- When what two runs of the program owe is the same.
 use Rattle.std.specs.Prelude.{◌≡◌, ◌⊎◌, ℕ, List, Option, Some}
 use Rattle.io_edge.specs.Streams.{puts_behind}
-use Rattle.top_call.specs.Runs.{Given, IsPlayed, IsRefusal, IsUsage, Wrote}
+use Rattle.top_call.specs.Runs.{Given, IsDone, IsRefusal, IsUsage, Wrote}
 use Rattle.top_call.specs.declared.engine.Owed.{Owed}
 use Rattle.top_call.specs.declared.top.Ended.{Ended}
 use Rattle.run_laws.specs.OneBook.{AreOne}
@@ -24,7 +24,7 @@ IsWhole status = (status ≡ 0) ⊎ ((status ≡ 2) ⊎ (status ≡ 3))
 -- so, and its sink, which has taken this now, took the text that is owed
 pub record IsWholeRun (words : List (List ℕ)) (bytes : List ℕ) (taken : Option (List ℕ)) (ended : Ended) (now : Option (List ℕ)) : Type 0 where
   pub status : IsWhole ended.status
-  pub played : ended.status ≡ 0 → Wrote IsPlayed (given_bytes words bytes taken) ended now
+  pub done : ended.status ≡ 0 → Wrote IsDone (given_bytes words bytes taken) ended now
   pub misused : ended.status ≡ 2 → Wrote IsUsage (given_bytes words bytes taken) ended now
   pub refused : ended.status ≡ 3 → Wrote IsRefusal (given_bytes words bytes taken) ended now
 

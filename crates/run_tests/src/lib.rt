@@ -4,6 +4,8 @@
 #![tactic(auto)]
 
 #[cfg(test)]
+mod command_line_tests;
+#[cfg(test)]
 mod load_maker_tests;
 #[cfg(test)]
 mod print_text_tests;

@@ -2,7 +2,8 @@
 use io_edge::{FreeGate, MemorySink, MemorySource, SteadySink, SteadySource};
 use std::alloc::{AllocError, Global};
 use std::test::Fail;
-use top_call::{Ended, swift_main};
+use script_reader::Cause;
+use top_call::{Ended, Fault, swift_main};
 
 const FIRST_PATH: &[u8] =
     b"centres 1 k 1\nclients 1\nc1 connect 1\nc1 begin\nc1 inc c.a 5\nc1 read c.a\nc1 commit\nc1 push\nc1 refresh\n";
@@ -10,11 +11,20 @@ const FIRST_PATH: &[u8] =
 const FIRST_TEXT: &[u8] =
     b"c1 at 1\nc1 read c.a 5\nc1 commit 1\nc1 push 1 stamp 1:1\nc1 sees 1 own 1\n";
 
-// The words `serial` alone.
-fn serial(alloc: Global) -> Result<Vec<String>, AllocError> {
+const FIRST_TRAIL: &[u8] = b"trail 1 1 by 2 hello welcome 0\ntrail 1 2 by 2 fetch c.a object\ntrail 1 3 by 2 commit 1.1 stamped 1:1\ntrail 1 4 by 2 refresh snap 1 own 1 top 1\nbasis c1 1\n";
+
+// A list of words.
+fn words_of(alloc: Global, list: &[&str]) -> Result<Vec<String>, AllocError> {
     let mut words = Vec::new(alloc);
-    words.push(String::from_str(alloc, "serial")?)?;
+    for word in list {
+        words.push(String::from_str(alloc, word)?)?;
+    }
     Ok(words)
+}
+
+// The word `serial` alone.
+fn serial(alloc: Global) -> Result<Vec<String>, AllocError> {
+    words_of(alloc, &["serial"])
 }
 
 // A run of a script into a sink, where no read fails.
@@ -37,11 +47,36 @@ fn a_block_is_played_from_begin_to_refresh(rt: HostRuntime) -> Result<(), Fail> 
 }
 
 #[test]
+fn the_trails_follow_the_text(rt: HostRuntime) -> Result<(), Fail> {
+    let words = words_of(rt.alloc(), &["serial", "--trail"])?;
+    let mut source = SteadySource::new(Vec::from_slice(rt.alloc(), FIRST_PATH)?);
+    let mut sink = SteadySink::new(rt.alloc());
+    let ended = swift_main(rt.alloc(), &words, &mut source, &mut sink, &FreeGate);
+    assert_eq!(rt; ended.status, 0);
+    assert!(rt; sink.bytes().starts_with(FIRST_TEXT));
+    assert!(rt; sink.bytes().ends_with(FIRST_TRAIL));
+    assert_eq!(rt; sink.bytes().len(), FIRST_TEXT.len().saturating_add(FIRST_TRAIL.len()));
+    Ok(())
+}
+
+#[test]
+fn a_number_is_answered_without_an_input(rt: HostRuntime) -> Result<(), Fail> {
+    let words = words_of(rt.alloc(), &["make", "7"])?;
+    let mut source = MemorySource::new(Vec::new(rt.alloc()), 1, Vec::new(rt.alloc()));
+    let mut sink = SteadySink::new(rt.alloc());
+    let ended = swift_main(rt.alloc(), &words, &mut source, &mut sink, &FreeGate);
+    assert_eq!(rt; (ended.status, source.calls()), (0, 0));
+    assert!(rt; sink.bytes().starts_with(b"centres 3 k 2\n"));
+    Ok(())
+}
+
+#[test]
 fn an_input_that_is_no_script_is_refused(rt: HostRuntime) -> Result<(), Fail> {
     let mut sink = MemorySink::new(rt.alloc(), 64, Vec::new(rt.alloc()));
     let ended = played(rt.alloc(), b"centres 1 k 1\n", &mut sink)?;
     assert_eq!(rt; ended.status, 3);
     assert_eq!(rt; sink.bytes(), b"refused line 2 place\n".as_slice());
+    assert!(rt; matches!(ended.fault, Some(Fault { line: 2, cause: Cause::Place })));
     Ok(())
 }
 

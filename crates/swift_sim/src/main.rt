@@ -1,6 +1,9 @@
 //! SwiftCloud in one process: plays a script of client steps, and writes what the client sees.
 #![tactic(auto)]
 
+mod complaint;
+
+use complaint::complain;
 use io_edge::{FreeGate, StdSink, StdSource};
 use std::process::ExitCode;
 use std::rt::Env;
@@ -30,5 +33,10 @@ fn main(rt: HostRuntime) -> ExitCode {
     let mut source = StdSource::new(rt.reader());
     let mut sink = StdSink::new(io::writer(&rt));
     let ended = swift_main(rt.alloc(), &words, &mut source, &mut sink, &FreeGate);
+    // Where standard error takes nothing, the status says what there is to say.
+    match complain(rt, &ended) {
+        Ok(()) => {}
+        Err(_) => {}
+    }
     ExitCode::from(ended.status)
 }

@@ -1,7 +1,11 @@
 -- What a run is given, what it owes, and how it ends.
-use Rattle.std.specs.Prelude.{◌≡◌, ◌≢◌, ◌⊎◌, ℕ, List, [], ◌∷◌, ◌++◌, Option, None, Ok, Err, IfSome, IsSomeAnd, String, map, codes, decimal}
+use Rattle.std.specs.Prelude.{◌≡◌, ◌≢◌, ◌⊎◌, ⊤, ℕ, Bool, true, false, List, [], ◌∷◌, ◌++◌, Option, Some, None, Ok, Err, IfSome, IsSomeAnd, String, map, codes, decimal}
 use Rattle.std.specs.Global.{Global}
 use Rattle.std.specs.String.{string_bytes}
+use Rattle.command_line.specs.declared.form.Form.{Form}
+use Rattle.command_line.specs.declared.form.Form.TheVariants.{Serial, Make, Help, Version}
+use Rattle.command_line.specs.Forms.{IsForm, spelled}
+use Rattle.command_line.specs.Texts.{help_text, usage_text, version_text}
 use Rattle.io_edge.specs.Streams.{TookFront, puts_behind}
 use Rattle.script_reader.specs.declared.fault.Cause.{Cause}
 use Rattle.script_reader.specs.declared.fault.ScriptFault.TheVariants.{Refused as RefusedAt}
@@ -9,9 +13,11 @@ use Rattle.script_reader.specs.declared.reading.ReadScript.{ReadScript}
 use Rattle.script_reader.specs.Causes.{cause_text}
 use Rattle.script_reader.specs.Scripts.{script_read}
 use Rattle.run_book.specs.declared.book.Book.{Book}
-use Rattle.run_book.specs.Setups.{setup_of}
+use Rattle.run_book.specs.Setups.{Setup, setup_of}
 use Rattle.run_book.specs.Causal.{IsCausal}
 use Rattle.print_text.specs.Text.{text_of}
+use Rattle.trail_text.specs.Trails.{trail_text}
+use Rattle.load_maker.specs.Made.{made_script}
 use Rattle.world_core.specs.Runs.{IsRunOf}
 use Rattle.top_call.specs.declared.engine.Owed.{Owed}
 use Rattle.top_call.specs.declared.top.Ended.{Ended}
@@ -30,13 +36,25 @@ texts words = map string_bytes words
 abbrev pub given_by : List (String Global) → Option (List ℕ) → Option (List ℕ) → Given
 given_by words left taken = record { words = texts words; left = left; taken = taken }
 
--- the words that play a script on one thread
-abbrev pub serial_words : List (List ℕ)
-serial_words = codes "serial" ∷ []
+-- the words ask for a script to be played on one thread: `serial`, with the trails or without
+abbrev pub Plays : List (List ℕ) → Type 0
+Plays words = (trail : Bool) × (words ≡ spelled (Serial trail))
 
--- the line for words of no form
-abbrev pub usage_text : List ℕ
-usage_text = codes "usage: swift_sim run|serial [--trail] or make|load NUM\n"
+-- a form that plays a script
+abbrev pub IsPlay : Form → Type 0
+IsPlay (Serial trail) = ⊤
+IsPlay _ = ⊥
+
+-- what words are answered with that ask for neither a script nor an input: help and the version
+abbrev pub told_text : Form → Option (List ℕ)
+told_text Help = Some help_text
+told_text Version = Some version_text
+told_text _ = None
+
+-- the text of a run: that of its book, and behind it, where it was asked for, the text of its trails and bases
+abbrev pub run_text : Bool → Book → Setup → List ℕ
+run_text false book setup = text_of book.logs
+run_text true book setup = text_of book.logs ++ trail_text book setup
 
 -- the line for an input that is no script: the number of the first line at fault, and the cause
 abbrev pub refusal_text : ℕ → Cause → List ℕ
@@ -69,33 +87,62 @@ pub record IsRefusedAt (left : Option (List ℕ)) (line : ℕ) (cause : Cause) :
 
 -- ---- what is owed: a status, a text and a book
 
--- what is owed for a script: status 0, the book of a run of it, and the text of this book
+-- what is owed for a script: status 0, the book of a run of it, and the text of this run
 pub record IsPlayed (given : Given) (owed : Owed) : Type 0 where
-  pub form : given.words ≡ serial_words
+  pub trail : Bool
+  pub form : given.words ≡ spelled (Serial trail)
   pub status : owed.status ≡ 0
   pub run : IsCausalRun given.left owed.book
-  pub text : owed.text.items ≡ text_of owed.book.logs
+  pub text : owed.text.items ≡ run_text trail owed.book (setup_of run.read.script)
+  pub sound : owed.fault ≡ None
+
+-- what is owed for a number: status 0, and the script that is made of it
+pub record IsMade (given : Given) (owed : Owed) : Type 0 where
+  pub num : ℕ
+  pub known : IsForm (Make num)
+  pub form : given.words ≡ spelled (Make num)
+  pub status : owed.status ≡ 0
+  pub text : owed.text.items ≡ made_script num
+  pub book : owed.book ≡ empty_book
+  pub sound : owed.fault ≡ None
+
+-- what is owed for a question: status 0, and the text that answers it
+pub record IsTold (given : Given) (owed : Owed) : Type 0 where
+  pub question : Form
+  pub form : given.words ≡ spelled question
+  pub status : owed.status ≡ 0
+  pub text : told_text question ≡ Some owed.text.items
+  pub book : owed.book ≡ empty_book
+  pub sound : owed.fault ≡ None
+
+-- what is owed where the words have a form and the input, if it is read, is a script
+pub data IsDone (given : Given) (owed : Owed) : Type 0 where
+  Played : IsPlayed given owed → IsDone given owed
+  Made : IsMade given owed → IsDone given owed
+  Told : IsTold given owed → IsDone given owed
 
 -- what is owed for an input that is no script: status 3, and the line that names the line at fault and the cause
 pub record IsRefusal (given : Given) (owed : Owed) : Type 0 where
-  pub form : given.words ≡ serial_words
+  pub form : Plays given.words
   pub status : owed.status ≡ 3
   pub line : ℕ
   pub cause : Cause
   pub refused : IsRefusedAt given.left line cause
   pub text : owed.text.items ≡ refusal_text line cause
   pub book : owed.book ≡ empty_book
+  pub told : owed.fault ≡ Some (record { line = line; cause = cause })
 
 -- what is owed for words of no form: status 2, and the line of usage
 pub record IsUsage (given : Given) (owed : Owed) : Type 0 where
-  pub form : given.words ≢ serial_words
+  pub form : (form : Form) → IsForm form → given.words ≢ spelled form
   pub status : owed.status ≡ 2
   pub text : owed.text.items ≡ usage_text
   pub book : owed.book ≡ empty_book
+  pub sound : owed.fault ≡ None
 
 -- what is owed for what is given, by cases
 pub data IsOwed (given : Given) (owed : Owed) : Type 0 where
-  Played : IsPlayed given owed → IsOwed given owed
+  Done : IsDone given owed → IsOwed given owed
   Refused : IsRefusal given owed → IsOwed given owed
   Misused : IsUsage given owed → IsOwed given owed
 
@@ -112,6 +159,7 @@ pub record Wrote (IsKind : Given → Owed → Type 0) (given : Given) (ended : E
   pub kind : IsKind given owed
   pub status : ended.status ≡ owed.status
   pub book : ended.book ≡ owed.book
+  pub fault : ended.fault ≡ owed.fault
   pub all : taken ≡ puts_behind owed.text.items given.taken
 
 -- the sink took a front of what is owed, with this book
@@ -121,9 +169,9 @@ pub record WroteFront (given : Given) (book : Book) (taken : Option (List ℕ)) 
   pub same_book : book ≡ owed.book
   pub front : TookFront owed.text.items given.taken taken
 
--- a script was asked for, the sink took nothing, and there is no run
+-- a script was to be played, the sink took nothing, and there is no run
 pub record WroteNothing (given : Given) (ended : Ended) (taken : Option (List ℕ)) : Type 0 where
-  pub form : given.words ≡ serial_words
+  pub form : Plays given.words
   pub nothing : taken ≡ given.taken
   pub book : ended.book ≡ empty_book
 
@@ -132,23 +180,31 @@ pub record WroteShort (given : Given) (ended : Ended) (taken : Option (List ℕ)
   pub short : (taken ≡ given.taken) ⊎ ((book : Book) × WroteFront given book taken)
   pub book : ended.book ≡ empty_book
 
--- a script is asked for, and the source tells that it has one left
-pub record IsPlayable (given : Given) : Type 0 where
-  pub form : given.words ≡ serial_words
-  pub script : IsSomeAnd given.left IsSomeScript
+-- what a form wants of the source: that it tells that it has a script left, where one is played
+abbrev pub IsServed : Form → Option (List ℕ) → Type 0
+IsServed (Serial trail) left = IsSomeAnd left IsSomeScript
+IsServed _ left = ⊤
+
+-- the words have a form, and the source has what this form wants
+pub record IsAnswerable (given : Given) : Type 0 where
+  pub asked : Form
+  pub known : IsForm asked
+  pub form : given.words ≡ spelled asked
+  pub served : IsServed asked given.left
 
 -- ---- on the way to the top call
 
--- what is given by a source that has this left of a script, with a sink that tells nothing
-abbrev pub given_script : Option (List ℕ) → Given
-given_script left = record { words = serial_words; left = left; taken = None }
+-- what is given by a source that has this left of a script to be played, with a sink that tells nothing
+abbrev pub given_script : Bool → Option (List ℕ) → Given
+given_script trail left = record { words = spelled (Serial trail); left = left; taken = None }
 
 -- what a run left, by its status
 pub record EndsSo (given : Given) (ended : Ended) (taken : Option (List ℕ)) : Type 0 where
   pub statuses : IsStatus ended.status
-  pub played : ended.status ≡ 0 → Wrote IsPlayed given ended taken
+  pub done : ended.status ≡ 0 → Wrote IsDone given ended taken
   pub misused : ended.status ≡ 2 → Wrote IsUsage given ended taken
   pub refused : ended.status ≡ 3 → Wrote IsRefusal given ended taken
   pub read_failed : ended.status ≡ 4 → WroteNothing given ended taken
   pub write_failed : ended.status ≡ 5 → WroteFront given ended.book taken
   pub no_memory : ended.status ≡ 6 → WroteShort given ended taken
+  pub sound : ended.status ≢ 3 → ended.fault ≡ None

@@ -6,4 +6,5 @@ mod refusal;
 mod stream;
 mod top;
 
+pub use engine::Fault;
 pub use top::{Ended, swift_main};

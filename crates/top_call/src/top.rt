@@ -1,39 +1,29 @@
 // The top call.
-ghost use Rattle.std.specs.Prelude.{◌≡◌, ◌≢◌, ◌⊎◌, ◌↔◌, ℕ, List, Option, [], Err, IfOk, IfSome, IsTrue, codes};
+ghost use Rattle.std.specs.Prelude.{◌≡◌, ◌≢◌, ◌⊎◌, ℕ, List, Option, None, [], Err, IfOk, IfSome};
+ghost use Rattle.command_line.specs.Forms.{IsForm, spelled};
+ghost use Rattle.command_line.specs.Texts.{usage_text};
 ghost use Rattle.io_edge.specs.Streams.{HasRisen};
-ghost use Rattle.top_call.specs.Runs.{EndsSo, IsCausalRun, IsOwed, IsPlayable, IsPlayed, IsRefusal, IsStatus, IsUsage, Wrote, WroteFront, WroteNothing, WroteShort, empty_book, given_by, given_script, serial_words, texts, usage_text};
+ghost use Rattle.top_call.specs.Runs.{EndsSo, Given, IsAnswerable, IsCausalRun, IsDone, IsOwed, IsPlay, IsRefusal, IsStatus, IsUsage, Plays, Wrote, WroteFront, WroteNothing, WroteShort, empty_book, given_by, given_script, texts};
 
-use crate::engine::{Owed, owed_for};
+use crate::engine::{Fault, Owed, answer, owed_for};
 use crate::stream::{ReadFault, read_input, write_all};
+use command_line::{Form, form_of, help, usage_line, version_line};
 use ids_core::NoMemory;
 use io_edge::{Gate, Sink, Source, WriteFault};
+use load_maker::script_of;
 use run_book::Book;
 use std::alloc::Global;
 
 /// How a run ended.
 #[derive(Drop)]
 pub struct Ended {
-    /// 0 where a script was played, 2 for words of no form, 3 for an input that is no script, 4 after
+    /// 0 where all was written that the words ask for, 2 for words of no form, 3 for an input that is no script, 4 after
     /// a failed read, 5 after a failed write, and 6 for want of memory.
     pub status: u8,
     /// What the run left, or an empty book.
     pub book: Book,
-}
-
-fn is_serial_word(word: &str) -> bool
-    ensures { IsTrue result ↔ (word.now ≡ codes "serial") }
-{
-    word == "serial"
-}
-
-// Whether the words play a script on one thread.
-fn is_serial(words: &[String]) -> bool
-    ensures { IsTrue result ↔ (texts words.now ≡ serial_words) }
-{
-    match words {
-        [word] => is_serial_word(word.as_str()),
-        _ => false,
-    }
+    /// Where the input is no script, its first line at fault and why it is; at each status but 3 there is none.
+    pub fault: Option<Fault>,
 }
 
 // What is owed for words of no form.
@@ -41,43 +31,67 @@ fn usage(alloc: Global) -> Result<Owed, NoMemory>
     ensures status { IfOk result (λ owed. owed.status ≡ 2) }
     ensures text { IfOk result (λ owed. owed.text.items ≡ usage_text) }
     ensures book { IfOk result (λ owed. owed.book ≡ empty_book) }
+    ensures sound { IfOk result (λ owed. owed.fault ≡ None) }
 {
     Ok(Owed {
         status: 2,
-        text: Vec::from_slice(
-            alloc,
-            b"usage: swift_sim run|serial [--trail] or make|load NUM\n",
-        )?,
+        text: usage_line(alloc)?,
         book: Book::new(alloc, 1, 1),
+        fault: None,
     })
 }
 
 // Reads an input, and what is owed for it.
-fn owed_of<S: Source>(alloc: Global, source: &mut S) -> Result<Owed, ReadFault>
-    ensures owed { IfOk result (IsOwed (given_script (S.left source.old))) }
+fn owed_of<S: Source>(alloc: Global, source: &mut S, trail: bool) -> Result<Owed, ReadFault>
+    ensures owed { IfOk result (IsOwed (given_script trail (S.left source.old))) }
     ensures end { IfOk result (λ owed. owed.status ≡ 0 → IfSome (S.left source.new) (λ rest. rest ≡ [])) }
     ensures failed { result ≡ Err ReadFault.Failed → HasRisen (S.faults source.old) (S.faults source.new) }
     ensures quiet { result ≢ Err ReadFault.Failed → S.faults source.new ≡ S.faults source.old }
 {
     let input = read_input(alloc, source)?;
-    let owed = owed_for(alloc, &input.bytes)?;
+    let owed = owed_for(alloc, &input.bytes, trail)?;
     Ok(owed)
 }
 
-// What is owed for the words and the source, from which nothing is read for words of no form.
-fn owed_to<S: Source>(alloc: Global, words: &[String], source: &mut S) -> Result<Owed, ReadFault>
-    ensures owed { IfOk result (λ owed. (taken : Option (List ℕ)) → IsOwed (given_by words.now (S.left source.old) taken) owed) }
-    ensures end { IfOk result (λ owed. owed.status ≡ 0 → IfSome (S.left source.new) (λ rest. rest ≡ [])) }
-    ensures form { result ≡ Err ReadFault.Failed → texts words.now ≡ serial_words }
+// What is owed for a form. Only a script that is to be played is read from the source.
+fn owed_by<S: Source>(alloc: Global, form: Form, source: &mut S) -> Result<Owed, ReadFault>
+    requires { IsForm form }
+    ensures owed { IfOk result (λ owed. (given : Given) → given.words ≡ spelled form → given.left ≡ S.left source.old → IsOwed given owed) }
+    ensures end { IfOk result (λ owed. owed.status ≡ 0 → IsPlay form → IfSome (S.left source.new) (λ rest. rest ≡ [])) }
+    ensures unread { (IsPlay form → ⊥) → S.left source.new ≡ S.left source.old }
+    ensures play { result ≡ Err ReadFault.Failed → IsPlay form }
     ensures failed { result ≡ Err ReadFault.Failed → HasRisen (S.faults source.old) (S.faults source.new) }
     ensures quiet { result ≢ Err ReadFault.Failed → S.faults source.new ≡ S.faults source.old }
 {
-    if is_serial(words) {
-        let owed = owed_of(alloc, source)?;
-        Ok(owed)
-    } else {
-        let owed = usage(alloc)?;
-        Ok(owed)
+    match form {
+        Form::Serial { trail } => {
+            let owed = owed_of(alloc, source, trail)?;
+            Ok(owed)
+        }
+        Form::Make { num } => Ok(answer(alloc, script_of(alloc, num)?)),
+        Form::Help => Ok(answer(alloc, help(alloc)?)),
+        Form::Version => Ok(answer(alloc, version_line(alloc)?)),
+    }
+}
+
+// What is owed for the words and the source, from which nothing is read for words of another form.
+fn owed_to<S: Source>(alloc: Global, words: &[String], source: &mut S) -> Result<Owed, ReadFault>
+    ensures owed { IfOk result (λ owed. (taken : Option (List ℕ)) → IsOwed (given_by words.now (S.left source.old) taken) owed) }
+    ensures end { IfOk result (λ owed. owed.status ≡ 0 → Plays (texts words.now) → IfSome (S.left source.new) (λ rest. rest ≡ [])) }
+    ensures unread { (Plays (texts words.now) → ⊥) → S.left source.new ≡ S.left source.old }
+    ensures play { result ≡ Err ReadFault.Failed → Plays (texts words.now) }
+    ensures failed { result ≡ Err ReadFault.Failed → HasRisen (S.faults source.old) (S.faults source.new) }
+    ensures quiet { result ≢ Err ReadFault.Failed → S.faults source.new ≡ S.faults source.old }
+{
+    match form_of(alloc, words)? {
+        Some(form) => {
+            let owed = owed_by(alloc, form, source)?;
+            Ok(owed)
+        }
+        None => {
+            let owed = usage(alloc)?;
+            Ok(owed)
+        }
     }
 }
 
@@ -85,17 +99,20 @@ fn owed_to<S: Source>(alloc: Global, words: &[String], source: &mut S) -> Result
 fn ended_empty(alloc: Global, status: u8) -> Ended
     ensures status { result.status ≡ status }
     ensures book { result.book ≡ empty_book }
+    ensures sound { result.fault ≡ None }
 {
     Ended {
         status,
         book: Book::new(alloc, 1, 1),
+        fault: None,
     }
 }
 
 // Runs the words, by what is owed for them.
 fn run<S: Source, W: Sink>(alloc: Global, words: &[String], source: &mut S, sink: &mut W) -> Ended
     ensures ends { EndsSo (given_by words.now (S.left source.old) (W.taken sink.old)) result (W.taken sink.new) }
-    ensures end { result.status ≡ 0 → IfSome (S.left source.new) (λ rest. rest ≡ []) }
+    ensures end { result.status ≡ 0 → Plays (texts words.now) → IfSome (S.left source.new) (λ rest. rest ≡ []) }
+    ensures unread { (Plays (texts words.now) → ⊥) → S.left source.new ≡ S.left source.old }
     ensures read { result.status ≡ 4 → HasRisen (S.faults source.old) (S.faults source.new) }
     ensures write { result.status ≡ 5 → HasRisen (W.faults sink.old) (W.faults sink.new) }
     ensures read_quiet { result.status ≢ 4 → S.faults source.new ≡ S.faults source.old }
@@ -106,10 +123,12 @@ fn run<S: Source, W: Sink>(alloc: Global, words: &[String], source: &mut S, sink
             Ok(()) => Ended {
                 status: owed.status,
                 book: owed.book,
+                fault: owed.fault,
             },
             Err(WriteFault::Failed) => Ended {
                 status: 5,
                 book: owed.book,
+                fault: None,
             },
             Err(WriteFault::NoMemory) => ended_empty(alloc, 6),
         },
@@ -118,9 +137,10 @@ fn run<S: Source, W: Sink>(alloc: Global, words: &[String], source: &mut S, sink
     }
 }
 
-/// Plays the script that the source has where the words are `serial`, and writes the text of the run
-/// to the sink: the values read and the answers of the steps. The statuses are those of [`Ended`].
-/// After the first read or write that fails no other is made. The gate is for runs with threads.
+/// Does what the words ask for ([`Form`]): plays the script that the source has and writes the text of the
+/// run to the sink, the values read and the answers of the steps; writes the script that is made of a number; or
+/// tells how the program is used. The statuses are those of [`Ended`]. After the first read or write that fails
+/// no other is made. The gate is for runs with threads.
 pub fn swift_main<S: Source, W: Sink, G: Gate>(
     alloc: Global,
     words: &[String],
@@ -131,23 +151,29 @@ pub fn swift_main<S: Source, W: Sink, G: Gate>(
     // There are no other statuses.
     ensures statuses { IsStatus result.status }
 
-    // 0: all that the source had is a script that was played, the book is one of its run, and the
-    // sink took the text of that book.
-    ensures success { result.status ≡ 0 → Wrote IsPlayed (given_by words.now (S.left source.old) (W.taken sink.old)) result (W.taken sink.new) }
+    // 0: the words have a form. Where it is one that plays a script, all that the source had is a script that was
+    // played, the book is one of its run, and the sink took the text of that book, and of its trails where they were
+    // asked for. Of a number the sink took the script that is made of it, and of a question the text that answers it;
+    // then the book is empty.
+    ensures success { result.status ≡ 0 → Wrote IsDone (given_by words.now (S.left source.old) (W.taken sink.old)) result (W.taken sink.new) }
 
-    ensures read_to_end { result.status ≡ 0 → IfSome (S.left source.new) (λ rest. rest ≡ []) }
+    ensures read_to_end { result.status ≡ 0 → Plays (texts words.now) → IfSome (S.left source.new) (λ rest. rest ≡ []) }
+
+    // Nothing is read for words that play no script.
+    ensures unread { (Plays (texts words.now) → ⊥) → S.left source.new ≡ S.left source.old }
 
     // Each value that was read stands on a causally closed set of transactions. This set holds all that
     // the session committed and the sets of its earlier reads, each other member of it was known to K
     // centres, and the value is that of the object over the set and the open updates.
-    ensures causal { result.status ≡ 0 → IsCausalRun (S.left source.old) result.book }
+    ensures causal { result.status ≡ 0 → Plays (texts words.now) → IsCausalRun (S.left source.old) result.book }
 
     // 2: words of no form. 3: an input that is no script; the text names the first line at fault and the cause.
     ensures words { result.status ≡ 2 → Wrote IsUsage (given_by words.now (S.left source.old) (W.taken sink.old)) result (W.taken sink.new) }
     ensures refused { result.status ≡ 3 → Wrote IsRefusal (given_by words.now (S.left source.old) (W.taken sink.old)) result (W.taken sink.new) }
 
-    // A script is played where no read and no write failed, or memory ran out.
-    ensures completeness { IsPlayable (given_by words.now (S.left source.old) (W.taken sink.old))
+    // Words of a form are answered, and a script is played where one is to be, where no read and no write failed,
+    // or memory ran out.
+    ensures completeness { IsAnswerable (given_by words.now (S.left source.old) (W.taken sink.old))
         → ¬ HasRisen (S.faults source.old) (S.faults source.new) → ¬ HasRisen (W.faults sink.old) (W.faults sink.new)
         → (result.status ≡ 0) ⊎ (result.status ≡ 6) }
 
@@ -161,6 +187,9 @@ pub fn swift_main<S: Source, W: Sink, G: Gate>(
 
     // 6: want of memory, after nothing or a front of what is owed.
     ensures no_memory { result.status ≡ 6 → WroteShort (given_by words.now (S.left source.old) (W.taken sink.old)) result (W.taken sink.new) }
+
+    // The line at fault is told at status 3 alone.
+    ensures sound { result.status ≢ 3 → result.fault ≡ None }
 
     // At every other status the counts of faults stand as they were.
     ensures read_quiet { result.status ≢ 4 → S.faults source.new ≡ S.faults source.old }

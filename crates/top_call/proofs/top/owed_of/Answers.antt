@@ -4,7 +4,7 @@ use Rattle.top_call.proofs.Owing.{owed_left, end_met}
 use Rattle.top_call.proofs.top.owed_of.Goals as goal
 
 pub returns-clause-owed : goal.returns-clause-owed
-returns-clause-owed g c = owed_left _ _ _ _ _ c.in_ok-input.ensures.taken c.in_ok-input.ensures.limits c.in_ok-input.ensures.whole (subst (λ bytes. IsOwed (given_script (Some bytes)) c.in_ok-owed.owed) c.deref.ensures.value c.in_ok-owed.ensures)
+returns-clause-owed g c = owed_left c.args.trail _ _ _ _ _ c.in_ok-input.ensures.taken c.in_ok-input.ensures.limits c.in_ok-input.ensures.whole (subst (λ bytes. IsOwed (given_script c.args.trail (Some bytes)) c.in_ok-owed.owed) c.deref.ensures.value c.in_ok-owed.ensures)
 
 pub returns-clause-end : goal.returns-clause-end
-returns-clause-end g c = end_met _ _ _ _ c.in_ok-input.ensures.limits c.in_ok-input.ensures.whole (subst (λ bytes. IsOwed (given_script (Some bytes)) c.in_ok-owed.owed) c.deref.ensures.value c.in_ok-owed.ensures)
+returns-clause-end g c = end_met c.args.trail _ _ _ _ c.in_ok-input.ensures.limits c.in_ok-input.ensures.whole (subst (λ bytes. IsOwed (given_script c.args.trail (Some bytes)) c.in_ok-owed.owed) c.deref.ensures.value c.in_ok-owed.ensures)

@@ -1,0 +1,3 @@
+pub mod Numbers
+mod Matches
+pub mod Spelled

@@ -1,0 +1,29 @@
+-- The command line as `clap` sees it.
+use Rattle.std.specs.Prelude.{ℕ, Some, true, codes, [], ◌∷◌}
+use Rattle.clap.specs.Words.{App, Rule, new_app, new_rule, with_rule, with_subcommand}
+use Rattle.clap.specs.declared.builder.action.ArgAction.TheVariants.{Set, SetTrue}
+
+-- the flag `--trail`
+abbrev pub trail_rule : Rule
+trail_rule = record (new_rule (codes "trail")) { long = Some (codes "trail"); action = Some SetTrue }
+
+-- the value NUM
+abbrev pub num_rule : Rule
+num_rule = record (new_rule (codes "num")) { required = true; action = Some Set }
+
+-- `serial` with its flag
+abbrev pub serial_app : App
+serial_app = with_rule (new_app (codes "serial")) trail_rule
+
+-- `make` with its value
+abbrev pub make_app : App
+make_app = with_rule (new_app (codes "make")) num_rule
+
+-- the program, whose words come without its name
+abbrev pub bare_app : App
+bare_app = let app = new_app (codes "swift_sim") in
+    record app { top = record app.top { no_binary_name = true; disable_help_flag = true; disable_help_subcommand = true } }
+
+-- the program with its two subcommands
+abbrev pub program_app : App
+program_app = with_subcommand (with_subcommand bare_app serial_app.top) make_app.top

@@ -1,0 +1,53 @@
+// The form that `clap` found.
+ghost use Rattle.std.specs.Prelude.{◌≡◌, ◌≤◌, ℕ, Bool, Some, IfSome, codes, decimal};
+ghost use Rattle.clap.specs.Words.{first_of, found_of, one_of, rows_of, subcommand_of, subcommand_rows_of};
+ghost use Rattle.command_line.specs.Apps.{program_app};
+ghost use Rattle.command_line.specs.Forms.{IsCommand, IsForm, flag_text, most_num, spelled};
+ghost use Rattle.command_line.specs.declared.form.Form.TheVariants.{Make};
+
+use crate::form::Form;
+use crate::num::num_of;
+use clap::ArgMatches;
+
+// Whether the rows of `serial` have the flag.
+fn has_trail(rows: &ArgMatches<'_>) -> bool
+    ensures { (trail : Bool) → one_of (codes "trail") (rows_of (found_of rows.now)) ≡ Some (flag_text trail) → result ≡ trail }
+{
+    rows.get_flag("trail")
+}
+
+// What is made of the value of `make`.
+fn made(rows: &ArgMatches<'_>) -> Option<Form>
+    ensures found { (num : ℕ) → 1 ≤ num → num ≤ most_num
+        → first_of (codes "num") (rows_of (found_of rows.now)) ≡ Some (decimal num) → result ≡ Some (Make num) }
+    ensures known { IfSome result IsForm }
+{
+    match rows.get_str("num") {
+        Some(word) => match num_of(word) {
+            Some(num) => Some(Form::Make { num }),
+            None => None,
+        },
+        None => None,
+    }
+}
+
+/// The form of the command that was found. Where words that spell a command were read, it is that one.
+pub fn form_in(matches: &ArgMatches<'_>) -> Option<Form>
+    ensures found { (form : Form) → IsCommand form → subcommand_rows_of matches.now ≡ subcommand_of program_app (spelled form) → result ≡ Some form }
+    ensures known { IfSome result IsForm }
+{
+    match matches.subcommand() {
+        Some((name, rows)) => {
+            if name == "serial" {
+                Some(Form::Serial {
+                    trail: has_trail(rows),
+                })
+            } else if name == "make" {
+                made(rows)
+            } else {
+                None
+            }
+        }
+        None => None,
+    }
+}
