@@ -1,9 +1,9 @@
 -- Numbers as words.
-use Rattle.std.proofs.Common.{◌≡◌, ◌<◌, ◌≤◌, ◌+◌, ◌-◌, ◌^◌, ◌∙◌, ℕ, zero, suc, List, [], ◌∷◌, map, length, Result, Ok, subst, sym, ap, refl, arith, get_or, decimal}
+use Rattle.std.proofs.Common.{◌≡◌, ◌<◌, ◌≤◌, ◌+◌, ◌-◌, ℕ, zero, suc, List, [], ◌∷◌, map, Result, Ok, subst, arith, get_or, decimal}
 use Rattle.std.specs.Str.Parse.{ParsesUnsigned}
 use Rattle.std.specs.Int.Digits.{AllBelowBase, digits_of}
 use Rattle.std.proofs.lemmas.Int.Digits.{all_below_base_digits_of, first_digits_of}
-use Rattle.std.proofs.lemmas.Fmt.{decimal-digits_of, decimal_nonempty, parse-decimal}
+use Rattle.std.proofs.lemmas.Fmt.{decimal-digits_of, parse-decimal}
 
 -- what is read of the text of a small number is that number
 pub parsed : {E : Type 0} (num : ℕ) (word : List ℕ) (r : Result ℕ E) → num ≤ 999999999 → word ≡ decimal num → ParsesUnsigned 32 10 word r → r ≡ Ok num

@@ -1,5 +1,5 @@
 -- Words spell one form.
-use Rattle.std.proofs.Common.{◌≡◌, ◌<◌, ◌^◌, ℕ, Bool, true, false, List, [], ◌∷◌, length, get_or, refl, ap, arith, codes, decimal}
+use Rattle.std.proofs.Common.{◌≡◌, ℕ, Bool, true, false, List, [], length, get_or, refl, ap, arith}
 use Rattle.std.proofs.lemmas.Fmt.{decimal_injective}
 use Rattle.command_line.specs.Forms.{IsForm, spelled}
 use Rattle.command_line.specs.declared.form.Form.{Form}

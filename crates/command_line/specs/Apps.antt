@@ -1,5 +1,5 @@
 -- The command line as `clap` sees it.
-use Rattle.std.specs.Prelude.{ℕ, Some, true, codes, [], ◌∷◌}
+use Rattle.std.specs.Prelude.{Some, true, codes}
 use Rattle.clap.specs.Words.{App, Rule, new_app, new_rule, with_rule, with_subcommand}
 use Rattle.clap.specs.declared.builder.action.ArgAction.TheVariants.{Set, SetTrue}
 

@@ -1,4 +1,4 @@
-use Rattle.std.proofs.Common.{◌≡◌, ◌∙◌, ℕ, List, Option, Some, None, rules}
+use Rattle.std.proofs.Common.{◌∙◌, rules}
 use Rattle.clap.specs.Words.{subcommand_rows_of}
 use Rattle.command_line.proofs.Matches.{make_form, name_is, no_form, serial_form}
 use Rattle.command_line.proofs.matched.form_in.Goals as goal

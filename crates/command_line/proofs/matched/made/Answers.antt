@@ -1,4 +1,4 @@
-use Rattle.std.proofs.Common.{◌≡◌, ◌≤◌, ◌∙◌, ℕ, List, Option, Some, None, sym, ap, codes, decimal}
+use Rattle.std.proofs.Common.{◌∙◌, sym, ap, codes, decimal}
 use Rattle.std.specs.Option.{option_map}
 use Rattle.clap.specs.Words.{found_of}
 use Rattle.clap.proofs.WalkLemmas.{first_value-rows}

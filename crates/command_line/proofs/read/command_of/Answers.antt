@@ -1,4 +1,4 @@
-use Rattle.std.proofs.Common.{◌≡◌, ◌∙◌, ℕ, List, Option, Some, None, sym, ap, true, is_some, true≢false}
+use Rattle.std.proofs.Common.{◌∙◌, sym, ap, is_some, true≢false}
 use Rattle.clap.specs.Words.{takes}
 use Rattle.command_line.specs.Apps.{program_app}
 use Rattle.command_line.proofs.Matches.{command_taken}
