@@ -53,7 +53,7 @@ one_run words bytes taken again one two p q =
     let trails = same_trail_texts script one.book two.book (are_runs script one.book two.book p.run.run ran) in
     let flag : p.trail ≡ q.trail = one_flag p.trail q.trail (sym p.form ∙ q.form) in
     let text : run_text p.trail one.book (setup_of script) ≡ run_text q.trail two.book (setup_of q.run.read.script) =
-        run_texts p.trail one.book two.book (setup_of script) book.texts trails ∙ λ i. run_text (flag i) two.book (setup_of (read i).script) in
+    run_texts p.trail one.book two.book (setup_of script) book.texts trails ∙ λ i. run_text (flag i) two.book (setup_of (read i).script) in
     record { status = p.status ∙ sym q.status; text = p.text ∙ (text ∙ sym q.text); book = book }
 
 -- a question is a form that the program knows

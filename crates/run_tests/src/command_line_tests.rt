@@ -16,9 +16,24 @@ fn form(alloc: Global, words: &[&str]) -> Result<Option<Form>, NoMemory> {
 #[test]
 fn words_spell_forms(rt: HostRuntime) -> Result<(), Fail> {
     let alloc = rt.alloc();
-    assert!(rt; matches!(form(alloc, &["serial"])?, Some(Form::Serial { trail: false })));
-    assert!(rt; matches!(form(alloc, &["serial", "--trail"])?, Some(Form::Serial { trail: true })));
-    assert!(rt; matches!(form(alloc, &["make", "999999999"])?, Some(Form::Make { num: 999_999_999 })));
+    assert!(rt;
+        matches!(
+            form(alloc, &["serial"])?,
+            Some(Form::Serial { trail: false })
+        )
+    );
+    assert!(rt;
+        matches!(
+            form(alloc, &["serial", "--trail"])?,
+            Some(Form::Serial { trail: true })
+        )
+    );
+    assert!(rt;
+        matches!(
+            form(alloc, &["make", "999999999"])?,
+            Some(Form::Make { num: 999_999_999 })
+        )
+    );
     assert!(rt; matches!(form(alloc, &["--help"])?, Some(Form::Help)));
     assert!(rt; matches!(form(alloc, &["--version"])?, Some(Form::Version)));
     assert!(rt; form(alloc, &["make", "01"])?.is_none());
@@ -30,7 +45,10 @@ fn words_spell_forms(rt: HostRuntime) -> Result<(), Fail> {
 fn words_are_answered(rt: HostRuntime) -> Result<(), Fail> {
     let usage = b"usage: swift_sim run|serial [--trail] or make|load NUM\n";
     assert_eq!(rt; usage_line(rt.alloc())?.as_slice(), usage.as_slice());
-    assert_eq!(rt; version_line(rt.alloc())?.as_slice(), b"swift_sim 0.1.0\n".as_slice());
+    assert_eq!(rt;
+        version_line(rt.alloc())?.as_slice(),
+        b"swift_sim 0.1.0\n".as_slice()
+    );
     assert!(rt; help(rt.alloc())?.starts_with(b"swift_sim plays a script"));
     Ok(())
 }

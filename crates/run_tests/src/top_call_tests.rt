@@ -1,8 +1,8 @@
 // The top call on small scripts, and on sources and sinks that fail.
 use io_edge::{FreeGate, MemorySink, MemorySource, SteadySink, SteadySource};
+use script_reader::Cause;
 use std::alloc::{AllocError, Global};
 use std::test::Fail;
-use script_reader::Cause;
 use top_call::{Ended, Fault, swift_main};
 
 const FIRST_PATH: &[u8] =
@@ -11,7 +11,8 @@ const FIRST_PATH: &[u8] =
 const FIRST_TEXT: &[u8] =
     b"c1 at 1\nc1 read c.a 5\nc1 commit 1\nc1 push 1 stamp 1:1\nc1 sees 1 own 1\n";
 
-const FIRST_TRAIL: &[u8] = b"trail 1 1 by 2 hello welcome 0\ntrail 1 2 by 2 fetch c.a object\ntrail 1 3 by 2 commit 1.1 stamped 1:1\ntrail 1 4 by 2 refresh snap 1 own 1 top 1\nbasis c1 1\n";
+const FIRST_TRAIL: &[u8] =
+    b"trail 1 1 by 2 hello welcome 0\ntrail 1 2 by 2 fetch c.a object\ntrail 1 3 by 2 commit 1.1 stamped 1:1\ntrail 1 4 by 2 refresh snap 1 own 1 top 1\nbasis c1 1\n";
 
 // A list of words.
 fn words_of(alloc: Global, list: &[&str]) -> Result<Vec<String>, AllocError> {
@@ -55,7 +56,10 @@ fn the_trails_follow_the_text(rt: HostRuntime) -> Result<(), Fail> {
     assert_eq!(rt; ended.status, 0);
     assert!(rt; sink.bytes().starts_with(FIRST_TEXT));
     assert!(rt; sink.bytes().ends_with(FIRST_TRAIL));
-    assert_eq!(rt; sink.bytes().len(), FIRST_TEXT.len().saturating_add(FIRST_TRAIL.len()));
+    assert_eq!(rt;
+        sink.bytes().len(),
+        FIRST_TEXT.len().saturating_add(FIRST_TRAIL.len())
+    );
     Ok(())
 }
 
@@ -76,7 +80,15 @@ fn an_input_that_is_no_script_is_refused(rt: HostRuntime) -> Result<(), Fail> {
     let ended = played(rt.alloc(), b"centres 1 k 1\n", &mut sink)?;
     assert_eq!(rt; ended.status, 3);
     assert_eq!(rt; sink.bytes(), b"refused line 2 place\n".as_slice());
-    assert!(rt; matches!(ended.fault, Some(Fault { line: 2, cause: Cause::Place })));
+    assert!(rt;
+        matches!(
+            ended.fault,
+            Some(Fault {
+                line: 2,
+                cause: Cause::Place
+            })
+        )
+    );
     Ok(())
 }
 
