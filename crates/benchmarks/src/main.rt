@@ -1,10 +1,11 @@
-//! What the benchmarks time, by the first word: `sets`, `session`, `centre` or `log`. Each of these modules
+//! What the benchmarks time, by the first word: `sets`, `session`, `centre`, `log` or `lock`. Each of these modules
 //! says which words follow. A number is printed, by which a script knows that the work was done.
 #![tactic(auto)]
 
 mod centre;
 mod counter;
 mod fault;
+mod lock;
 mod log;
 mod session;
 mod sets;
@@ -12,10 +13,16 @@ mod sets;
 use fault::Fault;
 use std::alloc::Global;
 use std::process::ExitCode;
+use std::sync::Wait;
+use std::thread::Threads;
 use std::{env, io};
 
 // What the work gives that the words name; nothing where they are of no form.
-fn worked(alloc: Global, words: &[String]) -> Option<Result<i128, Fault>> {
+fn worked<R: Threads + Wait + Sync>(
+    rt: &R,
+    alloc: Global,
+    words: &[String],
+) -> Option<Result<i128, Fault>> {
     match words {
         [part, form, count] => match part.as_str() {
             "sets" => sets::worked(alloc, form.as_str(), count.as_str()),
@@ -26,6 +33,7 @@ fn worked(alloc: Global, words: &[String]) -> Option<Result<i128, Fault>> {
             "session" => {
                 session::worked(alloc, form.as_str(), pending.as_str(), rounds.as_str())
             }
+            "lock" => { lock::worked(rt, alloc, form.as_str(), pending.as_str(), rounds.as_str()) }
             "log" => log::worked(alloc, form.as_str(), pending.as_str(), rounds.as_str()),
             _ => None,
         },
@@ -38,7 +46,7 @@ fn main(rt: HostRuntime) -> io::Result<ExitCode> {
     for word in env::args(&rt)?.skip(1) {
         words.push(word)?;
     }
-    match worked(rt.alloc(), &words) {
+    match worked(&rt, rt.alloc(), &words) {
         Some(Ok(value)) => {
             println!(rt; "{value}")?;
             Ok(ExitCode::from(0))

@@ -8,3 +8,7 @@ mod dc_host_tests;
 mod held;
 #[cfg(test)]
 mod host_lock_tests;
+#[cfg(test)]
+mod mail_link_tests;
+#[cfg(test)]
+mod meeting_tests;
