@@ -1,10 +1,9 @@
 -- Callers of one host.
-use Rattle.std.specs.Prelude.{◌≡◌, List, length}
-use Rattle.dc_host.specs.HostDoors.{CentreHost}
+use Rattle.std.specs.Prelude.{◌≡◌, ℕ, List, length}
+use Rattle.dc_host.specs.HostDoors.{CentreHost, CentrePass}
 use Rattle.dc_host.specs.Hosts.{new_row}
-use Rattle.lock_tests.specs.declared.meeting_tests.Caller.{Caller}
 
--- a caller of one host that has made no call, with a pass for the host
-pub record IsCaller (hosts : List CentreHost) (caller : Caller) : Type 0 where
+-- a caller of one host, with this number and a pass for the host, has made no call
+pub record IsCaller (hosts : List CentreHost) (actor : ℕ) (passes : List CentrePass) : Type 0 where
   pub alone : length hosts ≡ 1
-  pub passes : caller.passes.items ≡ new_row hosts caller.actor
+  pub row : passes ≡ new_row hosts actor

@@ -58,7 +58,7 @@ fn dealt(
     requires number { length hosts.now.hosts ≡ 1 }
     requires rows { rows_of rows.items ≡ new_rows hosts.now.hosts first (length rows.items) }
     requires room { first + length rows.items < 2 ^ 32 }
-    ensures { IfOk result (λ callers. All (IsCaller hosts.now.hosts) callers.items) }
+    ensures { IfOk result (λ callers. All (λ caller. IsCaller hosts.now.hosts caller.actor caller.passes.items) callers.items) }
 {
     if rows.is_empty() {
         return Ok(Vec::new(alloc));
@@ -77,7 +77,7 @@ fn dealt(
 
 // Whether centre 1 reports to a caller through a door of its own.
 fn reports<R: Wait, G: Gate + Drop>(rt: &R, hosts: &Hosts, gate: G, caller: Caller) -> bool
-    requires { IsCaller hosts.now.hosts caller }
+    requires { IsCaller hosts.now.hosts caller.actor caller.passes.items }
 {
     let Caller { actor, passes } = caller;
     let mut door = HostDoor::new(rt, hosts, passes, actor, gate);
@@ -92,10 +92,10 @@ fn meet<R: Threads + Wait + Sync + Drop>(
     gate: &Meeting<R>,
     callers: Vec<Caller>,
 ) -> Option<usize>
-    requires { All (IsCaller hosts.now.hosts) callers.items }
+    requires { All (λ caller. IsCaller hosts.now.hosts caller.actor caller.passes.items) callers.items }
 {
     let each = |caller: Caller| -> bool
-        requires { IsCaller hosts.now.hosts caller }
+        requires { IsCaller hosts.now.hosts caller.actor caller.passes.items }
     { reports(rt, hosts, gate, caller) };
     let said = thread::map_vec(rt, callers, &each).ok()?;
     Some(said.iter().filter(|answered| **answered).count())
