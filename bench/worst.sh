@@ -159,11 +159,11 @@ wanted() {
 }
 
 # What a fetch or a refresh costs is the centre's: those may take as long as a walk over all records does.
-wanted one "$@" && table one 2667 4.8
-wanted hundred "$@" && table hundred 1600 4.8
-wanted names "$@" && table names 2500 4.8
-wanted reads "$@" && table reads 9000 2.4
-wanted adds "$@" && table adds 1175 2.4
+wanted one "$@" && table one 2667 2.2
+wanted hundred "$@" && table hundred 1600 2.2
+wanted names "$@" && table names 2500 2.2
+wanted reads "$@" && table reads 9000 2.2
+wanted adds "$@" && table adds 1175 2.2
 wanted words "$@" && table words 286 4.8
 wanted crowd "$@" && table crowd 64 9
 exit "$status"
