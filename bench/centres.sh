@@ -3,7 +3,7 @@
 # 1,000 to 16,000 lines, with the built program, and prints the rows of the tables in docs/benchmarks.md:
 # of scripts that fetch no object and take no snapshot, and of scripts that do both. Each time is the
 # least of nine runs. The status is 1 where a doubling of the former takes more than 2.6 times as long or
-# one of the latter more than 4.5 times, or the program gives a wrong end.
+# one of the latter more than 2.8 times, or the program gives a wrong end.
 #   bench/centres.sh             times crates/swift_sim/out/swift_sim
 #   SWIFT_SIM=FILE bench/centres.sh     times another program
 set -u
@@ -63,5 +63,5 @@ head_of 'without reads and snapshots: lines' seconds 'ratio to the row above'
 table 0 2.6
 echo
 head_of 'with both: lines' seconds 'ratio to the row above'
-table 1 4.5
+table 1 2.8
 exit "$status"

@@ -1,7 +1,7 @@
 #!/bin/sh
 # Times `swift_sim serial` on scripts of 500, 1,000, 2,000 and 4,000 blocks, with the built program,
 # and prints the rows of the table in docs/benchmarks.md. Each time is the least of three runs. The
-# status is 1 where a doubling takes more than 4.5 times as long, or the program gives a wrong end.
+# status is 1 where a doubling takes more than 2.3 times as long, or the program gives a wrong end.
 #   bench/first_path.sh             times crates/swift_sim/out/swift_sim
 #   SWIFT_SIM=FILE bench/first_path.sh     times another program
 set -u
@@ -28,7 +28,7 @@ head_of blocks seconds 'ratio to the row above'
 for count in 500 1000 2000 4000; do
     blocks "$count" >"$room/script"
     took=$(least 3 "$count") || wrong "$count" blocks
-    row "$count" "$took" "$before" 4.5
+    row "$count" "$took" "$before" 2.3
     before=$took
 done
 exit "$status"

@@ -59,3 +59,22 @@ wrong() {
     echo "the program gave a wrong end for $*" >&2
     exit 1
 }
+
+# turns COUNT: a script of 100 clients that take turns, so many of them, each with one commit: of a
+# counter, and of an object of one kind after another.
+turns() {
+    awk -v count="$1" 'BEGIN {
+        print "centres 1 k 1\nclients 100"
+        for (client = 1; client <= 100; client++) print "c" client " connect 1"
+        for (turn = 0; turn < count; turn++) {
+            c = "c" (turn * 37) % 100 + 1
+            print c " begin\n" c " inc c.total 1"
+            if (turn % 4 == 0) print c " inc c.side 1\n" c " read c.side"
+            if (turn % 4 == 1) print c " set r.note w" turn % 50 "\n" c " read r.note"
+            if (turn % 4 == 2) print c " add s.cart w" turn % 50 "\n" c " read s.cart"
+            if (turn % 4 == 3) print c " put m.cart k" turn % 50 " w" turn % 7 "\n" c " read m.cart"
+            print c " read c.total\n" c " commit\n" c " push\n" c " refresh\n" c " read r.note"
+            print c " read c.total"
+        }
+    }'
+}

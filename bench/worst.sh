@@ -2,8 +2,9 @@
 # Times `swift_sim serial` on seven kinds of scripts in which most time or memory went, each at three
 # sizes, with the built program, and prints the rows of the tables in docs/benchmarks.md: the lines of a
 # script, the seconds of processor, the greatest memory, and how much longer a script took than one half
-# as long. Each time is the least of three runs. The status is 1 where a doubling of a script that has no
-# news from the centre takes more than 2.4 times as long, or the program gives a wrong end.
+# as long. Each time is the least of three runs. The status is 1 where a doubling takes more than 2.2 times as
+# long, or 4.8 times where each fetch is answered with a state of its own (words, crowd), or the program gives a
+# wrong end.
 #   bench/worst.sh             times crates/swift_sim/out/swift_sim
 #   bench/worst.sh NAME..      only these kinds
 #   SWIFT_SIM=FILE bench/worst.sh     times another program
@@ -23,20 +24,7 @@ one() {
 
 # hundred TURNS: 100 clients that take turns, with two objects each.
 hundred() {
-    awk -v count="$1" 'BEGIN {
-        print "centres 1 k 1\nclients 100"
-        for (client = 1; client <= 100; client++) print "c" client " connect 1"
-        for (turn = 0; turn < count; turn++) {
-            c = "c" (turn * 37) % 100 + 1
-            print c " begin\n" c " inc c.total 1"
-            if (turn % 4 == 0) print c " inc c.side 1\n" c " read c.side"
-            if (turn % 4 == 1) print c " set r.note w" turn % 50 "\n" c " read r.note"
-            if (turn % 4 == 2) print c " add s.cart w" turn % 50 "\n" c " read s.cart"
-            if (turn % 4 == 3) print c " put m.cart k" turn % 50 " w" turn % 7 "\n" c " read m.cart"
-            print c " read c.total\n" c " commit\n" c " push\n" c " refresh\n" c " read r.note"
-            print c " read c.total"
-        }
-    }'
+    turns "$1"
 }
 
 # names BLOCKS: a client that changes, reads and sends a counter of another name in each block.
@@ -158,12 +146,11 @@ wanted() {
     return 1
 }
 
-# What a fetch or a refresh costs is the centre's: those may take as long as a walk over all records does.
 wanted one "$@" && table one 2667 2.2
 wanted hundred "$@" && table hundred 1600 2.2
 wanted names "$@" && table names 2500 2.2
 wanted reads "$@" && table reads 9000 2.2
 wanted adds "$@" && table adds 1175 2.2
 wanted words "$@" && table words 286 4.8
-wanted crowd "$@" && table crowd 64 9
+wanted crowd "$@" && table crowd 256 4.8
 exit "$status"
