@@ -8,3 +8,6 @@ pub mod Deeds
 pub mod Carrying
 pub mod Orders
 pub mod Provenance
+pub mod Links
+pub mod Rounds
+pub mod Mail

@@ -10,7 +10,7 @@ use Rattle.dc_talk.specs.declared.log.Deed.TheVariants.{Asked}
 use Rattle.dc_talk.specs.declared.line.Line.{Line}
 use Rattle.dc_talk.specs.declared.line.Line.TheVariants as line
 use Rattle.script_text.specs.declared.steps.OperatorStep.{OperatorStep}
-use Rattle.script_text.specs.declared.steps.OperatorStep.TheVariants.{Down, Up, ShipOne, Ship, Tell, Prune, Settle}
+use Rattle.script_text.specs.declared.steps.OperatorStep.TheVariants.{Down, Up, ShipOne, Ship, Tell, Prune, Link, Settle}
 use Rattle.script_text.specs.Deeds.{told}
 use Rattle.script_text.specs.Carrying.{route, ShipsOne, ShipsAll, TellsOne, Settles}
 
@@ -37,4 +37,5 @@ OperatorDeeds n (ShipOne from to seq) deeds = ShipsOne (route from to) seq deeds
 OperatorDeeds n (Ship from to) deeds = ShipsAll (route from to) deeds
 OperatorDeeds n (Tell from to) deeds = TellsOne (route from to) deeds
 OperatorDeeds n (Prune centre) deeds = PrunesOne centre deeds
+OperatorDeeds n (Link from to fault) deeds = deeds ≡ []
 OperatorDeeds n Settle deeds = Settles n deeds

@@ -1,14 +1,39 @@
--- The sections of a script: each step is one.
-use Rattle.std.specs.Prelude.{◌≡◌, [], ◌∷◌}
+-- The sections of a script: each step is one, but for those of a phase, which are one together.
+use Rattle.std.specs.Prelude.{◌≡◌, ◌≤◌, ◌⊎◌, true, false, All, length, [], ◌∷◌}
 use Rattle.script_text.specs.Steps.{IsStepOf}
+use Rattle.script_text.specs.declared.limits.TheConstants.{MAX_LINES}
 use Rattle.script_text.specs.declared.script.Header.{Header}
+use Rattle.script_text.specs.declared.steps.OperatorStep.{OperatorStep}
+use Rattle.script_text.specs.declared.steps.OperatorStep.TheVariants.{Link, Settle}
 use Rattle.script_text.specs.declared.steps.Step.{Step}
+use Rattle.script_text.specs.declared.steps.Step.TheVariants.{Client, Operator}
 use Rattle.script_text.specs.declared.steps.Section.{Section}
 
 -- a step as a section of its own
 abbrev pub section_of : Step → Section
-section_of step = record { steps = step ∷ [] }
+section_of step = record { phase = false; steps = step ∷ [] }
 
 -- a section that is one step, of a script with this header
 abbrev pub IsLine : Header → Section → Type 0
 IsLine header section = (step : Step) × (section ≡ section_of step) × IsStepOf header step
+
+-- a step of the operator may stand in a phase: it settles nothing, and sets no link
+abbrev pub IsOrderInPhase : OperatorStep → Type 0
+IsOrderInPhase (Link from to fault) = ⊥
+IsOrderInPhase Settle = ⊥
+IsOrderInPhase step = Unit {0}
+
+-- a step may stand in a phase
+abbrev pub IsInPhase : Step → Type 0
+IsInPhase (Client client step) = Unit {0}
+IsInPhase (Operator step) = IsOrderInPhase step
+
+-- a phase, of a script with this header
+pub record IsPhase (header : Header) (section : Section) : Type 0 where
+  pub phase : section.phase ≡ true
+  pub steps : All (λ step. IsStepOf header step × IsInPhase step) section.steps
+  pub few : length section.steps ≤ MAX_LINES
+
+-- a section: one step, or a phase
+abbrev pub IsSection : Header → Section → Type 0
+IsSection header section = IsLine header section ⊎ IsPhase header section

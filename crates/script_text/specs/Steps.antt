@@ -11,11 +11,14 @@ use Rattle.dc_talk.specs.declared.calls.Change.TheVariants.{Inc, Write, Add, Rem
 use Rattle.dc_talk.specs.Calls.{sort_of_change}
 use Rattle.dc_talk.specs.declared.line.StepWord.{StepWord}
 use Rattle.dc_talk.specs.declared.line.StepWord.TheVariants.{Inc as IncWord, Set as SetWord, Add as AddWord, Del as DelWord, Put as PutWord, Drop as DropWord, Read as ReadWord}
+use Rattle.dc_talk.specs.declared.links.LinkFault.{LinkFault}
+use Rattle.dc_talk.specs.declared.links.LinkFault.TheVariants.{Clean, Drop, Twice, Hold}
+use Rattle.script_text.specs.declared.rounds.TheConstants.{MOST_EVERY}
 use Rattle.script_text.specs.declared.script.Header.{Header}
 use Rattle.script_text.specs.declared.steps.ClientStep.{ClientStep}
 use Rattle.script_text.specs.declared.steps.ClientStep.TheVariants.{Connect, Begin, Change, Read, Commit, Abort, Push, Flush, Refresh, Again, Arm}
 use Rattle.script_text.specs.declared.steps.OperatorStep.{OperatorStep}
-use Rattle.script_text.specs.declared.steps.OperatorStep.TheVariants.{Down, Up, ShipOne, Ship, Tell, Prune, Settle}
+use Rattle.script_text.specs.declared.steps.OperatorStep.TheVariants.{Down, Up, ShipOne, Ship, Tell, Prune, Link, Settle}
 use Rattle.script_text.specs.declared.steps.Step.{Step}
 use Rattle.script_text.specs.declared.steps.Step.TheVariants.{Client, Operator}
 
@@ -84,6 +87,13 @@ pub record IsRoute (n from to : ℕ) : Type 0 where
   pub to_there : IsCount n to
   pub apart : from ≢ to
 
+-- a fault of a link acts on each so-many-th item, from each one to each millionth
+abbrev pub IsFault : LinkFault → Type 0
+IsFault Clean = Unit {0}
+IsFault (Drop every) = IsCount MOST_EVERY every
+IsFault (Twice every) = IsCount MOST_EVERY every
+IsFault (Hold every) = IsCount MOST_EVERY every
+
 -- what the operator may do in a script of n centres
 abbrev pub IsOperatorStep : ℕ → OperatorStep → Type 0
 IsOperatorStep n (Down centre) = IsCount n centre
@@ -92,6 +102,7 @@ IsOperatorStep n (ShipOne from to seq) = IsRoute n from to × IsCount MOST_RECOR
 IsOperatorStep n (Ship from to) = IsRoute n from to
 IsOperatorStep n (Tell from to) = IsRoute n from to
 IsOperatorStep n (Prune centre) = IsCount n centre
+IsOperatorStep n (Link from to fault) = IsRoute n from to × IsFault fault
 IsOperatorStep n Settle = Unit {0}
 
 -- a step of one of the clients, or of the operator

@@ -3,10 +3,14 @@
 
 mod limits;
 mod object_call;
+mod rounds;
 mod script;
 mod steps;
 
 pub use limits::{LineCount, MAX_LINE, MAX_LINES};
 pub use object_call::ObjectCall;
-pub use script::{DEFAULT_CACHE, Header, Script};
+pub use rounds::{MOST_EVERY, MOST_MAILED, ROUNDS_BETWEEN_PRUNES, Role};
+pub use script::{
+    DEFAULT_CACHE, DEFAULT_ROUNDS, DEFAULT_THREADS, Header, MOST_ROUNDS, MOST_THREADS, Script,
+};
 pub use steps::{AskFault, ClientStep, OperatorStep, Section, Sections, Step, Steps};

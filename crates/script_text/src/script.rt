@@ -15,6 +15,18 @@ pub struct Header {
     pub clients: u32,
 }
 
+/// How many threads play a phase where no line says it.
+pub const DEFAULT_THREADS: u32 = 4;
+
+/// The most threads that play a phase.
+pub const MOST_THREADS: u32 = 16;
+
+/// How many rounds a worker makes in a phase where no line says it.
+pub const DEFAULT_ROUNDS: u32 = 32;
+
+/// The most rounds of a worker in a phase.
+pub const MOST_ROUNDS: u32 = 1_000;
+
 /// A script: its settings and its steps.
 #[derive(Drop)]
 pub struct Script {
@@ -28,5 +40,9 @@ pub struct Script {
     pub cache: u32,
     /// How many transactions a centre stamps at most, from 1 to 1,000,000.
     pub limit: u64,
+    /// How many threads play a phase, from 1 to 16.
+    pub threads: u32,
+    /// How many rounds a worker makes in a phase, from 0 to 1,000.
+    pub rounds: u32,
     pub sections: Sections,
 }

@@ -1,5 +1,5 @@
 // The steps of a script.
-use dc_talk::Change;
+use dc_talk::{Change, LinkFault};
 use ids_core::ObjectId;
 use list_core::List;
 
@@ -58,6 +58,9 @@ pub enum OperatorStep {
     Tell { from: u8, to: u8 },
     /// Has the centre fold what may be folded, and let go of its own records that all centres have.
     Prune { centre: u8 },
+    /// Sets what the link from one centre to another makes of the items that are taken from it in the phases that
+    /// follow, in place of what was set before, and counts its items anew.
+    Link { from: u8, to: u8, fault: LinkFault },
     /// Delivers and tells between all centres until nothing is new to any that is running.
     Settle,
 }
@@ -77,6 +80,8 @@ pub type Steps = List<Step>;
 /// A part of a script: nothing of another part is done before all its steps are.
 #[derive(Drop)]
 pub struct Section {
+    /// Whether it is a phase, in which the workers of the centres make their rounds beside its steps. Else it is one step.
+    pub phase: bool,
     pub steps: Steps,
 }
 
