@@ -2,7 +2,6 @@ pub mod Books
 pub mod Setups
 pub mod Parts
 pub mod Fit
-pub mod Scripted
 pub mod Graphs
 pub mod Sound
 pub mod Known
@@ -11,10 +10,12 @@ pub mod Laws
 pub mod Numbers
 pub mod Refusals
 pub mod Happenings
-pub mod Played
 pub mod Edits
 pub mod Replay
 pub mod Basis
 pub mod ReadBases
 pub mod BareNodes
 pub mod ReadValues
+pub mod Moves
+pub mod Played
+pub mod Scripted

@@ -1,44 +1,68 @@
--- What clients and the operator leave by the sections of a script, where each section is one step.
-use Rattle.std.specs.Prelude.{◌≡◌, ℕ, ◌+◌, ◌≤◌, ◌<◌, fold, length, All, List, [], ◌++◌, Some, slice_get}
+-- What moves leave, one after another.
+use Rattle.std.specs.Prelude.{◌≡◌, ℕ, ◌==◌, ◌&&◌, not, cond, map, All, List, [], ◌∷◌, ◌++◌, None}
+use Rattle.dc_talk.specs.declared.log.Deed.{Deed}
 use Rattle.dc_talk.specs.declared.log.Note.{Note}
-use Rattle.dc_talk.specs.Logs.{Ascend}
-use Rattle.dc_talk.specs.Rule.{after}
-use Rattle.script_text.specs.declared.steps.ClientStep.{ClientStep}
-use Rattle.script_text.specs.declared.steps.Section.{Section}
-use Rattle.script_text.specs.declared.steps.Step.{Step}
-use Rattle.script_text.specs.declared.steps.Step.TheVariants.{Client, Operator}
-use Rattle.script_text.specs.Rows.{section_of}
-use Rattle.script_text.specs.Deeds.{Progress}
-use Rattle.run_book.specs.Setups.{Setup}
-use Rattle.run_book.specs.Scripted.{Placed, placed_from, client_steps, operator_steps, new_progress, Plays, Operates}
-use Rattle.run_book.specs.Happenings.{Happened, notes_by, all_notes}
+use Rattle.dc_talk.specs.Clients.{new_client}
+use Rattle.script_text.specs.declared.script.Script.{Script}
+use Rattle.script_text.specs.declared.steps.OperatorStep.TheVariants.{Link}
+use Rattle.script_text.specs.declared.rounds.Role.TheVariants.{Sender, Receiver, Reporter, Pruner}
+use Rattle.script_text.specs.Deeds.{Progress, StepDeeds, stepped}
+use Rattle.script_text.specs.Orders.{OperatorDeeds}
+use Rattle.script_text.specs.Mail.{Post, new_post, post_put, due_in_round, post_after_round, due_at_close, post_closed, post_set}
+use Rattle.script_text.specs.Rounds.{SenderDeeds, mailed, ReceiverDeeds, ReporterDeeds, PrunerDeeds}
+use Rattle.run_book.specs.Happenings.{Happened, happening}
+use Rattle.run_book.specs.Moves.{Does, client_does, operator_does, worker_does, closes, Move, actor_of}
 
--- a client that was as far as one progress comes to another by these steps, with these notes: what it plays from
--- there on goes on with what it played before
-pub record ComesTo (old : Progress) (lines : List (Placed ClientStep)) (notes : List Note) (new : Progress) : Type 0 where
-  pub client_is : new.client ≡ fold (λ s note. after s note.deed) old.client notes
-  pub notes_are : new.notes ≡ old.notes ++ notes
-  pub goes_on : (more : List (Placed ClientStep)) (later : List Note) → Plays new more later → Plays old (lines ++ more) (notes ++ later)
+-- how far each client has come, and what lies on the link from one centre to another
+pub record Stage : Type 0 where
+  pub come : ℕ → Progress
+  pub posts : ℕ → ℕ → Post
 
--- the actor whose step it is
-abbrev pub actor_of : Step → ℕ
-actor_of (Client client step) = client + 1
-actor_of (Operator step) = 1
+-- a client among n centres, at first: no fault is armed, and its log is empty
+abbrev pub new_progress : ℕ → ℕ → ℕ → Progress
+new_progress n client capacity = record { client = new_client n client capacity; armed = None; notes = [] }
 
--- it happened in the only step of one of the sections, and the step's actor noted it
-pub record IsOfStep (sections : List Section) (h : Happened) : Type 0 where
-  pub place : ℕ
-  pub step : Step
-  pub there : slice_get sections place ≡ Some (section_of step)
-  pub actor : h.actor ≡ actor_of step
-  pub section : h.note.section ≡ place + 1
-  pub first : h.note.step ≡ 1
+-- a script's stage at first
+abbrev pub first_stage : Script → Stage
+first_stage script = record { come = λ client. new_progress script.n client script.cache; posts = λ from to. new_post }
 
--- this happened as the actors of a setup with n centres took the steps of these sections, one after another; each
--- client has come so far
-pub record HavePlayed (n : ℕ) (setup : Setup) (sections : List Section) (all : List Happened) (come : ℕ → Progress) : Type 0 where
-  pub clients : (client : ℕ) → 1 ≤ client → client ≤ setup.clients → ComesTo (new_progress n client setup.capacity) (placed_from (client_steps client) 1 sections) (notes_by (client + 1) all) (come client)
-  pub operator : Operates n (placed_from operator_steps 1 sections) (notes_by 1 all)
-  pub workers : (a : ℕ) → setup.clients + 1 < a → notes_by a all ≡ []
-  pub of_steps : All (IsOfStep sections) all
-  pub ascend : Ascend 1 (length sections) (all_notes all)
+-- the deeds are those of what is done next among n centres, in a step or round of this number
+abbrev pub DoesSo : ℕ → Stage → ℕ → Does → List Deed → Type 0
+DoesSo n stage number (client_does client step) deeds = StepDeeds (stage.come client) step deeds
+DoesSo n stage number (operator_does step) deeds = OperatorDeeds n step deeds
+DoesSo n stage number (worker_does i Sender) deeds = SenderDeeds n i deeds
+DoesSo n stage number (worker_does i Receiver) deeds = ReceiverDeeds n i (λ from. due_in_round (stage.posts from i)) deeds
+DoesSo n stage number (worker_does i Reporter) deeds = ReporterDeeds n i deeds
+DoesSo n stage number (worker_does i Pruner) deeds = PrunerDeeds i number deeds
+DoesSo n stage number (closes i) deeds = ReceiverDeeds n i (λ from. due_at_close (stage.posts from i)) deeds
+
+-- how far a client has come when that was noted
+abbrev pub come_after : Does → List Note → (ℕ → Progress) → ℕ → Progress
+come_after (client_does client step) notes come other = cond (other == client) (stepped (come client) step notes) (come other)
+come_after does notes come other = come other
+
+-- what lies on a link then
+abbrev pub posts_after : Does → List Deed → (ℕ → ℕ → Post) → ℕ → ℕ → Post
+posts_after (operator_does (Link i j fault)) deeds posts from to = cond (from == i && to == j) (post_set fault (posts from to)) (posts from to)
+posts_after (worker_does i Sender) deeds posts from to = cond (from == i && not (to == i)) (post_put (mailed to deeds) (posts from to)) (posts from to)
+posts_after (worker_does i Receiver) deeds posts from to = cond (to == i && not (from == i)) (post_after_round (posts from to)) (posts from to)
+posts_after (closes i) deeds posts from to = cond (to == i && not (from == i)) (post_closed (posts from to)) (posts from to)
+posts_after does deeds posts from to = posts from to
+
+-- the stage then
+abbrev pub stage_after : Does → List Note → Stage → Stage
+stage_after does notes stage = record { come = come_after does notes stage.come; posts = posts_after does (map (λ note. note.deed) notes) stage.posts }
+
+-- the note is of this section and step
+pub record IsAt (section step : ℕ) (note : Note) : Type 0 where
+  pub section_is : note.section ≡ section
+  pub step_is : note.step ≡ step
+
+-- this happened, one after another, as these moves were made from a stage on, among n centres with so many clients
+pub data Plays (n clients : ℕ) : Stage → List Move → List Happened → Type 0 where
+  no_moves : {stage : Stage} → Plays n clients stage [] []
+  next_move : {stage : Stage} {move : Move} {moves : List Move} {all : List Happened} (mine : List Note) (later : List Happened) → all ≡ happening (actor_of clients move.does) mine ++ later → All (IsAt move.section move.step) mine → DoesSo n stage move.step move.does (map (λ note. note.deed) mine) → Plays n clients (stage_after move.does mine stage) moves later → Plays n clients stage (move ∷ moves) all
+
+-- by these moves of a script it came to a stage: what is played from there on goes on with what happened
+pub record HavePlayed (script : Script) (moves : List Move) (all : List Happened) (stage : Stage) : Type 0 where
+  pub goes_on : (more : List Move) (later : List Happened) → Plays script.n script.clients stage more later → Plays script.n script.clients (first_stage script) (moves ++ more) (all ++ later)
