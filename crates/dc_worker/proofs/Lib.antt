@@ -3,6 +3,10 @@ pub mod Delivering
 pub mod Sending
 pub mod Telling
 pub mod Turns
+pub mod Items
+pub mod Bringing
+pub mod Mailing
+pub mod RoundDeeds
 pub mod Passing
 pub mod Alike
 pub mod Repeating

@@ -44,7 +44,7 @@ turns_none Do a = record { deeds = []; such = no_turn; adds = adds_none a; carri
 -- ---- the routes from a centre
 
 -- one centre more is the last
-centres_more : (k : ℕ) → centres (suc k) ≡ centres k ++ (1 + k) ∷ []
+pub centres_more : (k : ℕ) → centres (suc k) ≡ centres k ++ (1 + k) ∷ []
 centres_more k =
     let next : suc k ≡ k + 1 = omega arith in
     ap centres next ∙ (sym (map-id (centres (k + 1))) ∙ (map-range_with_len_more (λ n. n) 1 k (1 + k) refl ∙ ap (λ all. all ++ (1 + k) ∷ []) (map-id (centres k))))

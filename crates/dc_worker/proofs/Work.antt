@@ -1,5 +1,5 @@
 -- What asks add to a log and to what a door shows, one after another.
-use Rattle.std.proofs.Common.{◌≡◌, ◌≢◌, ◌<◌, ◌^◌, ℕ, ◌==◌, Bool, true, false, length, List, [], ◌∷◌, ◌++◌, Result, Ok, Err, IfOk, OnErr, refl, sym, ap, ◌∙◌, subst}
+use Rattle.std.proofs.Common.{◌≡◌, ◌≢◌, ◌<◌, ◌^◌, ℕ, ◌==◌, Bool, true, false, length, List, [], ◌∷◌, ◌++◌, Result, Ok, Err, IfOk, OnOk, OnErr, refl, sym, ap, ◌∙◌, subst}
 use Rattle.std.proofs.lemmas.Bool.{eqb-true}
 use Rattle.std.proofs.lemmas.List.{append-nil}
 use Rattle.dc_talk.specs.declared.ask.Ask.{Ask}
@@ -69,3 +69,8 @@ ok_turn (Err e) P Q turn is = tt
 pub err_turn : {T E : Type 0} (r : Result T E) (P Q : Type 0) → (P → Q) → OnErr r P → OnErr r Q
 err_turn (Ok x) P Q turn is = tt
 err_turn (Err e) P Q turn is = turn is
+
+-- and what holds where there is one, whichever it is
+pub on_turn : {T E : Type 0} (r : Result T E) (P Q : Type 0) → (P → Q) → OnOk r P → OnOk r Q
+on_turn (Ok x) P Q turn is = turn is
+on_turn (Err e) P Q turn is = tt

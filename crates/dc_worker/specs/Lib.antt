@@ -1,4 +1,5 @@
 pub mod Work
 pub mod Sends
+pub mod Inlets
 pub mod Rounds
 pub mod Settled

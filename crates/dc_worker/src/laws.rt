@@ -1,12 +1,15 @@
 // The laws of what is carried. Each is a function with nothing to do, whose contract is the law.
-ghost use Rattle.std.specs.Prelude.{◌≡◌, ℕ, false, List, [], ◌++◌, Option};
+ghost use Rattle.std.specs.Prelude.{◌≡◌, ◌≢◌, ◌≤◌, ℕ, false, List, [], ◌++◌, Option};
 ghost use Rattle.std.specs.List.{list_any};
+ghost use Rattle.list_core.specs.Members.{In};
+ghost use Rattle.tx_core.specs.declared.tx.Record.{Record};
 ghost use Rattle.dc_talk.specs.declared.ask.Ask.TheVariants.{Send};
 ghost use Rattle.dc_talk.specs.declared.line.Line.{Line};
 ghost use Rattle.dc_talk.specs.declared.line.ShipEnd.{ShipEnd};
 ghost use Rattle.dc_talk.specs.declared.log.Deed.{Deed};
-ghost use Rattle.script_text.specs.Carrying.{Route, Sends, Ships, Tells, Settles, is_news};
-ghost use Rattle.script_text.specs.Provenance.{CarriesAll};
+ghost use Rattle.script_text.specs.Carrying.{Route, route, Sends, Ships, Tells, InTurn, Settles, is_news};
+ghost use Rattle.script_text.specs.Provenance.{WasSent, CarriesAll};
+ghost use Rattle.script_text.specs.Rounds.{Mails, SenderDeeds, ReporterDeeds, PrunerDeeds, others, mailed};
 ghost use Rattle.dc_worker.specs.Settled.{AreNumbered, Centres, IsAlike, PassesAmong, behind_deeds};
 
 /// What the deeds of a carrier carry, an earlier one of them brought: a record that is delivered was in a centre's
@@ -17,8 +20,23 @@ pub fn law_carried()
     ensures ships { (r : Route) (deeds : List Deed) (end : Option ShipEnd) → Ships r deeds end → CarriesAll [] deeds }
     ensures tells { (r : Route) (deeds : List Deed) (line : Option Line) → Tells r deeds line → CarriesAll [] deeds }
     ensures settles { (n : ℕ) (deeds : List Deed) → Settles n deeds → CarriesAll [] deeds }
+    ensures mails { (r : Route) (deeds : List Deed) (items : List Record) → Mails r deeds items → CarriesAll [] deeds }
+    ensures sender { (n i : ℕ) (deeds : List Deed) → SenderDeeds n i deeds → CarriesAll [] deeds }
+    ensures reporter { (n i : ℕ) (deeds : List Deed) → ReporterDeeds n i deeds → CarriesAll [] deeds }
+    ensures pruner { (i round : ℕ) (deeds : List Deed) → PrunerDeeds i round deeds → CarriesAll [] deeds }
     ensures more { (front before deeds : List Deed) → CarriesAll before deeds → CarriesAll (front ++ before) deeds }
     ensures both { (before ds es : List Deed) → CarriesAll before ds → CarriesAll (before ++ ds) es → CarriesAll before (ds ++ es) }
+{}
+
+/// What the deeds of a sender put on the link to a centre is what they sent for there: over one route just its items on
+/// that one link, behind what was put before, and in a round on the link to each other centre its own. Each record of it
+/// was in a centre's answer to a send.
+pub fn law_mailed()
+    ensures route { (r : Route) (deeds : List Deed) (items : List Record) → Mails r deeds items → mailed r.to deeds ≡ items }
+    ensures other { (r : Route) (deeds : List Deed) (items : List Record) (j : ℕ) → Mails r deeds items → j ≢ r.to → mailed j deeds ≡ [] }
+    ensures more { (r : Route) (ds es : List Deed) (items : List Record) (j : ℕ) → Mails r es items → mailed j (ds ++ es) ≡ mailed j ds ++ mailed j es }
+    ensures round { (n i : ℕ) (items : ℕ → List Record) (deeds : List Deed) (j : ℕ) → InTurn (λ to deeds. Mails (route i to) deeds (items to)) (others n i) deeds → 1 ≤ j → j ≤ n → j ≢ i → mailed j deeds ≡ items j }
+    ensures sent { (j : ℕ) (deeds : List Deed) (item : Record) → In item (mailed j deeds) → WasSent deeds item }
 {}
 
 /// Where an actor makes a pass alone among centres, and nothing in it is news, each centre is left as it was, and

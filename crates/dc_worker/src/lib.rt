@@ -2,9 +2,12 @@
 #![tactic(auto)]
 
 mod asks;
+mod brings;
 mod deliveries;
 mod ends;
+mod inlets;
 mod laws;
+mod mails;
 mod news;
 mod rounds;
 mod sends;
@@ -13,9 +16,12 @@ mod ships;
 mod tells;
 
 pub use asks::{ask_only, ask_unheard};
+pub use brings::{bring, bring_rest};
 pub use deliveries::{deliver, deliver_all};
 pub use ends::{base_line, is_there, ship_line};
-pub use laws::{law_carried, law_settled};
+pub use inlets::Inlet;
+pub use laws::{law_carried, law_mailed, law_settled};
+pub use mails::{mail_for, prune_round, report_round};
 pub use sends::{Sent, send_for};
 pub use settling::settle;
 pub use ships::{ship_all, ship_one};

@@ -1,5 +1,7 @@
 use Rattle.std.proofs.Common.{[]}
 use Rattle.script_text.proofs.Provenance.{carries_more, carries_then, sends_carry, ships_carry, tells_carry, settles_carry}
+use Rattle.dc_worker.proofs.Mailing.{mails_carry}
+use Rattle.dc_worker.proofs.RoundDeeds.{sender_carries, reporter_carries, pruner_carries}
 use Rattle.dc_worker.proofs.laws.law_carried.Goals as goal
 
 pub returns-clause-sends : goal.returns-clause-sends
@@ -19,3 +21,15 @@ returns-clause-more c = carries_more
 
 pub returns-clause-both : goal.returns-clause-both
 returns-clause-both c = carries_then
+
+pub returns-clause-mails : goal.returns-clause-mails
+returns-clause-mails c = mails_carry
+
+pub returns-clause-sender : goal.returns-clause-sender
+returns-clause-sender c = sender_carries
+
+pub returns-clause-reporter : goal.returns-clause-reporter
+returns-clause-reporter c = reporter_carries
+
+pub returns-clause-pruner : goal.returns-clause-pruner
+returns-clause-pruner c = pruner_carries

@@ -1,0 +1,80 @@
+-- Deliveries of what comes over a link.
+use Rattle.std.proofs.Common.{◌≡◌, ℕ, ◌+◌, List, [], ◌∷◌, ◌++◌, length, take, drop, refl, sym, ap, ◌∙◌, subst, arith, append_assoc}
+use Rattle.std.proofs.lemmas.List.{append-nil, take-append-drop}
+use Rattle.std.proofs.Math.Nat.{sub_self}
+use Rattle.tx_core.specs.declared.tx.Record.{Record}
+use Rattle.dc_talk.specs.declared.log.Deed.{Deed}
+use Rattle.dc_talk.specs.Acting.{Acting}
+use Rattle.script_text.specs.Links.{Inlet, arrivals, arrived, arrived_count, inlet_after}
+use Rattle.script_text.specs.Rounds.{Brings}
+use Rattle.dc_worker.specs.Work.{AddsSuch}
+use Rattle.dc_worker.proofs.Work.{adds_none, adds_then}
+use Rattle.dc_worker.proofs.Items.{arrived_next, after_next}
+
+-- deliveries behind deliveries
+pub brings_then : (to : ℕ) (xs ys : List Record) (ds es : List Deed) → Brings to xs ds → Brings to ys es → Brings to (xs ++ ys) (ds ++ es)
+brings_then to [] ys ds es first later = subst (λ ds. Brings to ys (ds ++ es)) (sym first) later
+brings_then to (x ∷ xs) ys [] es first later = absurd first
+brings_then to (x ∷ xs) ys (d ∷ ds) es first later = (first.0, brings_then to xs ys ds es first.1 later)
+
+-- nothing is delivered
+pub brings_none : (to : ℕ) (a : Acting) → AddsSuch (Brings to []) a a
+brings_none to a = record { deeds = []; such = refl; adds = adds_none a }
+
+pub brings_absent : (to : ℕ) (items : List Record) (a : Acting) → items ≡ [] → AddsSuch (Brings to items) a a
+brings_absent to items a none = subst (λ items. AddsSuch (Brings to items) a a) (sym none) (brings_none to a)
+
+-- records behind records
+pub brings_both : (to : ℕ) (xs ys : List Record) (a b c : Acting) → AddsSuch (Brings to xs) a b → AddsSuch (Brings to ys) b c → AddsSuch (Brings to (xs ++ ys)) a c
+brings_both to xs ys a b c first later = record { deeds = first.deeds ++ later.deeds; such = brings_then to xs ys first.deeds later.deeds first.such later.such; adds = adds_then a b c first.deeds later.deeds first.adds later.adds }
+
+-- so far the first of the items were taken, and what came of them was delivered: what comes of the rest follows it
+pub record BringsOn (to : ℕ) (first : Inlet Record) (items rest : List Record) (now : Inlet Record) (old new : Acting) : Type 0 where
+  pub done : List Record
+  pub front : arrived first items ≡ done ++ arrived now rest
+  pub behind : inlet_after first items ≡ inlet_after now rest
+  pub brought : AddsSuch (Brings to done) old new
+
+pub brings_on_none : (to : ℕ) (first : Inlet Record) (items rest : List Record) (a : Acting) → rest ≡ items → BringsOn to first items rest first a a
+brings_on_none to first items rest a all = subst (λ rest. BringsOn to first items rest first a a) (sym all) (record { done = []; front = refl; behind = refl; brought = brings_none to a })
+
+-- one item more
+pub brings_on_more : (to : ℕ) (first : Inlet Record) (items left rest : List Record) (now next : Inlet Record) (a b c : Acting) (item : Record) → left ≡ item ∷ rest → BringsOn to first items left now a b → AddsSuch (Brings to (arrived now (item ∷ []))) b c → next ≡ inlet_after now (item ∷ []) → BringsOn to first items rest next a c
+brings_on_more to first items left rest now next a b c item is before one after =
+    let come : List Record = arrived now (item ∷ []) in
+    record {
+      done = before.done ++ come;
+      front =
+          before.front
+          ∙ (ap (λ left. before.done ++ arrived now left) is
+          ∙ (ap (λ more. before.done ++ more) (arrived_next now item rest)
+          ∙ (sym (append_assoc before.done come (arrived (inlet_after now (item ∷ [])) rest))
+          ∙ ap (λ i. (before.done ++ come) ++ arrived i rest) (sym after))));
+      behind = before.behind ∙ (ap (inlet_after now) is ∙ (after_next now item rest ∙ ap (λ i. inlet_after i rest) (sym after)));
+      brought = brings_both to before.done come a b c before.brought one;
+    }
+
+-- no item
+pub arrived_none : (i : Inlet Record) → arrived i [] ≡ []
+arrived_none i = ap (λ n. take n i.held) (sub_self (length i.held))
+
+pub after_none : (i : Inlet Record) → inlet_after i [] ≡ i
+after_none i =
+    let same : i.before + 0 ≡ i.before = omega arith in
+    ap (λ n. record { fault = i.fault; before = i.before + 0; held = drop n i.held }) (sub_self (length i.held)) ∙ ap (λ n. record { fault = i.fault; before = n; held = i.held }) same
+
+-- no item is left
+pub brings_on_all : (to : ℕ) (first : Inlet Record) (items left : List Record) (now : Inlet Record) (a b : Acting) → left ≡ [] → BringsOn to first items left now a b → AddsSuch (Brings to (arrived first items)) a b
+brings_on_all to first items left now a b none before =
+    let all : arrived first items ≡ before.done = before.front ∙ (ap (λ left. before.done ++ arrived now left) none ∙ (ap (λ more. before.done ++ more) (arrived_none now) ∙ append-nil before.done)) in
+    subst (λ all. AddsSuch (Brings to all) a b) (sym all) before.brought
+
+pub after_all : (to : ℕ) (first : Inlet Record) (items left : List Record) (now : Inlet Record) (a b : Acting) → left ≡ [] → BringsOn to first items left now a b → now ≡ inlet_after first items
+after_all to first items left now a b none before = sym (before.behind ∙ (ap (inlet_after now) none ∙ after_none now))
+
+-- what is held at the end comes behind the rest
+pub brings_rest : (to : ℕ) (first : Inlet Record) (items held : List Record) (now : Inlet Record) (a b c : Acting) → AddsSuch (Brings to (arrived first items)) a b → now ≡ inlet_after first items → held ≡ now.held → AddsSuch (Brings to held) b c → AddsSuch (Brings to (arrivals first items)) a c
+brings_rest to first items held now a b c before after is rest =
+    let left : held ≡ drop (arrived_count first items) (arrivals first items) = is ∙ ap (λ (i : Inlet Record). i.held) after in
+    let whole : arrived first items ++ held ≡ arrivals first items = ap (λ held. arrived first items ++ held) left ∙ take-append-drop (arrived_count first items) (arrivals first items) in
+    subst (λ all. AddsSuch (Brings to all) a c) whole (brings_both to (arrived first items) held a b c before rest)

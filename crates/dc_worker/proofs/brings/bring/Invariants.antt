@@ -1,0 +1,10 @@
+use Rattle.std.proofs.Common.{◌≡◌}
+use Rattle.dc_talk.specs.Acting.{acting}
+use Rattle.dc_worker.proofs.Bringing.{BringsOn}
+use Rattle.dc_worker.proofs.brings.bring.Given as goal
+
+abbrev pub invariant-items : goal.invariant-items
+invariant-items g l = record {
+  place : g.D.Door.place l.door ≡ g.D.Door.place l.fn.door;
+  brings : BringsOn l.at l.fn.inlet l.fn.items.items l.item-iterator.rest.items l.inlet (acting (g.D.Door.shown l.fn.door) l.fn.log) (acting (g.D.Door.shown l.door) l.log);
+}

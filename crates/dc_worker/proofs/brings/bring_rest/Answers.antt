@@ -1,0 +1,25 @@
+use Rattle.dc_talk.specs.Acting.{acting, IsCutShort}
+use Rattle.std.specs.Option.{option_to_list}
+use Rattle.script_text.specs.Links.{arrivals}
+use Rattle.script_text.specs.Rounds.{Brings}
+use Rattle.dc_worker.specs.Work.{AddsSuch}
+use Rattle.dc_worker.proofs.Work.{cut_then, on_turn, err_turn}
+use Rattle.dc_worker.proofs.Bringing.{brings_rest}
+use Rattle.dc_worker.proofs.brings.bring_rest.Goals as goal
+
+pub returns-clause-brings : goal.returns-clause-brings
+returns-clause-brings g c =
+    let a = acting (g.D.Door.shown c.args.door.now) c.args.log.now in
+    let b = acting (g.D.Door.shown c.bring.new.door) c.bring.new.log in
+    let e = acting (g.D.Door.shown c.bring_some.new.door) c.bring_some.new.log in
+    let held = option_to_list c.release-held.result in
+    on_turn c.bring_some.result (AddsSuch (Brings c.args.at held) b e) (AddsSuch (Brings c.args.at (arrivals c.args.inlet.now c.args.items.items)) a e)
+    (λ last. brings_rest c.args.at c.args.inlet.now c.args.items.items held c.bring.new.inlet a b e c.in_ok-bring.ensures.brings c.in_ok-bring.ensures.inlet c.release-held.ensures.held last)
+    c.bring_some.ensures.brings
+
+pub returns-clause-short : goal.returns-clause-short
+returns-clause-short g c =
+    let a = acting (g.D.Door.shown c.args.door.now) c.args.log.now in
+    let b = acting (g.D.Door.shown c.bring.new.door) c.bring.new.log in
+    let e = acting (g.D.Door.shown c.bring_some.new.door) c.bring_some.new.log in
+    err_turn c.bring_some.result (IsCutShort b e) (IsCutShort a e) (λ cut. cut_then a b e _ c.in_ok-bring.ensures.brings.adds cut) c.bring_some.ensures.short
