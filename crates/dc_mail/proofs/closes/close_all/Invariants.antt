@@ -1,0 +1,11 @@
+use Rattle.std.proofs.Common.{◌≡◌}
+use Rattle.dc_talk.specs.Acting.{acting}
+use Rattle.script_text.specs.Mail.{due_at_close, post_closed}
+use Rattle.dc_mail.specs.Rounds.{HasReceived}
+use Rattle.dc_mail.proofs.closes.close_all.Given as goal
+
+abbrev pub invariant-others : goal.invariant-others
+invariant-others g l = record {
+  place : g.D.Door.place l.door ≡ g.D.Door.place l.fn.door;
+  receives : HasReceived due_at_close post_closed l.before l.to l.fn.posts l.posts (acting (g.D.Door.shown l.fn.door) l.fn.log) (acting (g.D.Door.shown l.door) l.log);
+}

@@ -1,0 +1,33 @@
+use Rattle.std.proofs.Common.{rules, refl, ◌∙◌}
+use Rattle.dc_talk.specs.Acting.{acting, IsCutShort}
+use Rattle.dc_worker.proofs.Work.{cut_then}
+use Rattle.script_text.specs.Mail.{due_in_round, post_after_round}
+use Rattle.dc_mail.proofs.Rounds.{received_none, received_self, received_next}
+use Rattle.dc_mail.proofs.receives.receive_all.Goals as goal
+
+pub others-init : goal.others-init
+others-init g c = record { place = refl; receives = received_none due_in_round post_after_round c.args.to _ _ }
+
+pub returns-in_err-bring_round-clause-short : goal.returns-in_err-bring_round-clause-short
+returns-in_err-bring_round-clause-short g c =
+    let a = acting (g.D.Door.shown c.args.door.now) c.args.log.now in
+    let b = acting (g.D.Door.shown c.others.door) c.others.log in
+    let e = acting (g.D.Door.shown c.bring_round.new.door) c.bring_round.new.log in
+    let cut : IsCutShort a e = cut_then a b e _ c.others.invariant.receives.adds c.in_err-bring_round.ensures.short in
+    search rules
+
+pub others-preserved-then-from-to : goal.others-preserved-then-from-to
+others-preserved-then-from-to g c = record {
+  place = c.others.invariant.place;
+  receives = received_self due_in_round post_after_round c.others.before c.args.to _ refl _ _ _ _ c.others.invariant.receives c.if-from-to.true;
+}
+
+pub others-preserved : goal.others-preserved
+others-preserved g c = record {
+  place = c.in_ok-bring_round.ensures.place ∙ c.others.invariant.place;
+  receives =
+      let a = acting (g.D.Door.shown c.args.door.now) c.args.log.now in
+      let b = acting (g.D.Door.shown c.others.door) c.others.log in
+      let e = acting (g.D.Door.shown c.bring_round.new.door) c.bring_round.new.log in
+      received_next due_in_round post_after_round c.others.before c.args.to _ refl _ _ a b c.others.invariant.receives e _ c.if-from-to.false (search rules) (search rules) c.in_ok-bring_round.ensures.brings c.in_ok-bring_round.ensures.posts;
+}

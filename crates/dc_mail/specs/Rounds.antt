@@ -1,0 +1,31 @@
+-- What a round of a worker leaves in its log and on the links.
+use Rattle.std.specs.Prelude.{◌≡◌, ℕ, ◌==◌, nat_le, ◌&&◌, not, Bool, cond, List, []}
+use Rattle.tx_core.specs.declared.tx.Record.{Record}
+use Rattle.dc_talk.specs.declared.log.Deed.{Deed}
+use Rattle.dc_talk.specs.Acting.{Acting}
+use Rattle.script_text.specs.Provenance.{CarriesAll}
+use Rattle.script_text.specs.Mail.{Post, post_put}
+use Rattle.script_text.specs.Rounds.{SenderDeeds, mailed, ReceiverDeeds}
+use Rattle.dc_worker.specs.Work.{Adds}
+use Rattle.dc_mail.specs.Posts.{post_at, IsCentre}
+
+-- the sender of a centre made a round over the links to the others of the first n: a log and what a door shows grow by
+-- its deeds, and what they put lies on the links from the centre
+pub record HasSent (n i : ℕ) (old new : List Post) (a b : Acting) : Type 0 where
+  pub deeds : List Deed
+  pub such : SenderDeeds n i deeds
+  pub adds : Adds a b deeds
+  pub carries : CarriesAll [] deeds
+  pub posts : (from to : ℕ) → IsCentre from → IsCentre to → post_at new from to ≡ cond (from == i && not (to == i)) (post_put (mailed to deeds) (post_at old from to)) (post_at old from to)
+
+-- a link to a centre from another one of the first n
+abbrev pub is_inward : ℕ → ℕ → ℕ → ℕ → Bool
+is_inward n i from to = (to == i && not (from == i)) && nat_le from n
+
+-- the receiver of a centre made a round over the links from the others of the first n: of each it delivers what is due,
+-- and the link is then as a round leaves it
+pub record HasReceived (due : Post → List Record) (later : Post → Post) (n i : ℕ) (old new : List Post) (a b : Acting) : Type 0 where
+  pub deeds : List Deed
+  pub such : ReceiverDeeds n i (λ from. due (post_at old from i)) deeds
+  pub adds : Adds a b deeds
+  pub posts : (from to : ℕ) → IsCentre from → IsCentre to → post_at new from to ≡ cond (is_inward n i from to) (later (post_at old from to)) (post_at old from to)

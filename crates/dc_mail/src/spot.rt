@@ -1,0 +1,109 @@
+// What lies on one link.
+ghost use Rattle.std.specs.Prelude.{◌≡◌, ◌≤◌, [], take, drop, length, min, IfOk, OnOk, OnErr};
+ghost use Rattle.dc_talk.specs.Acting.{acting, IsCutShort};
+ghost use Rattle.dc_talk.specs.Doors.{IsBehind};
+ghost use Rattle.script_text.specs.Mail.{new_post, post_put, post_set, taken_in_round, due_in_round, post_after_round, due_at_close, post_closed};
+ghost use Rattle.script_text.specs.Rounds.{Brings};
+ghost use Rattle.dc_worker.specs.Inlets.{HasCount};
+ghost use Rattle.dc_worker.specs.Work.{AddsSuch};
+
+use dc_talk::{Door, LinkFault, Log, Records};
+use dc_worker::{Inlet, bring, bring_rest};
+use ids_core::NoMemory;
+use script_text::MOST_MAILED;
+use std::alloc::Global;
+use std::collections::VecDeque;
+use std::marker::Model;
+use std::mem::replace;
+use tx_core::Record;
+
+/// The records that were put on a link and not yet taken, in order, and the end at which they are taken.
+#[derive(Drop)]
+pub(crate) struct Spot {
+    waits: VecDeque<Record>,
+    inlet: Inlet,
+}
+
+impl Model for Spot {
+    ghost use Rattle.script_text.specs.Mail.{Post};
+
+    ghost Value = { Post };
+
+    ghost view = { λ s. record { waits = s.waits.items; inlet = s.inlet } };
+}
+
+// Takes the first items, at most so many. Nothing changes where memory is refused.
+fn take_first(waits: &mut VecDeque<Record>, most: usize) -> Result<Vec<Record>, NoMemory>
+    ensures taken { IfOk result (λ taken. taken.items ≡ take most waits.old.items) }
+    ensures rest { OnOk result (waits.new.items ≡ drop most waits.old.items) }
+    ensures err { OnErr result (waits.new.items ≡ waits.old.items) }
+{
+    let count = most.min(waits.len());
+    let later = waits.split_off(count)?;
+    Ok(Vec::from(replace(waits, later)))
+}
+
+impl Spot {
+    /// A link on which nothing lies.
+    pub(crate) fn new(alloc: Global) -> Self
+        ensures { result ≡ new_post }
+    {
+        Spot {
+            waits: VecDeque::new(alloc),
+            inlet: Inlet::new(),
+        }
+    }
+
+    /// Puts records behind those that lie there. Nothing changes where memory is refused.
+    pub(crate) fn put(&mut self, items: Records) -> Result<(), NoMemory>
+        ensures ok { OnOk result (self.new ≡ post_put items self.old) }
+        ensures err { OnErr result (self.new ≡ self.old) }
+    {
+        let mut more = VecDeque::from(items.into_vec());
+        self.waits.append(&mut more)?;
+        Ok(())
+    }
+
+    /// Sets the fault of the link, and counts its items anew.
+    pub(crate) fn set(&mut self, fault: LinkFault)
+        requires { HasCount fault }
+        ensures { self.new ≡ post_set fault self.old }
+    {
+        self.inlet.set(fault);
+    }
+
+    /// Takes what a round takes, and delivers to a centre behind the door what comes of it.
+    pub(crate) fn bring_round<D: Door>(
+        &mut self,
+        door: &mut D,
+        at: u8,
+        log: &mut Log,
+    ) -> Result<(), NoMemory>
+        requires { IsBehind (D.shown door.old) at }
+        ensures place { D.place door.new ≡ D.place door.old }
+        ensures brings { OnOk result (AddsSuch (Brings at (due_in_round self.old)) (acting (D.shown door.old) log.old) (acting (D.shown door.new) log.new)) }
+        ensures spot { OnOk result (self.new ≡ post_after_round self.old) }
+        ensures short { OnErr result (IsCutShort (acting (D.shown door.old) log.old) (acting (D.shown door.new) log.new)) }
+    {
+        let items = take_first(&mut self.waits, MOST_MAILED as usize)?;
+        bring(door, at, &mut self.inlet, items, log)
+    }
+
+    /// Takes all, and delivers what comes of it and what is held.
+    pub(crate) fn bring_all<D: Door>(
+        &mut self,
+        alloc: Global,
+        door: &mut D,
+        at: u8,
+        log: &mut Log,
+    ) -> Result<(), NoMemory>
+        requires { IsBehind (D.shown door.old) at }
+        ensures place { D.place door.new ≡ D.place door.old }
+        ensures brings { OnOk result (AddsSuch (Brings at (due_at_close self.old)) (acting (D.shown door.old) log.old) (acting (D.shown door.new) log.new)) }
+        ensures spot { OnOk result (self.new ≡ post_closed self.old) }
+        ensures short { OnErr result (IsCutShort (acting (D.shown door.old) log.old) (acting (D.shown door.new) log.new)) }
+    {
+        let items = Vec::from(replace(&mut self.waits, VecDeque::new(alloc)));
+        bring_rest(door, at, &mut self.inlet, items, log)
+    }
+}
