@@ -4,3 +4,4 @@ pub mod ClientForks
 pub mod OperatorForks
 pub mod WorkerForks
 pub mod OneRun
+pub mod Books
