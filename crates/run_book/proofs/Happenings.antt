@@ -4,7 +4,6 @@ pub mod Places
 pub mod Fits
 pub mod Timely
 pub mod More
-pub mod Orders
 pub mod Playing
 pub mod Reach
 pub mod Steps

@@ -41,10 +41,6 @@ note_by a h = cond (h.actor == a) (Some h.note) None
 abbrev pub notes_by : ℕ → List Happened → List Note
 notes_by a all = filter_map (note_by a) all
 
--- the notes of all actors, in order
-abbrev pub all_notes : List Happened → List Note
-all_notes all = map (λ h. h.note) all
-
 -- the entry that it made in the trail of centre i, where it was an ask that reached that centre
 abbrev pub entry_in : ℕ → Happened → Option Entry
 entry_in i h = entry_made h.actor i h.note.deed

@@ -25,10 +25,10 @@ ghost use Rattle.run_book.specs.declared.book.Book.{Book};
 ghost use Rattle.run_book.specs.Refusals.{IsTimely};
 ghost use Rattle.run_book.specs.Scripted.{HasSteps};
 ghost use Rattle.run_book.specs.Happenings.{Happened, AreTogether, TrimsInTime, InRange, IsBookOf};
-ghost use Rattle.run_book.specs.Played.{HavePlayed};
+ghost use Rattle.run_book.specs.Moves.{moves_of};
+ghost use Rattle.run_book.specs.Played.{Stage, HavePlayed};
 ghost use Rattle.run_book.specs.Setups.{setup_of};
 ghost use Rattle.script_text.specs.declared.script.Script.{Script};
-ghost use Rattle.script_text.specs.Deeds.{Progress};
 
 use crate::book::Book;
 
@@ -120,11 +120,11 @@ pub fn law_causal(book: &Book)
 /// What happened among several centres, one thing after another, each by the session rule or by the
 /// operator or a worker, where each trail is a history: the book of it fits and is timely, and each record that a
 /// centre says to have let go, every centre has by then, so that a send from where the report just before ends
-/// asks for none of them. Where clients and the operator took the steps of a script, each a section of its own, the
-/// book has the script's steps.
+/// asks for none of them. Where it happened by just the moves of a script, one after another, the book has the script's
+/// steps.
 pub fn law_together()
     ensures fits { (b : Book) (n k : ℕ) (setup : Setup) (all : List Happened) → InRange n k setup → IsBookOf b n k setup.clients all → AreTogether n k setup all → FitsWith b setup }
     ensures timely { (b : Book) (n k : ℕ) (setup : Setup) (all : List Happened) → IsBookOf b n k setup.clients all → AreTogether n k setup all → IsTimely b setup }
     ensures trims { (n k : ℕ) (setup : Setup) (all : List Happened) → AreTogether n k setup all → TrimsInTime n all }
-    ensures steps { (script : Script) (b : Book) (n k : ℕ) (all : List Happened) (come : ℕ → Progress) → IsBookOf b n k script.clients all → AreTogether n k (setup_of script) all → HavePlayed n (setup_of script) script.sections all come → HasSteps script b }
+    ensures steps { (script : Script) (b : Book) (n k : ℕ) (all : List Happened) (stage : Stage) → IsBookOf b n k script.clients all → AreTogether n k (setup_of script) all → HavePlayed script (moves_of script) all stage → HasSteps script b }
 {}

@@ -1,12 +1,3 @@
-pub mod Deciding
-pub mod Forks
-pub mod ClientForks
-pub mod OperatorForks
-pub mod NoteForks
-pub mod Orders
-pub mod Noted
-pub mod Partings
-pub mod Agreeing
 pub mod Logs
 pub mod TrailTexts
 pub mod Scripts

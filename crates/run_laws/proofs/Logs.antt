@@ -11,7 +11,7 @@ use Rattle.run_book.specs.declared.book.Book.{Book}
 use Rattle.run_book.specs.Parts.{idle_log}
 use Rattle.print_text.specs.Text.{section_text, operator_last, last_section, lines_in, text_of}
 use Rattle.run_laws.specs.OneBook.{told_log}
-use Rattle.run_laws.proofs.Agreeing.{AreRuns, same_notes}
+use Rattle.run_forks.proofs.Books.{AreRuns, same_notes}
 
 -- lists whose elements give the same at each place
 same_images : {X Y : Type 0} (f : X → Y) (d : X) (xs ys : List X) → length xs ≡ length ys → ((k : ℕ) → k < length xs → f (get_or xs k d) ≡ f (get_or ys k d)) → map f xs ≡ map f ys
@@ -27,7 +27,7 @@ same_images f d (x ∷ xs) (y ∷ ys) long each =
 pub same_logs : (script : Script) (b c : Book) → AreRuns script b c → map told_log b.logs ≡ map told_log c.logs
 same_logs script b c runs =
     let count = runs.one.form.logs in
-    let long : length b.logs ≡ length c.logs = count ∙ (ap (λ n. 1 + script.clients + 4 * n) runs.n ∙ sym runs.two.form.logs) in
+    let long : length b.logs ≡ length c.logs = count ∙ (ap (λ n. 1 + script.clients + 4 * n) (runs.n ∙ sym runs.also_n) ∙ sym runs.two.form.logs) in
     same_images told_log (idle_log 0) b.logs c.logs long (λ k lt.
     let first = runs.one.form.actors (suc k) (omega arith) (omega (arith, lt)) in
     let later = runs.two.form.actors (suc k) (omega arith) (omega (arith, lt, long)) in

@@ -18,21 +18,21 @@ use Rattle.top_call.specs.declared.engine.Owed.{Owed}
 use Rattle.top_call.specs.declared.top.Ended.{Ended}
 use Rattle.run_laws.specs.OneBook.{AreOne}
 use Rattle.run_laws.specs.Outputs.{given_bytes, AreAlike, IsWhole, IsWholeRun, PrintAlike}
-use Rattle.run_laws.proofs.Agreeing.{AreRuns, same_trails}
+use Rattle.run_forks.proofs.Books.{AreRuns, same_trails}
 use Rattle.run_laws.proofs.Logs.{same_logs, same_texts}
 use Rattle.run_laws.proofs.TrailTexts.{same_trail_texts}
 use Rattle.run_laws.proofs.Scripts.{one_script, script_said, not_refused, one_refusal}
 
 -- two books are two runs of a script
 are_runs : (script : Script) (b c : Book) → IsRunOf script b → IsRunOf script c → AreRuns script b c
-are_runs script b c one two = record { n = one.n ∙ sym two.n; k = one.k ∙ sym two.k; one = one.fits; two = two.fits; steps = one.steps; again = two.steps }
+are_runs script b c one two = record { n = one.n; also_n = two.n; k = one.k; also_k = two.k; one = one.fits; two = two.fits; steps = one.steps; again = two.steps }
 
 -- two runs of a script have one book
 pub one_book : (script : Script) (b c : Book) → IsRunOf script b → IsRunOf script c → AreOne b c
 one_book script b c one two =
     let runs = are_runs script b c one two in
     let logs = same_logs script b c runs in
-    record { n = runs.n; k = runs.k; trails = same_trails script b c runs; logs = logs; texts = same_texts b.logs c.logs logs }
+    record { n = one.n ∙ sym two.n; k = one.k ∙ sym two.k; trails = same_trails script b c runs; logs = logs; texts = same_texts b.logs c.logs logs }
 
 -- a book is one with itself
 one_self : (b c : Book) → b ≡ c → AreOne b c

@@ -18,7 +18,7 @@ use Rattle.run_book.specs.ReadBases.{in_order}
 use Rattle.run_book.specs.ReadValues.{read_of}
 use Rattle.run_book.specs.Setups.{Setup, setup_of}
 use Rattle.trail_text.specs.Trails.{bases_text, entries_text, trail_text}
-use Rattle.run_laws.proofs.Agreeing.{AreRuns, same_notes, same_trails}
+use Rattle.run_forks.proofs.Books.{AreRuns, same_notes, same_trails}
 
 -- what a client stands on, by the trails of so many centres
 abbrev basis_by : ℕ → (ℕ → List Entry) → Client → List Dot
@@ -47,4 +47,5 @@ pub same_trail_texts : (script : Script) (b c : Book) → AreRuns script b c →
 same_trail_texts script b c runs =
     let trails = trail_same b c (same_trails script b c runs) in
     let notes = same_notes script b c runs in
-    λ i. text_by (runs.n i) (λ e. trails e i) (λ a. notes a i) (setup_of script)
+    let n : b.n ≡ c.n = runs.n ∙ sym runs.also_n in
+    λ i. text_by (n i) (λ e. trails e i) (λ a. notes a i) (setup_of script)

@@ -1,3 +1,2 @@
-pub mod Forks
 pub mod OneBook
 pub mod Outputs

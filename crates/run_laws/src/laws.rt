@@ -1,30 +1,16 @@
 // The laws of runs. Each is a function with nothing to do, whose contract is the law.
 ghost use Rattle.std.specs.Prelude.{◌≡◌, ℕ, List, Ok, Option};
-ghost use Rattle.dc_talk.specs.declared.log.Deed.{Deed};
 ghost use Rattle.script_text.specs.declared.script.Script.{Script};
-ghost use Rattle.script_text.specs.declared.steps.ClientStep.{ClientStep};
-ghost use Rattle.script_text.specs.declared.steps.OperatorStep.{OperatorStep};
-ghost use Rattle.script_text.specs.Deeds.{Progress, StepDeeds};
-ghost use Rattle.script_text.specs.Orders.{OperatorDeeds};
 ghost use Rattle.script_reader.specs.declared.reading.ReadScript.{ReadScript};
 ghost use Rattle.script_reader.specs.Scripts.{script_read};
 ghost use Rattle.world_core.specs.Runs.{IsRunOf};
 ghost use Rattle.top_call.specs.Runs.{IsOwed};
 ghost use Rattle.top_call.specs.declared.engine.Owed.{Owed};
 ghost use Rattle.top_call.specs.declared.top.Ended.{Ended};
-ghost use Rattle.run_laws.specs.Forks.{AreOneOrFork};
 ghost use Rattle.run_laws.specs.OneBook.{AreOne};
 ghost use Rattle.run_laws.specs.Outputs.{given_bytes, AreAlike, IsWholeRun, PrintAlike};
 
 use run_book::Book;
-
-/// What a step leaves is fixed but for the answers of the centres. Deeds of one step, of a client that has come
-/// equally far or of the operator among as many centres, are the same, or they are the same up to an ask to one
-/// centre that was answered otherwise. So neither are the deeds of one the front of the other's.
-pub fn law_forks()
-    ensures client { (p : Progress) (step : ClientStep) (ds es : List Deed) → StepDeeds p step ds → StepDeeds p step es → AreOneOrFork ds es }
-    ensures operator { (n : ℕ) (step : OperatorStep) (ds es : List Deed) → OperatorDeeds n step ds → OperatorDeeds n step es → AreOneOrFork ds es }
-{}
 
 /// A script has one book: two books that are runs of it have the same trails, logs of the same actors with the same
 /// notes, and the same text. What a log says of where its actor stands last is left out: no run is asked for it.

@@ -3,4 +3,4 @@
 
 mod laws;
 
-pub use laws::{law_forks, law_one_book, law_one_output, law_one_script};
+pub use laws::{law_one_book, law_one_output, law_one_script};

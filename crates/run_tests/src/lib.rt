@@ -16,6 +16,8 @@ mod run_book_tests;
 #[cfg(test)]
 mod run_book_values;
 #[cfg(test)]
+mod run_forks_tests;
+#[cfg(test)]
 mod run_laws_tests;
 #[cfg(test)]
 mod script_reader_tests;

@@ -1,6 +1,6 @@
 // The laws of runs.
 use run_book::Book;
-use run_laws::{law_forks, law_one_book, law_one_output, law_one_script};
+use run_laws::{law_one_book, law_one_output, law_one_script};
 use std::process::Abort;
 use std::test::Fail;
 
@@ -8,7 +8,6 @@ use std::test::Fail;
 fn the_laws_of_runs_can_be_taken(rt: HostRuntime) -> Result<(), Fail> {
     let one = Book::new(rt.alloc(), 2, 1);
     let other = Book::new(rt.alloc(), 2, 1);
-    law_forks();
     law_one_book(&one, &other);
     law_one_script();
     law_one_output();

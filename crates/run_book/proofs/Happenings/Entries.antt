@@ -18,7 +18,7 @@ use Rattle.dc_talk.specs.declared.log.Note.{Note}
 use Rattle.dc_talk.specs.Entries.{Entry}
 use Rattle.dc_talk.specs.Logs.{marked, answered, exchanged_in, entry_for, entry_made, entries_made}
 use Rattle.run_book.specs.Parts.{exchanged, entries_by}
-use Rattle.run_book.specs.Happenings.{Happened, note_by, notes_by, all_notes, entry_in, trail_in, happening, HasAnswer}
+use Rattle.run_book.specs.Happenings.{Happened, note_by, notes_by, entry_in, trail_in, happening, HasAnswer}
 use Rattle.run_book.proofs.Pairing.{IsExchange, exchanged_is, entry_by}
 use Rattle.run_book.proofs.Filtered.{and_then, filtered_twice}
 
@@ -117,15 +117,6 @@ own_then actor all more = filter_map-append (note_by actor) all (happening actor
 -- those of another actor
 pub other_then : (actor a : ℕ) (all : List Happened) (more : List Note) → actor ≢ a → notes_by a (all ++ happening actor more) ≡ notes_by a all
 other_then actor a all more other = filter_map-append (note_by a) all (happening actor more) ∙ (ap (λ ns. notes_by a all ++ ns) (other_happening actor a more other) ∙ append-nil (notes_by a all))
-
--- the notes of all
-pub all_then : (actor : ℕ) (all : List Happened) (more : List Note) → all_notes (all ++ happening actor more) ≡ all_notes all ++ more
-all_then actor [] more = noted more
-  where
-    noted : (more : List Note) → all_notes (happening actor more) ≡ more
-    noted [] = refl
-    noted (note ∷ more) = ap (λ notes. note ∷ notes) (noted more)
-all_then actor (h ∷ all) more = ap (λ notes. h.note ∷ notes) (all_then actor all more)
 
 -- the deeds of notes that were made of them
 pub deeds_marked : (section step : ℕ) (deeds : List Deed) → map (λ (note : Note). note.deed) (map (marked section step) deeds) ≡ deeds

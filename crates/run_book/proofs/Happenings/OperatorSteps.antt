@@ -18,7 +18,7 @@ use Rattle.dc_talk.specs.declared.line.ShipEnd.{ShipEnd}
 use Rattle.dc_talk.specs.declared.line.Line.{Line}
 use Rattle.dc_talk.specs.Logs.{marked}
 use Rattle.script_text.specs.declared.steps.OperatorStep.{OperatorStep}
-use Rattle.script_text.specs.declared.steps.OperatorStep.TheVariants.{Down, Up, ShipOne, Ship, Tell, Prune, Settle}
+use Rattle.script_text.specs.declared.steps.OperatorStep.TheVariants.{Down, Up, ShipOne, Ship, Tell, Prune, Link, Settle}
 use Rattle.script_text.specs.Steps.{IsCount, IsOperatorStep}
 use Rattle.script_text.specs.Deeds.{told}
 use Rattle.script_text.specs.Carrying.{Route, route, routes, ship_line, is_there, delivery_end, Delivers, AfterSend, Sends, AfterReport, Ships, AfterTold, Tells, InTurn, no_turn, next_turn, Passes, Settles, last_pass, one_pass}
@@ -115,6 +115,7 @@ module _ (n : ℕ) where
   order_go (Ship from to) deeds is are = line_go are.asks (ship_line (route from to) are.end) deeds are.whole (ships_go (route from to) are.asks are.end (is.from_there, is.to_there) are.ships)
   order_go (Tell from to) deeds is are = line_go are.asks are.line deeds are.whole (tells_go (route from to) are.asks are.line (is.from_there, is.to_there) are.tells)
   order_go (Prune centre) deeds is are = ask_go centre PruneAsk are.answer (told (base_line centre are.answer)) deeds is are.whole (told_go n (base_line centre are.answer))
+  order_go (Link from to fault) deeds is are = none_go deeds are
   order_go Settle deeds is are = settles_go deeds are
 
 -- ---- what is carried
@@ -135,6 +136,7 @@ order_carries n (ShipOne from to seq) deeds are = line_carries are.asks (ship_li
 order_carries n (Ship from to) deeds are = line_carries are.asks (ship_line (route from to) are.end) deeds are.whole (ships_carry (route from to) are.asks are.end are.ships)
 order_carries n (Tell from to) deeds are = line_carries are.asks are.line deeds are.whole (tells_carry (route from to) are.asks are.line are.tells)
 order_carries n (Prune centre) deeds are = line_carries (Asked centre PruneAsk (Unheard are.answer) ∷ []) (base_line centre are.answer) deeds are.whole (tt, tt)
+order_carries n (Link from to fault) deeds are = subst (CarriesAll []) (sym are) tt
 order_carries n Settle deeds are = settles_carry n deeds are
 
 -- so the operator does it as a carrier, where the trails with it are histories

@@ -26,8 +26,8 @@ use Rattle.script_text.specs.declared.steps.AskFault.TheVariants.{LoseAsk, LoseR
 use Rattle.script_text.specs.declared.steps.ClientStep.{ClientStep}
 use Rattle.script_text.specs.declared.steps.ClientStep.TheVariants.{Connect, Begin, Change, Read, Commit, Abort, Push, Flush, Refresh, Again, Arm}
 use Rattle.script_text.specs.Deeds.{Progress, fate_of, copies, took, told, Asks, OrTells, calls, after_fetch, CallDeeds, change_call, read_call, Pushes, OverNext, goes_on, PushesOn, FlushEnds, pushed, FlushDeeds, flush_ends, flush_goes, commit_sent, again_line, push_line, hello_line, refresh_line, AgainDeeds, RefreshDeeds, StepDeeds}
-use Rattle.run_laws.specs.Forks.{AreRivals, AreOneOrFork}
-use Rattle.run_laws.proofs.Forks.{Same, fork_head, fork_as, with_as, with_then, with_cons, with_same, one_or_fork, both_are, fates, by_fate, by_unheard}
+use Rattle.run_forks.specs.Forks.{AreRivals, AreOneOrFork}
+use Rattle.run_forks.proofs.Forks.{Same, fork_head, fork_as, with_as, with_then, with_cons, with_same, one_or_fork, both_are, fates, by_fate, by_unheard}
 
 -- second copies of an ask
 copies_fork : (armed : Option AskFault) (i : ℕ) (ask : Ask) (say again : Say) → Same (copies armed i ask say) (copies armed i ask again)

@@ -10,8 +10,8 @@ use Rattle.dc_talk.specs.declared.log.Deed.TheVariants.{Asked}
 use Rattle.script_text.specs.declared.steps.AskFault.{AskFault}
 use Rattle.script_text.specs.declared.steps.AskFault.TheVariants.{LoseAsk, LoseReply, Twice}
 use Rattle.script_text.specs.Deeds.{fate_of}
-use Rattle.run_laws.specs.Forks.{AreRivals, IsFork, AreOneOrFork}
-use Rattle.run_laws.proofs.Deciding.{say_same}
+use Rattle.run_forks.specs.Forks.{AreRivals, IsFork, AreOneOrFork}
+use Rattle.run_forks.proofs.Deciding.{say_same}
 
 -- the same deeds, and then this holds, or deeds that part
 abbrev pub OneWith : List Deed → List Deed → Type 0 → Type 0

@@ -18,19 +18,19 @@ use Rattle.dc_talk.specs.declared.line.Line.{Line}
 use Rattle.dc_talk.specs.declared.line.ShipEnd.{ShipEnd}
 use Rattle.dc_talk.specs.declared.line.ShipEnd.TheVariants.{Absent}
 use Rattle.script_text.specs.declared.steps.OperatorStep.{OperatorStep}
-use Rattle.script_text.specs.declared.steps.OperatorStep.TheVariants.{Down, Up, ShipOne, Ship, Tell, Prune, Settle}
+use Rattle.script_text.specs.declared.steps.OperatorStep.TheVariants.{Down, Up, ShipOne, Ship, Tell, Prune, Link, Settle}
 use Rattle.script_text.specs.Deeds.{told}
 use Rattle.script_text.specs.Carrying.{Route, route, is_there, delivery_end, send_end, stopped_end, ship_line, tell_line, Delivers, AfterSend, Sends, AfterReport, Ships, AfterTold, Tells, routes, InTurn, no_turn, next_turn, Passes, is_news, Settles, last_pass, one_pass}
 use Rattle.script_text.specs.Orders.{Orders, base_line, OperatorDeeds}
-use Rattle.run_laws.specs.Forks.{IsFork, AreOneOrFork}
-use Rattle.run_laws.proofs.Forks.{OneWith, Same, fork_as, fork_front, with_as, with_then, one_or_fork, by_unheard}
+use Rattle.run_forks.specs.Forks.{IsFork, AreOneOrFork}
+use Rattle.run_forks.proofs.Forks.{OneWith, Same, fork_as, fork_front, with_as, with_then, one_or_fork, both_are, by_unheard}
 
 -- nothing of both, and both end the same
-nothing : {E : Type 0} (ds es : List Deed) (end again last : E) → (ds ≡ []) × (end ≡ last) → (es ≡ []) × (again ≡ last) → OneWith ds es (end ≡ again)
+pub nothing : {E : Type 0} (ds es : List Deed) (end again last : E) → (ds ≡ []) × (end ≡ last) → (es ≡ []) × (again ≡ last) → OneWith ds es (end ≡ again)
 nothing ds es end again last one two = inl (one.0 ∙ sym two.0, one.1 ∙ sym two.1)
 
 -- an ask that begins both, and what follows it
-begun : (i : ℕ) (ask : Ask) (say again : Say) (ds es xs ys : List Deed) (Q : Type 0) → ds ≡ Asked i ask (Unheard say) ∷ xs → es ≡ Asked i ask (Unheard again) ∷ ys → (say ≡ again → OneWith xs ys Q) → OneWith ds es Q
+pub begun : (i : ℕ) (ask : Ask) (say again : Say) (ds es xs ys : List Deed) (Q : Type 0) → ds ≡ Asked i ask (Unheard say) ∷ xs → es ≡ Asked i ask (Unheard again) ∷ ys → (say ≡ again → OneWith xs ys Q) → OneWith ds es Q
 begun i ask say again ds es xs ys Q one two on = with_as (Asked i ask (Unheard say) ∷ xs) (Asked i ask (Unheard again) ∷ ys) ds es Q one two (by_unheard i ask say again xs ys Q on)
 
 -- ---- records
@@ -83,7 +83,7 @@ after_told_fork r (Vector vector) ds es line again one two =
 after_told_fork r say ds es line again one two = nothing ds es line again (tell_line r r.from say) one two
 
 -- tells
-tells_fork : (r : Route) (ds es : List Deed) (line again : Option Line) → Tells r ds line → Tells r es again → OneWith ds es (line ≡ again)
+pub tells_fork : (r : Route) (ds es : List Deed) (line again : Option Line) → Tells r ds line → Tells r es again → OneWith ds es (line ≡ again)
 tells_fork r ds es line again one two =
     begun r.from Report one.say two.say ds es one.later two.later (line ≡ again) one.whole two.whole
     (λ same. after_told_fork r one.say one.later two.later line again one.follows (subst (λ say. AfterTold r say two.later again) (sym same) two.follows))
@@ -97,12 +97,12 @@ with_line ds es asks more end again line one two is =
     (with_then asks more (told (line end)) (told (line again)) (end ≡ again) (Unit {0}) is (λ same. inl (ap (λ e. told (line e)) same, tt)))
 
 -- without how they ended
-plain : (ds es : List Deed) (Q : Type 0) → OneWith ds es Q → Same ds es
+pub plain : (ds es : List Deed) (Q : Type 0) → OneWith ds es Q → Same ds es
 plain ds es Q (inl one) = inl (one.0, tt)
 plain ds es Q (inr f) = inr f
 
 -- what is done in turn
-turns_fork : {X : Type 0} (Does : X → List Deed → Type 0) → ((x : X) (ds es : List Deed) → Does x ds → Does x es → Same ds es) → (xs : List X) (ds es : List Deed) → InTurn Does xs ds → InTurn Does xs es → Same ds es
+pub turns_fork : {X : Type 0} (Does : X → List Deed → Type 0) → ((x : X) (ds es : List Deed) → Does x ds → Does x es → Same ds es) → (xs : List X) (ds es : List Deed) → InTurn Does xs ds → InTurn Does xs es → Same ds es
 turns_fork Does each [] ds es no_turn no_turn = inl (refl, tt)
 turns_fork Does each (x ∷ xs) ds es (next_turn first later is does rest) (next_turn fore hind was again more) =
     with_as (first ++ later) (fore ++ hind) ds es (Unit {0}) is was
@@ -142,7 +142,7 @@ settles_fork n ds es (one_pass first later is one loud rest) (one_pass fore hind
     (with_then first fore later hind (Unit {0}) (Unit {0}) (passes_fork n first fore one two) (λ _. settles_fork n later hind rest more))
 
 -- an ask of the operator
-orders_fork : (centre : ℕ) (ask : Ask) (ds es : List Deed) → Orders centre ask ds → Orders centre ask es → Same ds es
+pub orders_fork : (centre : ℕ) (ask : Ask) (ds es : List Deed) → Orders centre ask ds → Orders centre ask es → Same ds es
 orders_fork centre ask ds es one two = begun centre ask one.0 two.0 ds es [] [] (Unit {0}) one.1 two.1 (λ same. inl (refl, tt))
 
 -- each step
@@ -161,6 +161,7 @@ order_same n (Tell from to) ds es one two =
 order_same n (Prune centre) ds es one two =
     begun centre PruneAsk one.answer two.answer ds es (told (base_line centre one.answer)) (told (base_line centre two.answer)) (Unit {0}) one.whole two.whole
     (λ same. inl (ap (λ say. told (base_line centre say)) same, tt))
+order_same n (Link from to fault) ds es one two = both_are ds es [] one two
 order_same n Settle ds es one two = settles_fork n ds es one two
 
 -- the deeds of an operator's step are the same, or part at an answer

@@ -1,0 +1,7 @@
+pub mod Deciding
+pub mod Forks
+pub mod ClientForks
+pub mod OperatorForks
+pub mod WorkerForks
+pub mod OneRun
+pub mod Books
