@@ -1,5 +1,5 @@
 -- The sections of a script: each step is one, but for those of a phase, which are one together.
-use Rattle.std.specs.Prelude.{◌≡◌, ◌≤◌, ◌⊎◌, true, false, All, length, [], ◌∷◌}
+use Rattle.std.specs.Prelude.{◌≡◌, ◌≤◌, ◌⊎◌, true, false, All, length, List, [], ◌∷◌}
 use Rattle.script_text.specs.Steps.{IsStepOf}
 use Rattle.script_text.specs.declared.limits.TheConstants.{MAX_LINES}
 use Rattle.script_text.specs.declared.script.Header.{Header}
@@ -12,6 +12,10 @@ use Rattle.script_text.specs.declared.steps.Section.{Section}
 -- a step as a section of its own
 abbrev pub section_of : Step → Section
 section_of step = record { phase = false; steps = step ∷ [] }
+
+-- steps as a phase
+abbrev pub phase_of : List Step → Section
+phase_of steps = record { phase = true; steps = steps }
 
 -- a section that is one step, of a script with this header
 abbrev pub IsLine : Header → Section → Type 0
