@@ -140,8 +140,11 @@ impl Reading {
     fn take_step(&mut self, alloc: Global, step: Step) -> Result<(), AllocError>
         ensures { OnOk result (self.new ≡ step_read self.old self.old.phase step) }
     {
-        match &mut self.phase {
-            Some(steps) => steps.push(step)?,
+        match self.phase.take() {
+            Some(mut steps) => {
+                steps.push(step)?;
+                self.phase = Some(steps);
+            }
             None => self.sections.push(section(alloc, step)?)?,
         }
         Ok(())
@@ -182,7 +185,10 @@ fn may_do_in_phase(step: &Step) -> bool
 {
     match step {
         Step::Client { .. } => true,
-        Step::Operator { step } => !matches!(step, OperatorStep::Link { .. } | OperatorStep::Settle),
+        Step::Operator { step } => !matches!(
+            step,
+            OperatorStep::Link { .. } | OperatorStep::Settle
+        ),
     }
 }
 
