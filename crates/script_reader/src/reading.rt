@@ -1,5 +1,6 @@
 // How far the lines of a script came.
-ghost use Rattle.std.specs.Prelude.{◌≡◌, Ok, Err, IfOk, OnOk};
+ghost use Rattle.std.specs.Prelude.{◌≡◌, ◌++◌, ◌∷◌, [], Ok, Err, IfOk, OnOk};
+ghost use Rattle.std.specs.Option.{option_map};
 ghost use Rattle.script_reader.specs.declared.fault.Cause.{Cause as CauseOf};
 ghost use Rattle.script_reader.specs.declared.reading.LineFault.TheVariants.{NoMemory as no_memory};
 ghost use Rattle.script_reader.specs.Lines.{line_taken};
@@ -8,7 +9,9 @@ ghost use Rattle.script_text.specs.Rows.{may_do_in_phase, section_of};
 
 use crate::fault::Cause;
 use crate::row::{Row, row_in};
-use script_text::{Header, OperatorStep, Section, Sections, Step, Steps};
+use dc_talk::Change;
+use list_core::List;
+use script_text::{ClientStep, Header, OperatorStep, Section, Sections, Step, Steps};
 use std::alloc::{AllocError, Global};
 
 /// How many centres there are, and how many of them make an update stable.
@@ -140,14 +143,13 @@ impl Reading {
     fn take_step(&mut self, alloc: Global, step: Step) -> Result<(), AllocError>
         ensures { OnOk result (self.new ≡ step_read self.old self.old.phase step) }
     {
-        match self.phase.take() {
-            Some(mut steps) => {
-                steps.push(step)?;
-                self.phase = Some(steps);
-            }
-            None => self.sections.push(section(alloc, step)?)?,
+        if self.phase.is_none() {
+            self.sections.push(section(alloc, step)?)?;
+            return Ok(());
         }
-        Ok(())
+        // A function that lends a list of steps has to name the types that a step holds, for its proof.
+        let _held: Option<(ClientStep, Change)> = None;
+        push_in(&mut self.phase, step)
     }
 
     // Takes the end of a phase.
@@ -190,6 +192,16 @@ fn may_do_in_phase(step: &Step) -> bool
             OperatorStep::Link { .. } | OperatorStep::Settle
         ),
     }
+}
+
+// Puts an item behind a list, where there is one.
+fn push_in<T: Drop>(list: &mut Option<List<T>>, item: T) -> Result<(), AllocError>
+    ensures { OnOk result (list.new ≡ option_map (λ items. items ++ item ∷ []) list.old) }
+{
+    if let Some(items) = list {
+        items.push(item)?;
+    }
+    Ok(())
 }
 
 // A step as a section of its own.
