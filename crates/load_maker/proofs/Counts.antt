@@ -5,7 +5,7 @@ use Rattle.std.specs.List.{range_with_len}
 use Rattle.std.proofs.lemmas.List.{length-append}
 use Rattle.load_maker.specs.declared.line.Line.TheVariants.{Phase, End, Settle, Begin, IncTotal, ReadTotal, Commit, Push, Refresh}
 use Rattle.load_maker.specs.Draws.{drawn, next_state}
-use Rattle.load_maker.specs.Made.{Block, lines_made, state_behind, fixed, outage, connect, change, change_of, transaction, transactions, client_load, loads, phase, phases, flush, flushes, last_read, last_reads, body}
+use Rattle.load_maker.specs.Made.{Block, lines_made, state_behind, fixed, outage, connect, change, change_of, transaction, transactions, client_load, loads, phase, phases, flush, flushes, last_read, last_reads, ending, body}
 use Rattle.load_maker.proofs.Blocks.{lines_made-append}
 
 -- blocks have so many lines, whatever is drawn
@@ -40,12 +40,17 @@ load_counts turns client = counts_both 1 (turns * 6 + 1) (connect client ∷ [])
 phase_counts : (turns clients : ℕ) → Counts (6 + (clients * (1 + (turns * 6 + 1)) + 1)) (phase turns clients)
 phase_counts turns clients = counts_both 6 (clients * (1 + (turns * 6 + 1)) + 1) (fixed (Phase ∷ []) ∷ outage ∷ []) (loads turns clients ++ fixed (End ∷ []) ∷ []) (λ state. refl) (counts_both (clients * (1 + (turns * 6 + 1))) 1 (loads turns clients) (fixed (End ∷ []) ∷ []) (counts_joined (client_load turns) (1 + (turns * 6 + 1)) 1 clients (load_counts turns)) (λ state. refl))
 
+-- so has what is done behind the phases
+ending_counts : (clients : ℕ) → Counts ((1 + clients * 2) + (1 + clients * 2)) (ending clients)
+ending_counts clients =
+    counts_both (1 + clients * 2) (1 + clients * 2) (fixed (Settle ∷ []) ∷ flushes clients) (fixed (Settle ∷ []) ∷ last_reads clients)
+    (counts_both 1 (clients * 2) (fixed (Settle ∷ []) ∷ []) (flushes clients) (λ state. refl) (counts_joined flush 2 1 clients (λ k state. refl)))
+    (counts_both 1 (clients * 2) (fixed (Settle ∷ []) ∷ []) (last_reads clients) (λ state. refl) (counts_joined last_read 2 1 clients (λ k state. refl)))
+
 -- what is done in a script has so many lines
-pub body_counts : (turns clients many : ℕ) → Counts (many * (6 + (clients * (1 + (turns * 6 + 1)) + 1)) + (1 + clients * 2) + (1 + clients * 2)) (body turns clients many)
+pub body_counts : (turns clients many : ℕ) → Counts (many * (6 + (clients * (1 + (turns * 6 + 1)) + 1)) + ((1 + clients * 2) + (1 + clients * 2))) (body turns clients many)
 unfolding body
 body_counts turns clients many =
-    counts_both (many * (6 + (clients * (1 + (turns * 6 + 1)) + 1)) + (1 + clients * 2)) (1 + clients * 2) (phases turns clients many ++ fixed (Settle ∷ []) ∷ flushes clients) (fixed (Settle ∷ []) ∷ last_reads clients)
-    (counts_both (many * (6 + (clients * (1 + (turns * 6 + 1)) + 1))) (1 + clients * 2) (phases turns clients many) (fixed (Settle ∷ []) ∷ flushes clients)
+    counts_both (many * (6 + (clients * (1 + (turns * 6 + 1)) + 1))) ((1 + clients * 2) + (1 + clients * 2)) (phases turns clients many) (ending clients)
     (counts_joined (λ turn. phase turns clients) (6 + (clients * (1 + (turns * 6 + 1)) + 1)) 1 many (λ k. phase_counts turns clients))
-    (counts_both 1 (clients * 2) (fixed (Settle ∷ []) ∷ []) (flushes clients) (λ state. refl) (counts_joined flush 2 1 clients (λ k state. refl))))
-    (counts_both 1 (clients * 2) (fixed (Settle ∷ []) ∷ []) (last_reads clients) (λ state. refl) (counts_joined last_read 2 1 clients (λ k state. refl)))
+    (ending_counts clients)

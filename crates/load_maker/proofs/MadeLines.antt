@@ -11,7 +11,7 @@ use Rattle.load_maker.specs.declared.line.Line.{Line}
 use Rattle.load_maker.specs.declared.line.Line.TheVariants.{Centres, Clients, Threads, Rounds, Phase, End, Settle, Down, Prune, Up, Connect, Begin, IncTotal, IncSide, SetNote, AddCart, PutCart, ReadTotal, Commit, Push, Flush, Refresh}
 use Rattle.load_maker.specs.Draws.{drawn, next_state}
 use Rattle.load_maker.specs.Lines.{client_text, line_text, lines_text}
-use Rattle.load_maker.specs.Made.{Block, lines_made, fixed, outage, connect, change_of, transaction, transactions, client_load, loads, phase, phases, flush, flushes, last_read, last_reads, settings, body, blocks, made_lines, made_script}
+use Rattle.load_maker.specs.Made.{Block, lines_made, fixed, outage, connect, change_of, transaction, transactions, client_load, within, phase, phases, flush, flushes, last_read, last_reads, ending, settings, body, blocks, made_lines, made_script}
 use Rattle.load_maker.specs.Rows.{IsRead}
 use Rattle.load_maker.proofs.Spelled.{all_append, digits_pass, decimal_digits}
 use Rattle.load_maker.proofs.Rows as rows
@@ -46,6 +46,29 @@ IsInRange (Push client) = IsOne client
 IsInRange (Flush client) = IsOne client
 IsInRange (Refresh client) = IsOne client
 IsInRange _ = Unit {0}
+
+-- a line is such a step
+abbrev pub IsStep : Line → Type 0
+IsStep Phase = ⊥
+IsStep End = ⊥
+IsStep line = IsInRange line
+
+-- and one that may stand in a phase
+abbrev pub IsInside : Line → Type 0
+IsInside Settle = ⊥
+IsInside line = IsStep line
+
+pub step_ranged : (line : Line) → IsStep line → IsInRange line
+step_ranged Phase is = absurd is
+step_ranged End is = absurd is
+step_ranged line is = is
+
+inside_step : (line : Line) → IsInside line → IsStep line
+inside_step Settle is = absurd is
+inside_step line is = is
+
+pub inside_ranged : (line : Line) → IsInside line → IsInRange line
+inside_ranged line is = step_ranged line (inside_step line is)
 
 -- such a line is read
 pub line_read : (line : Line) → IsInRange line → IsRead line
@@ -119,22 +142,31 @@ all_both P (x ∷ xs) ys front rest = (front.0, all_both P xs ys front.1 rest)
 abbrev pub AreInRange : List Line → Type 0
 AreInRange lines = AllByRecursion IsInRange lines
 
--- the lines of a block are, whatever is drawn
-abbrev IsGood : Block → Type 0
-IsGood block = (state : ℕ) → AreInRange (block state).0
+-- something holds of the lines of a block, whatever is drawn
+abbrev IsGood : (Line → Type 0) → Block → Type 0
+IsGood P block = (state : ℕ) → AllByRecursion P (block state).0
 
--- so are those of blocks
-abbrev AreGood : List Block → Type 0
-AreGood made = AllByRecursion IsGood made
+-- and of those of blocks
+abbrev pub AreGood : (Line → Type 0) → List Block → Type 0
+AreGood P made = AllByRecursion (IsGood P) made
 
-good_lines : (made : List Block) (state : ℕ) → AreGood made → AreInRange (lines_made made state)
-good_lines [] state good = tt
-good_lines (block ∷ made) state good = all_both IsInRange (block state).0 (lines_made made (block state).1) (good.0 state) (good_lines made (block state).1 good.1)
+pub good_lines : (P : Line → Type 0) (made : List Block) (state : ℕ) → AreGood P made → AllByRecursion P (lines_made made state)
+good_lines P [] state good = tt
+good_lines P (block ∷ made) state good = all_both P (block state).0 (lines_made made (block state).1) (good.0 state) (good_lines P made (block state).1 good.1)
 
--- and those of blocks over a range of numbers
-good_joined : (f : ℕ → List Block) (first count : ℕ) → ((k : ℕ) → first ≤ k → k < first + count → AreGood (f k)) → AreGood (flat_map f (range_with_len first count))
-good_joined f first zero each = tt
-good_joined f first (suc count) each = all_both IsGood (f first) (flat_map f (range_with_len (first + 1) count)) (each first (omega arith) (omega arith)) (good_joined f (first + 1) count (λ k low high. each k (omega arith) (omega arith)))
+-- and of those of blocks over a range of numbers
+good_joined : (P : Line → Type 0) (f : ℕ → List Block) (first count : ℕ) → ((k : ℕ) → first ≤ k → k < first + count → AreGood P (f k)) → AreGood P (flat_map f (range_with_len first count))
+good_joined P f first zero each = tt
+good_joined P f first (suc count) each = all_both (IsGood P) (f first) (flat_map f (range_with_len (first + 1) count)) (each first (omega arith) (omega arith)) (good_joined P f (first + 1) count (λ k low high. each k (omega arith) (omega arith)))
+
+-- what follows from it holds too
+also_lines : (P Q : Line → Type 0) (lines : List Line) → ((line : Line) → P line → Q line) → AllByRecursion P lines → AllByRecursion Q lines
+also_lines P Q [] each all = tt
+also_lines P Q (line ∷ lines) each all = (each line all.0, also_lines P Q lines each all.1)
+
+also_good : (P Q : Line → Type 0) (made : List Block) → ((line : Line) → P line → Q line) → AreGood P made → AreGood Q made
+also_good P Q [] each good = tt
+also_good P Q (block ∷ made) each good = (λ state. also_lines P Q (block state).0 each (good.0 state), also_good P Q made each good.1)
 
 -- what is drawn is below its bound
 below : (bound state : ℕ) → 0 < bound → drawn bound state < bound
@@ -144,43 +176,51 @@ below bound state some = omega arith
 centre_there : (state : ℕ) → IsThere (1 + drawn 3 state)
 centre_there state = let high = below 3 state (lit< tt) in (omega arith, omega (arith, high))
 
-connect_good : (client : ℕ) → IsOne client → IsGood (connect client)
+connect_good : (client : ℕ) → IsOne client → IsGood IsInside (connect client)
 connect_good client one state = ((one, centre_there state), tt)
 
-outage_good : IsGood outage
+outage_good : IsGood IsInside outage
 outage_good state = (centre_there state, ((lit≤ tt, lit≤ tt), ((lit≤ tt, lit≤ tt), ((lit≤ tt, lit≤ tt), (centre_there state, tt)))))
 
-change_of_good : (client kind state : ℕ) → IsOne client → AreInRange (change_of client kind state).0
+change_of_good : (client kind state : ℕ) → IsOne client → AllByRecursion IsInside (change_of client kind state).0
 change_of_good client zero state one = (one, tt)
 change_of_good client (suc zero) state one = ((one, below 50 state (lit< tt)), tt)
 change_of_good client (suc (suc zero)) state one = ((one, below 50 state (lit< tt)), tt)
 change_of_good client (suc (suc (suc kind))) state one = ((one, below 50 state (lit< tt), below 50 (next_state state) (lit< tt)), tt)
 
-transaction_good : (client : ℕ) → IsOne client → AreGood (transaction client)
+transaction_good : (client : ℕ) → IsOne client → AreGood IsInside (transaction client)
 transaction_good client one = (λ state. (one, (one, tt)), (λ state. change_of_good client (drawn 4 state) (next_state state) one, (λ state. (one, (one, (one, tt))), tt)))
 
-load_good : (turns client : ℕ) → IsOne client → AreGood (client_load turns client)
-load_good turns client one = (connect_good client one, all_both IsGood (transactions client turns) (fixed (Refresh client ∷ []) ∷ []) (good_joined (λ turn. transaction client) 1 turns (λ k low high. transaction_good client one)) (λ state. (one, tt), tt))
+load_good : (turns client : ℕ) → IsOne client → AreGood IsInside (client_load turns client)
+load_good turns client one = (connect_good client one, all_both (IsGood IsInside) (transactions client turns) (fixed (Refresh client ∷ []) ∷ []) (good_joined IsInside (λ turn. transaction client) 1 turns (λ k low high. transaction_good client one)) (λ state. (one, tt), tt))
 
-phase_good : (turns clients : ℕ) → clients ≤ 100 → AreGood (phase turns clients)
-phase_good turns clients few = (λ state. (tt, tt), (outage_good, all_both IsGood (loads turns clients) (fixed (End ∷ []) ∷ []) (good_joined (client_load turns) 1 clients (λ k low high. load_good turns k (low, omega arith))) (λ state. (tt, tt), tt)))
+-- what is done in a phase may stand there
+pub within_good : (turns clients : ℕ) → clients ≤ 100 → AreGood IsInside (within turns clients)
+within_good turns clients few = (outage_good, good_joined IsInside (client_load turns) 1 clients (λ k low high. load_good turns k (low, omega arith)))
 
-flush_good : (client : ℕ) → IsOne client → AreGood (flush client)
+phase_good : (turns clients : ℕ) → clients ≤ 100 → AreGood IsInRange (phase turns clients)
+phase_good turns clients few = (λ state. (tt, tt), all_both (IsGood IsInRange) (within turns clients) (fixed (End ∷ []) ∷ []) (also_good IsInside IsInRange (within turns clients) inside_ranged (within_good turns clients few)) (λ state. (tt, tt), tt))
+
+flush_good : (client : ℕ) → IsOne client → AreGood IsInside (flush client)
 flush_good client one = (connect_good client one, (λ state. (one, tt), tt))
 
-last_good : (client : ℕ) → IsOne client → AreGood (last_read client)
+last_good : (client : ℕ) → IsOne client → AreGood IsInside (last_read client)
 last_good client one = (λ state. (one, (one, tt)), tt)
 
-body_good : (turns clients many : ℕ) → clients ≤ 100 → AreGood (body turns clients many)
+-- what is done behind the phases are steps
+pub ending_good : (clients : ℕ) → clients ≤ 100 → AreGood IsStep (ending clients)
+ending_good clients few =
+    let settle : IsGood IsStep (fixed (Settle ∷ [])) = λ state. (tt, tt) in
+    let flushed = also_good IsInside IsStep (flushes clients) inside_step (good_joined IsInside flush 1 clients (λ k low high. flush_good k (low, omega arith))) in
+    let last = also_good IsInside IsStep (last_reads clients) inside_step (good_joined IsInside last_read 1 clients (λ k low high. last_good k (low, omega arith))) in
+    (settle, all_both (IsGood IsStep) (flushes clients) (fixed (Settle ∷ []) ∷ last_reads clients) flushed (settle, last))
+
+body_good : (turns clients many : ℕ) → clients ≤ 100 → AreGood IsInRange (body turns clients many)
 unfolding body
 body_good turns clients many few =
-    let settle : IsGood (fixed (Settle ∷ [])) = λ state. (tt, tt) in
-    let phased = good_joined (λ turn. phase turns clients) 1 many (λ k low high. phase_good turns clients few) in
-    let flushed = good_joined flush 1 clients (λ k low high. flush_good k (low, omega arith)) in
-    let last = good_joined last_read 1 clients (λ k low high. last_good k (low, omega arith)) in
-    all_both IsGood (phases turns clients many ++ fixed (Settle ∷ []) ∷ flushes clients) (fixed (Settle ∷ []) ∷ last_reads clients)
-    (all_both IsGood (phases turns clients many) (fixed (Settle ∷ []) ∷ flushes clients) phased (settle, flushed))
-    (settle, last)
+    all_both (IsGood IsInRange) (phases turns clients many) (ending clients)
+    (good_joined IsInRange (λ turn. phase turns clients) 1 many (λ k low high. phase_good turns clients few))
+    (also_good IsStep IsInRange (ending clients) step_ranged (ending_good clients few))
 
 -- ---- the lines of a made script
 
@@ -194,7 +234,7 @@ unfolding made_lines blocks
 made_is num = refl
 
 pub done_good : (num : ℕ) → AreInRange (done num)
-done_good num = good_lines (body 10 100 5) num (body_good 10 100 5 (lit≤ tt))
+done_good num = good_lines IsInRange (body 10 100 5) num (body_good 10 100 5 (lit≤ tt))
 
 -- what holds of each line in range holds of each of lines in range
 all_good : (P : Line → Type 0) (lines : List Line) → ((line : Line) → IsInRange line → P line) → AreInRange lines → All P lines

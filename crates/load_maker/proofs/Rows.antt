@@ -282,11 +282,11 @@ pub rounds_line : (number : ℕ) → number ≤ MAX_LINES → row_in (Some made_
 unfolding form_among said_word row_of words_of number_in
 rounds_line number early = row_by number (codes "rounds 32") (codes "rounds" ∷ codes "32" ∷ []) form.Rounds (record unsaid { count = 32 }) early refl (lit≤ tt) refl refl refl refl refl
 
-pub phase_line : (number : ℕ) → number ≤ MAX_LINES → row_in (Some made_header) number (codes "phase") ≡ Ok (Some row.Later)
+pub phase_line : (number : ℕ) → number ≤ MAX_LINES → row_in (Some made_header) number (codes "phase") ≡ Ok (Some row.Phase)
 unfolding form_among said_word row_of words_of number_in
 phase_line number early = row_by number (codes "phase") (codes "phase" ∷ []) form.Phase unsaid early refl (lit≤ tt) refl refl refl refl refl
 
-pub end_line : (number : ℕ) → number ≤ MAX_LINES → row_in (Some made_header) number (codes "end") ≡ Ok (Some row.Later)
+pub end_line : (number : ℕ) → number ≤ MAX_LINES → row_in (Some made_header) number (codes "end") ≡ Ok (Some row.End)
 unfolding form_among said_word row_of words_of number_in
 end_line number early = row_by number (codes "end") (codes "end" ∷ []) form.End unsaid early refl (lit≤ tt) refl refl refl refl refl
 

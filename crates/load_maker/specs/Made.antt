@@ -60,9 +60,13 @@ client_load turns client = connect client ∷ transactions client turns ++ fixed
 abbrev pub loads : ℕ → ℕ → List Block
 loads turns clients = flat_map (client_load turns) (range_with_len 1 clients)
 
+-- what is done in a phase
+abbrev pub within : ℕ → ℕ → List Block
+within turns clients = outage ∷ loads turns clients
+
 -- a phase
 abbrev pub phase : ℕ → ℕ → List Block
-phase turns clients = fixed (Phase ∷ []) ∷ outage ∷ loads turns clients ++ fixed (End ∷ []) ∷ []
+phase turns clients = fixed (Phase ∷ []) ∷ within turns clients ++ fixed (End ∷ []) ∷ []
 
 -- so many phases
 abbrev pub phases : ℕ → ℕ → ℕ → List Block
@@ -88,10 +92,13 @@ last_reads clients = flat_map last_read (range_with_len 1 clients)
 abbrev pub settings : ℕ → List Line
 settings clients = Centres ∷ Clients clients ∷ Threads ∷ Rounds ∷ []
 
--- what is done in a script of so many clients and phases, with so many transactions of a client in a phase: the centres
--- settle behind the phases, and once more when the clients have sent all that they have
+-- what is done behind the phases: the centres settle, and once more when the clients have sent all that they have
+abbrev pub ending : ℕ → List Block
+ending clients = fixed (Settle ∷ []) ∷ flushes clients ++ fixed (Settle ∷ []) ∷ last_reads clients
+
+-- what is done in a script of so many clients and phases, with so many transactions of a client in a phase
 unfoldable pub body : ℕ → ℕ → ℕ → List Block
-body turns clients many = phases turns clients many ++ fixed (Settle ∷ []) ∷ flushes clients ++ fixed (Settle ∷ []) ∷ last_reads clients
+body turns clients many = phases turns clients many ++ ending clients
 
 -- such a script
 unfoldable pub blocks : ℕ → ℕ → ℕ → List Block

@@ -48,14 +48,14 @@ key_of number = codes "k" ++ decimal number
 abbrev pub client_does : ℕ → ClientStep → Row
 client_does client made = row.Does (step.Client client made)
 
--- what a line says; that a phase begins or ends is what no script says yet
+-- what a line says
 abbrev pub row_meant : Line → Row
 row_meant Centres = row.Centres 3 2
 row_meant (Clients clients) = row.Clients clients
 row_meant Threads = row.Threads 4
 row_meant Rounds = row.Rounds 32
-row_meant Phase = row.Later
-row_meant End = row.Later
+row_meant Phase = row.Phase
+row_meant End = row.End
 row_meant Settle = row.Does (step.Operator operator.Settle)
 row_meant (Down centre) = row.Does (step.Operator (operator.Down centre))
 row_meant (Prune centre) = row.Does (step.Operator (operator.Prune centre))

@@ -1,22 +1,18 @@
 // The law of made scripts: a function with nothing to do, whose contract is the law.
-ghost use Rattle.std.specs.Prelude.{◌≡◌, ℕ, All, Ok, Err, length, map};
+ghost use Rattle.std.specs.Prelude.{◌≡◌, ℕ, All, Ok, length, map};
 ghost use Rattle.script_text.specs.Lines.{lines_of};
-ghost use Rattle.script_reader.specs.declared.fault.Cause.TheVariants.{Place};
-ghost use Rattle.script_reader.specs.declared.fault.ScriptFault.TheVariants.{Refused};
 ghost use Rattle.script_reader.specs.Scripts.{script_read};
-ghost use Rattle.load_maker.specs.Lines.{line_text, lines_text};
+ghost use Rattle.load_maker.specs.Lines.{line_text};
 ghost use Rattle.load_maker.specs.Made.{made_lines, made_script};
-ghost use Rattle.load_maker.specs.MadeScripts.{script_of_lines, steady_lines};
+ghost use Rattle.load_maker.specs.MadeScripts.{script_made};
 ghost use Rattle.load_maker.specs.Rows.{IsRead};
 
-/// A made script is one of the grammar of scripts, as far as that has phases. Its bytes are its lines (`lines`), 31,441
-/// of them (`count`), and each is read as what it means, wherever it stands behind the header (`read`). Without the lines
-/// that begin or end a phase they are a script, with just its steps (`script`); with them they are refused where the
-/// first phase begins, as each script with a phase is (`phases`).
+/// A made script is one of the grammar of scripts. Its bytes are its lines (`lines`), 31,441 of them (`count`), and each is
+/// read as what it means, wherever it stands behind the header (`read`). Together they are a script: its settings, five
+/// phases with just their steps, and the steps behind these (`script`).
 pub fn law_made_script()
     ensures lines { (num : ℕ) → lines_of (made_script num) ≡ map line_text (made_lines num) }
     ensures count { (num : ℕ) → length (made_lines num) ≡ 31441 }
     ensures read { (num : ℕ) → All IsRead (made_lines num) }
-    ensures script { (num : ℕ) → script_read (lines_text (steady_lines num)) ≡ Ok (script_of_lines (made_lines num)) }
-    ensures phases { (num : ℕ) → script_read (made_script num) ≡ Err (Refused 5 Place) }
+    ensures script { (num : ℕ) → script_read (made_script num) ≡ Ok (script_made num) }
 {}

@@ -7,12 +7,12 @@ use Rattle.std.proofs.lemmas.List.Sums.{sum_by-cons}
 use Rattle.script_text.specs.Limits.{line_feeds, IsOfOneLine, PassesLimits}
 use Rattle.script_text.specs.Lines.{lines_of, onto_first}
 use Rattle.script_text.specs.declared.limits.TheConstants.{MAX_LINE, MAX_LINES}
+use Rattle.script_text.specs.declared.script.Script.{Script}
 use Rattle.script_reader.specs.declared.fault.Cause.{Cause}
 use Rattle.script_reader.specs.declared.fault.Cause.TheVariants.{Many, Long}
 use Rattle.script_reader.specs.declared.fault.ScriptFault.{ScriptFault}
 use Rattle.script_reader.specs.declared.fault.ScriptFault.TheVariants.{Refused}
 use Rattle.script_reader.specs.declared.reading.Reading.{Reading}
-use Rattle.script_reader.specs.declared.reading.ReadScript.{ReadScript}
 use Rattle.script_reader.specs.declared.row.Row.{Row}
 use Rattle.script_reader.specs.Rows.{row_in}
 use Rattle.script_reader.specs.Readings.{nothing_read}
@@ -172,7 +172,7 @@ no_shorter l m [] ms go = let n : length m ≡ length (l ++ go.0) = ap length go
 no_shorter l m (k ∷ ls) ms go = let n : length m ≡ length l = ap length go.0 in omega arith
 
 -- what follows a line: the others, or nothing
-abbrev rest_read : ℕ → List (List ℕ) → Result Reading Cause → Result ReadScript ScriptFault
+abbrev rest_read : ℕ → List (List ℕ) → Result Reading Cause → Result Script ScriptFault
 rest_read number lines (Ok more) = lines_read (number + 1) more lines
 rest_read number lines (Err why) = Err (Refused number why)
 
@@ -198,17 +198,17 @@ pub cut_off : (bytes more : List ℕ) → PassesLimits bytes → script_read (by
 unfolding script_read
 cut_off bytes more past = same_end 1 nothing_read (lines_of bytes) (lines_of (bytes ++ more)) (lines_go_on bytes more) (past_limits bytes past)
 
-no_script : (number : ℕ) (reading : Reading) (ls : List (List ℕ)) (script : ReadScript) → Past number ls → lines_read number reading ls ≡ Ok script → ⊥
+no_script : (number : ℕ) (reading : Reading) (ls : List (List ℕ)) (script : Script) → Past number ls → lines_read number reading ls ≡ Ok script → ⊥
 no_script number reading [] script past is = past
 no_script number reading (l ∷ ls) script (inl many) is = absurd (let bad : Err (Refused number Many) ≡ Ok script = sym (ends_at number reading l ls Many (refused_many number reading l many)) ∙ is in cc)
 no_script number reading (l ∷ ls) script (inr (inl long)) is = absurd (let bad : Err (Refused number (too_long number)) ≡ Ok script = sym (ends_at number reading l ls (too_long number) (refused_long number reading l long)) ∙ is in cc)
 no_script number reading (l ∷ ls) script (inr (inr later)) is = further number ls (line_taken reading number l) script (λ more. no_script (number + 1) more ls script later) is
   where
-    further : (n : ℕ) (rest : List (List ℕ)) (t : Result Reading Cause) (s : ReadScript) → ((more : Reading) → lines_read (n + 1) more rest ≡ Ok s → ⊥) → rest_read n rest t ≡ Ok s → ⊥
+    further : (n : ℕ) (rest : List (List ℕ)) (t : Result Reading Cause) (s : Script) → ((more : Reading) → lines_read (n + 1) more rest ≡ Ok s → ⊥) → rest_read n rest t ≡ Ok s → ⊥
     further n rest (Ok more) s none e = none more e
     further n rest (Err why) s none e = absurd (cc)
 
 -- it is no script
-pub past_is_none : (bytes : List ℕ) (script : ReadScript) → PassesLimits bytes → script_read bytes ≡ Ok script → ⊥
+pub past_is_none : (bytes : List ℕ) (script : Script) → PassesLimits bytes → script_read bytes ≡ Ok script → ⊥
 unfolding script_read
 past_is_none bytes script past is = no_script 1 nothing_read (lines_of bytes) script (past_limits bytes past) is

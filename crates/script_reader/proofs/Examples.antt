@@ -97,10 +97,58 @@ a_word_behind_equal_centres : RefusedThird (codes "ship 1 1 x\n") cause.Range
 unfolding script_read words_of number_in delta_in object_named form_among said_word row_of row_in_text row_in may_stand read_more
 a_word_behind_equal_centres = refl
 
-no_phase_yet : RefusedThird (codes "phase\n") cause.Place
-unfolding script_read words_of number_in delta_in object_named form_among said_word row_of row_in_text row_in may_stand read_more
-no_phase_yet = refl
-
 a_phase_of_something : RefusedThird (codes "phase 1\n") cause.Count
 unfolding script_read words_of number_in delta_in object_named form_among said_word row_of row_in_text row_in may_stand read_more
 a_phase_of_something = refl
+
+-- these lines behind the two of a header with two centres and one client are refused so, at the line of this number
+abbrev RefusedAt : ℕ → List ℕ → Cause → Type 0
+RefusedAt number lines why = script_read (codes "centres 2 k 1\nclients 1\n" ++ lines) ≡ Err (Refused number why)
+
+a_phase_in_a_phase : RefusedAt 4 (codes "phase\nphase\nend\nend\n") cause.Place
+unfolding script_read words_of number_in delta_in object_named form_among said_word row_of row_in_text row_in may_stand read_more
+a_phase_in_a_phase = refl
+
+an_end_without_a_phase : RefusedAt 4 (codes "c1 begin\nend\n") cause.Place
+unfolding script_read words_of number_in delta_in object_named form_among said_word row_of row_in_text row_in may_stand read_more
+an_end_without_a_phase = refl
+
+an_end_behind_an_end : RefusedAt 5 (codes "phase\nend\nend\n") cause.Place
+unfolding script_read words_of number_in delta_in object_named form_among said_word row_of row_in_text row_in may_stand read_more
+an_end_behind_an_end = refl
+
+settling_in_a_phase : RefusedAt 4 (codes "phase\nsettle\nend\n") cause.Place
+unfolding script_read words_of number_in delta_in object_named form_among said_word row_of row_in_text row_in may_stand read_more
+settling_in_a_phase = refl
+
+a_link_in_a_phase : RefusedAt 4 (codes "phase\nlink 1 2 clean\nend\n") cause.Place
+unfolding script_read words_of number_in delta_in object_named form_among said_word row_of row_in_text row_in may_stand read_more
+a_link_in_a_phase = refl
+
+a_setting_in_a_phase : RefusedAt 4 (codes "phase\ncache 5\nend\n") cause.Place
+unfolding script_read words_of number_in delta_in object_named form_among said_word row_of row_in_text row_in may_stand read_more
+a_setting_in_a_phase = refl
+
+a_setting_behind_a_phase : RefusedAt 5 (codes "phase\nend\nrounds 5\n") cause.Place
+unfolding script_read words_of number_in delta_in object_named form_among said_word row_of row_in_text row_in may_stand read_more
+a_setting_behind_a_phase = refl
+
+a_phase_that_does_not_end : RefusedAt 5 (codes "phase\nc1 begin\n") cause.Place
+unfolding script_read words_of number_in delta_in object_named form_among said_word row_of row_in_text row_in may_stand read_more
+a_phase_that_does_not_end = refl
+
+a_phase_that_just_begins : RefusedAt 4 (codes "phase") cause.Place
+unfolding script_read words_of number_in delta_in object_named form_among said_word row_of row_in_text row_in may_stand read_more
+a_phase_that_just_begins = refl
+
+a_fault_of_no_item : RefusedAt 3 (codes "link 1 2 drop 0\n") cause.Range
+unfolding script_read words_of number_in delta_in object_named form_among said_word row_of row_in_text row_in may_stand read_more
+a_fault_of_no_item = refl
+
+a_fault_of_too_many_items : RefusedAt 3 (codes "link 1 2 hold 1000001\n") cause.Range
+unfolding script_read words_of number_in delta_in object_named form_among said_word row_of row_in_text row_in may_stand read_more
+a_fault_of_too_many_items = refl
+
+a_link_to_the_same_centre : RefusedAt 3 (codes "link 2 2 twice 1\n") cause.Range
+unfolding script_read words_of number_in delta_in object_named form_among said_word row_of row_in_text row_in may_stand read_more
+a_link_to_the_same_centre = refl

@@ -1,19 +1,20 @@
 -- What lines say is in range.
-use Rattle.std.proofs.Common.{◌≡◌, ◌≤◌, ℕ, Bool, true, false, List, [], ◌∷◌, length, refl, ap, sym, ◌∙◌, subst, eqb-true}
+use Rattle.std.proofs.Common.{◌≡◌, ◌≤◌, ℕ, Bool, true, false, List, [], ◌∷◌, length, refl, ap, sym, ◌∙◌, subst, arith, eqb-true}
 use Rattle.std.specs.Prelude.{nat_lt, cond, find, Option, Some, None, Result, Ok, Err, IfSome}
 use Rattle.std.specs.List.{list_any}
 use Rattle.std.proofs.lemmas.Bool.{and_parts}
 use Rattle.ids_core.specs.Same.{same_sort-true}
 use Rattle.ids_core.specs.declared.limits.TheConstants.{MOST_CENTRES, MOST_CLIENTS, MOST_CACHED, MOST_RECORDS}
-use Rattle.script_text.specs.Steps.{IsCount, IsHeader, IsStepOf}
+use Rattle.script_text.specs.Steps.{IsCount, IsHeader, IsRoute, IsStepOf}
 use Rattle.script_text.specs.declared.limits.TheConstants.{MAX_LINE, MAX_LINES}
 use Rattle.script_text.specs.declared.script.Header.{Header}
 use Rattle.script_reader.specs.declared.fault.Cause.{Cause}
 use Rattle.script_reader.specs.declared.fault.Cause.TheVariants as cause
-use Rattle.script_reader.specs.declared.form.TheConstants.{MOST_THREADS, MOST_ROUNDS}
+use Rattle.script_text.specs.declared.script.TheConstants.{MOST_THREADS, MOST_ROUNDS}
 use Rattle.script_reader.specs.declared.form.Form.{Form}
 use Rattle.script_reader.specs.declared.form.Form.TheVariants as form
 use Rattle.script_reader.specs.declared.form.Word.TheVariants as word
+use Rattle.script_reader.specs.declared.form.Part.TheVariants.{Fixed, Count}
 use Rattle.script_reader.specs.declared.said.Said.{Said}
 use Rattle.script_reader.specs.declared.row.Row.{Row}
 use Rattle.script_reader.specs.declared.row.Row.TheVariants as row
@@ -21,7 +22,7 @@ use Rattle.script_reader.specs.Words.{words_of, without_return, is_comment, is_p
 use Rattle.script_reader.specs.Forms.{agrees, fits, forms, found, form_among, form_of, parts_of}
 use Rattle.script_reader.specs.Said.{unsaid, said_words}
 use Rattle.script_reader.specs.Rows.{row_of, is_of_its_kind, kind_checked, row_said, row_spelled, row_in_words, row_in_text, row_in}
-use Rattle.script_reader.proofs.SaidRanges.{IsSaid, IsCounted, IsOther, count_of, unsaid_in_range, words_in_range, counted_in_range, route_said, route_counted}
+use Rattle.script_reader.proofs.SaidRanges.{IsSaid, IsCounted, IsOther, count_of, unsaid_in_range, words_in_range, counted_in_range, route_said}
 
 -- what a line sets is in its range
 abbrev pub SetsInRange : Row → Type 0
@@ -32,7 +33,8 @@ SetsInRange (row.Limit most) = IsCount MOST_RECORDS most
 SetsInRange (row.Threads most) = IsCount MOST_THREADS most
 SetsInRange (row.Rounds rounds) = rounds ≤ MOST_ROUNDS
 SetsInRange (row.Does step) = Unit {0}
-SetsInRange row.Later = Unit {0}
+SetsInRange row.Phase = Unit {0}
+SetsInRange row.End = Unit {0}
 
 -- its step is one of a script with this header
 abbrev pub DoesInRange : Header → Row → Type 0
@@ -59,7 +61,15 @@ abbrev HasRoute : ℕ → Form → Said → Type 0
 HasRoute n form.ShipOne said = IsOther n said
 HasRoute n form.Ship said = IsOther n said
 HasRoute n form.Tell said = IsOther n said
+HasRoute n form.LinkDrop said = IsOther n said
+HasRoute n form.LinkTwice said = IsOther n said
+HasRoute n form.LinkHold said = IsOther n said
+HasRoute n form.LinkClean said = IsOther n said
 HasRoute n _ said = Unit {0}
+
+-- the two centres of a form
+is_route : (h : Header) (said : Said) → IsSaid (Some h) said → IsOther h.n said → IsRoute h.n said.centre said.other
+is_route h said is route = record { from_there = is.centre; to_there = route.0; apart = route.1 }
 
 does_in_range : (h : Header) (one : Form) (said : Said) → IsSaid (Some h) said → IsCounted (count_of (parts_of one)) unsaid said → HasRoute h.n one said → is_of_its_kind (row_of one said) ≡ true → DoesInRange h (row_of one said)
 unfolding row_of
@@ -89,22 +99,26 @@ does_in_range h form.LoseReply said is counted route kind = (is.client, tt)
 does_in_range h form.AskTwice said is counted route kind = (is.client, tt)
 does_in_range h form.Down said is counted route kind = is.centre
 does_in_range h form.Up said is counted route kind = is.centre
-does_in_range h form.ShipOne said is counted route kind = (record { from_there = is.centre; to_there = route.0; apart = route.1 }, counted)
-does_in_range h form.Ship said is counted route kind = record { from_there = is.centre; to_there = route.0; apart = route.1 }
-does_in_range h form.Tell said is counted route kind = record { from_there = is.centre; to_there = route.0; apart = route.1 }
+does_in_range h form.ShipOne said is counted route kind = (is_route h said is route, counted)
+does_in_range h form.Ship said is counted route kind = is_route h said is route
+does_in_range h form.Tell said is counted route kind = is_route h said is route
 does_in_range h form.Prune said is counted route kind = is.centre
-does_in_range h form.LinkDrop said is counted route kind = tt
-does_in_range h form.LinkTwice said is counted route kind = tt
-does_in_range h form.LinkHold said is counted route kind = tt
-does_in_range h form.LinkClean said is counted route kind = tt
+does_in_range h form.LinkDrop said is counted route kind = (is_route h said is route, counted)
+does_in_range h form.LinkTwice said is counted route kind = (is_route h said is route, counted)
+does_in_range h form.LinkHold said is counted route kind = (is_route h said is route, counted)
+does_in_range h form.LinkClean said is counted route kind = (is_route h said is route, tt)
 does_in_range h form.Settle said is counted route kind = tt
 does_in_range h form.Phase said is counted route kind = tt
 does_in_range h form.End said is counted route kind = tt
 
 route_in_range : (h : Header) (one : Form) (texts : List (List ℕ)) (said : Said) → length (parts_of one) ≡ length texts → said_words (Some h) (parts_of one) texts unsaid ≡ Ok said → HasRoute h.n one said
-route_in_range h form.ShipOne texts said same e = route_counted h word.Ship 1 1000000 texts unsaid said (sym same) e
-route_in_range h form.Ship texts said same e = route_said h word.Ship texts unsaid said (sym same) e
-route_in_range h form.Tell texts said same e = route_said h word.Tell texts unsaid said (sym same) e
+route_in_range h form.ShipOne texts said same e = route_said h word.Ship (Count 1 1000000 ∷ []) texts unsaid said (omega arith) (tt, tt) e
+route_in_range h form.Ship texts said same e = route_said h word.Ship [] texts unsaid said (omega arith) tt e
+route_in_range h form.Tell texts said same e = route_said h word.Tell [] texts unsaid said (omega arith) tt e
+route_in_range h form.LinkDrop texts said same e = route_said h word.Link (Fixed word.Drop ∷ Count 1 1000000 ∷ []) texts unsaid said (omega arith) (tt, (tt, tt)) e
+route_in_range h form.LinkTwice texts said same e = route_said h word.Link (Fixed word.Twice ∷ Count 1 1000000 ∷ []) texts unsaid said (omega arith) (tt, (tt, tt)) e
+route_in_range h form.LinkHold texts said same e = route_said h word.Link (Fixed word.Hold ∷ Count 1 1000000 ∷ []) texts unsaid said (omega arith) (tt, (tt, tt)) e
+route_in_range h form.LinkClean texts said same e = route_said h word.Link (Fixed word.Clean ∷ []) texts unsaid said (omega arith) (tt, tt) e
 route_in_range h _ texts said same e = tt
 
 both_in_range : (header : Option Header) (one : Form) (texts : List (List ℕ)) (said : Said) → IfSome header IsHeader → length (parts_of one) ≡ length texts → said_words header (parts_of one) texts unsaid ≡ Ok said → is_of_its_kind (row_of one said) ≡ true → IsRowInRange header (row_of one said)

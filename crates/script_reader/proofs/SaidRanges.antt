@@ -2,6 +2,7 @@
 use Rattle.std.proofs.Common.{◌≡◌, ◌≢◌, ◌≤◌, ℕ, zero, suc, Bool, true, false, List, [], ◌∷◌, length, refl, ap, sym, ◌∙◌, subst, arith, leb-true, le-leb}
 use Rattle.std.specs.Prelude.{◌==◌, ◌&&◌, ℤ, pos, neg_ℤ, nat_le, cond, drop, slice_index, Option, Some, None, Result, Ok, Err, IfSome, MatchOption}
 use Rattle.std.specs.Option.{option_or}
+use Rattle.std.specs.List.{AllByRecursion}
 use Rattle.std.proofs.lemmas.Bool.{eqb-false}
 use Rattle.ids_core.specs.Name.{IsName}
 use Rattle.ids_core.specs.declared.limits.TheConstants.{MOST_CENTRES, MOST_NUMBER, MOST_DELTA}
@@ -262,33 +263,31 @@ other_put_in : (h : Header) (said more : Said) → SaysSo (Some h) Other said mo
 other_put_in h said more says =
     subst (IsOther h.n) (sym says.1) (says.2, says.3)
 
--- two centres that end a form
-pub route_said : (h : Header) (own : Word) (texts : List (List ℕ)) (said more : Said) → length texts ≡ 3 → said_words (Some h) (Fixed own ∷ Centre ∷ Other ∷ []) texts said ≡ Ok more → IsOther h.n more
-route_said h own (a ∷ b ∷ c ∷ []) said more same e =
-    let first = said_first (Some h) (Fixed own) (Centre ∷ Other ∷ []) a (b ∷ c ∷ []) said more e in
-    let second = said_first (Some h) Centre (Other ∷ []) b (c ∷ []) first.mid more first.later in
-    let third = said_first (Some h) Other [] c [] second.mid more second.later in
-    subst (IsOther h.n) (let is : third.mid ≡ more = (let last : Ok third.mid ≡ Ok more = third.later in cc) in is) (other_put_in h second.mid third.mid third.says)
-route_said h own [] said more same e = absurd (omega arith)
-route_said h own (a ∷ []) said more same e = absurd (omega arith)
-route_said h own (a ∷ b ∷ []) said more same e = absurd (omega arith)
-route_said h own (a ∷ b ∷ c ∷ d ∷ texts) said more same e = absurd (omega arith)
+-- a part says nothing of centres
+abbrev pub SaysNoCentre : Part → Type 0
+SaysNoCentre (Fixed own) = Unit {0}
+SaysNoCentre (Count least most) = Unit {0}
+SaysNoCentre _ = ⊥
 
--- a number behind them leaves them
-last_kept : (h : Header) (least most : ℕ) (said mid more : Said) → SaysSo (Some h) (Count least most) said mid → ◌≡◌ {A = Result Said Cause} (Ok mid) (Ok more) → IsOther h.n said → IsOther h.n more
-last_kept h least most said mid more says last is = subst (IsOther h.n) (let same : mid ≡ more = cc in same) (other_kept h.n said mid (ap (λ (s : Said). s.centre) says.1) (ap (λ (s : Said). s.other) says.1) is)
+-- such words leave the two centres
+route_kept : (h : Header) (parts : List Part) (texts : List (List ℕ)) (said more : Said) → AllByRecursion SaysNoCentre parts → said_words (Some h) parts texts said ≡ Ok more → IsOther h.n said → IsOther h.n more
+route_kept h [] texts said more none e is = subst (IsOther h.n) (let same : said ≡ more = cc in same) is
+route_kept h (part ∷ parts) [] said more none e is = subst (IsOther h.n) (let same : said ≡ more = cc in same) is
+route_kept h (Fixed own ∷ parts) (text ∷ texts) said more none e is =
+    let first = said_first (Some h) (Fixed own) parts text texts said more e in
+    route_kept h parts texts first.mid more none.1 first.later (subst (IsOther h.n) (sym first.says) is)
+route_kept h (Count least most ∷ parts) (text ∷ texts) said more none e is =
+    let first = said_first (Some h) (Count least most) parts text texts said more e in
+    route_kept h parts texts first.mid more none.1 first.later (other_kept h.n said first.mid (ap (λ (s : Said). s.centre) first.says.1) (ap (λ (s : Said). s.other) first.says.1) is)
+route_kept h (part ∷ parts) (text ∷ texts) said more none e is = absurd none.0
 
--- two centres and a number
-pub route_counted : (h : Header) (own : Word) (least most : ℕ) (texts : List (List ℕ)) (said more : Said) → length texts ≡ 4 → said_words (Some h) (Fixed own ∷ Centre ∷ Other ∷ Count least most ∷ []) texts said ≡ Ok more → IsOther h.n more
-route_counted h own least most (a ∷ b ∷ c ∷ d ∷ []) said more same e =
-    let rest = Count least most ∷ [] in
-    let first = said_first (Some h) (Fixed own) (Centre ∷ Other ∷ rest) a (b ∷ c ∷ d ∷ []) said more e in
-    let second = said_first (Some h) Centre (Other ∷ rest) b (c ∷ d ∷ []) first.mid more first.later in
-    let third = said_first (Some h) Other rest c (d ∷ []) second.mid more second.later in
-    let fourth = said_first (Some h) (Count least most) [] d [] third.mid more third.later in
-    last_kept h least most third.mid fourth.mid more fourth.says fourth.later (other_put_in h second.mid third.mid third.says)
-route_counted h own least most [] said more same e = absurd (omega arith)
-route_counted h own least most (a ∷ []) said more same e = absurd (omega arith)
-route_counted h own least most (a ∷ b ∷ []) said more same e = absurd (omega arith)
-route_counted h own least most (a ∷ b ∷ c ∷ []) said more same e = absurd (omega arith)
-route_counted h own least most (a ∷ b ∷ c ∷ d ∷ f ∷ texts) said more same e = absurd (omega arith)
+-- two centres behind a word, and such words behind them
+pub route_said : (h : Header) (own : Word) (parts : List Part) (texts : List (List ℕ)) (said more : Said) → 3 ≤ length texts → AllByRecursion SaysNoCentre parts → said_words (Some h) (Fixed own ∷ Centre ∷ Other ∷ parts) texts said ≡ Ok more → IsOther h.n more
+route_said h own parts (a ∷ b ∷ c ∷ texts) said more long none e =
+    let first = said_first (Some h) (Fixed own) (Centre ∷ Other ∷ parts) a (b ∷ c ∷ texts) said more e in
+    let second = said_first (Some h) Centre (Other ∷ parts) b (c ∷ texts) first.mid more first.later in
+    let third = said_first (Some h) Other parts c texts second.mid more second.later in
+    route_kept h parts texts third.mid more none third.later (other_put_in h second.mid third.mid third.says)
+route_said h own parts [] said more long none e = absurd (omega arith)
+route_said h own parts (a ∷ []) said more long none e = absurd (omega arith)
+route_said h own parts (a ∷ b ∷ []) said more long none e = absurd (omega arith)

@@ -1,33 +1,33 @@
 -- A script that is read is in range.
-use Rattle.std.proofs.Common.{◌≡◌, ◌≤◌, ◌<◌, ◌+◌, ℕ, Bool, true, false, List, [], ◌∷◌, ◌++◌, length, refl, ap, sym, ◌∙◌, subst, arith}
-use Rattle.std.specs.Prelude.{cond, is_some, is_none, All, Option, Some, None, Result, Ok, Err, IfSome}
+use Rattle.std.proofs.Common.{◌≡◌, ◌≤◌, ◌<◌, ◌+◌, ℕ, Bool, true, false, List, [], ◌∷◌, ◌++◌, length, refl, ap, sym, ◌∙◌, subst, inl, inr, arith}
+use Rattle.std.specs.Prelude.{cond, ◌&&◌, is_some, is_none, All, Option, Some, None, Result, Ok, Err, IfSome}
 use Rattle.std.specs.Option.{unwrap_or}
 use Rattle.std.proofs.lemmas.Bool.{and_parts}
 use Rattle.std.proofs.lemmas.List.{length_push}
 use Rattle.std.proofs.lemmas.List.Elements.{All-nil, All-push}
 use Rattle.ids_core.specs.declared.limits.TheConstants.{MOST_CENTRES, MOST_CLIENTS, MOST_CACHED, MOST_RECORDS}
 use Rattle.script_text.specs.Steps.{IsCount, IsHeader, IsStepOf}
-use Rattle.script_text.specs.Rows.{IsLine, section_of}
+use Rattle.script_text.specs.Rows.{IsInPhase, IsSection, may_do_in_phase, phase_of, section_of}
+use Rattle.script_text.specs.Scripts.{IsInRange}
 use Rattle.script_text.specs.Lines.{lines_of}
 use Rattle.script_text.specs.declared.limits.TheConstants.{MAX_LINES}
+use Rattle.script_text.specs.declared.script.TheConstants.{MOST_THREADS, MOST_ROUNDS}
 use Rattle.script_text.specs.declared.script.Header.{Header}
+use Rattle.script_text.specs.declared.script.Script.{Script}
 use Rattle.script_text.specs.declared.steps.Step.{Step}
 use Rattle.script_text.specs.declared.steps.Section.{Section}
 use Rattle.script_reader.specs.declared.fault.Cause.{Cause}
 use Rattle.script_reader.specs.declared.fault.Cause.TheVariants as cause
 use Rattle.script_reader.specs.declared.fault.ScriptFault.{ScriptFault}
 use Rattle.script_reader.specs.declared.fault.ScriptFault.TheVariants.{Refused}
-use Rattle.script_reader.specs.declared.form.TheConstants.{MOST_THREADS, MOST_ROUNDS}
 use Rattle.script_reader.specs.declared.reading.Group.{Group}
 use Rattle.script_reader.specs.declared.reading.Reading.{Reading}
-use Rattle.script_reader.specs.declared.reading.ReadScript.{ReadScript}
 use Rattle.script_reader.specs.declared.row.Row.{Row}
 use Rattle.script_reader.specs.declared.row.Row.TheVariants as row
 use Rattle.script_reader.specs.Rows.{row_in}
-use Rattle.script_reader.specs.Readings.{nothing_read, header_said, header_in, may_stand, read_more}
+use Rattle.script_reader.specs.Readings.{nothing_read, header_said, header_in, may_do, may_stand, step_read, phase_read, read_more}
 use Rattle.script_reader.specs.Lines.{taken, line_taken}
-use Rattle.script_reader.specs.Scripts.{script_with, ended, lines_read, script_read}
-use Rattle.script_reader.specs.Ranges.{IsInRange}
+use Rattle.script_reader.specs.Scripts.{script_with, ended, ended_in, lines_read, script_read}
 use Rattle.script_reader.proofs.Onward.{line_in_time}
 use Rattle.script_reader.proofs.RowRanges.{IsRowInRange, row_in_range}
 
@@ -35,21 +35,41 @@ use Rattle.script_reader.proofs.RowRanges.{IsRowInRange, row_in_range}
 abbrev IsGroup : Group → Type 0
 IsGroup group = IsCount MOST_CENTRES group.n × IsCount group.n group.k
 
--- the sections are steps of a script with this header; before one there are none
-abbrev AreSteps : Option Header → List Section → Type 0
-AreSteps None sections = sections ≡ []
-AreSteps (Some h) sections = All (IsLine h) sections
+-- the sections are those of a script with this header; before one there are none
+abbrev AreSections : Option Header → List Section → Type 0
+AreSections None sections = sections ≡ []
+AreSections (Some h) sections = All (IsSection h) sections
 
--- what was read of the lines before the one of this number is in range
-record IsRead (number : ℕ) (reading : Reading) : Type 0 where
+-- the steps of an open phase, of a script with this header
+abbrev AreInPhase : Header → List Step → Type 0
+AreInPhase h steps = All (λ step. IsStepOf h step × IsInPhase step) steps
+
+-- the phase that is open, where one is; before a header none is
+abbrev IsOpen : Option Header → Option (List Step) → Type 0
+IsOpen header None = Unit {0}
+IsOpen None (Some steps) = ⊥
+IsOpen (Some h) (Some steps) = AreInPhase h steps
+
+-- what lines set is in range
+record IsSet (reading : Reading) : Type 0 where
   centres : IfSome reading.centres IsGroup
   clients : IfSome reading.clients (IsCount MOST_CLIENTS)
   cache : IfSome reading.cache (IsCount MOST_CACHED)
   limit : IfSome reading.limit (IsCount MOST_RECORDS)
   threads : IfSome reading.threads (IsCount MOST_THREADS)
   rounds : IfSome reading.rounds (λ rounds. rounds ≤ MOST_ROUNDS)
-  steps : AreSteps (header_in reading) reading.sections
-  few : length reading.sections < number
+
+-- the sections and the open phase before the line of this number are those of a script with this header
+record IsPlaced (header : Option Header) (number : ℕ) (sections : List Section) (phase : Option (List Step)) : Type 0 where
+  sections_fit : AreSections header sections
+  phase_fits : IsOpen header phase
+  few : length sections < number
+  few_open : IfSome phase (λ steps. length steps < number)
+
+-- what was read of the lines before the one of this number is in range
+record IsRead (number : ℕ) (reading : Reading) : Type 0 where
+  set : IsSet reading
+  placed : IsPlaced (header_in reading) number reading.sections reading.phase
   time : number ≤ MAX_LINES + 1
 
 -- the header that was read is in range
@@ -58,69 +78,117 @@ header_fits None clients g c = tt
 header_fits (Some group) None g c = tt
 header_fits (Some group) (Some clients) g c = record { n = g.0; k = g.1; clients = c }
 
+read_header : (number : ℕ) (reading : Reading) → IsRead number reading → IfSome (header_in reading) IsHeader
+read_header number reading is = header_fits reading.centres reading.clients is.set.centres is.set.clients
+
 no_clients : (group : Option Group) → header_said group None ≡ None
 no_clients None = refl
 no_clients (Some group) = refl
 
--- a header line comes before all steps
-steps_headed : (old new : Option Header) (sections : List Section) → old ≡ None → AreSteps old sections → AreSteps new sections
-steps_headed old new sections none are = go new (subst (λ h. AreSteps h sections) none are)
-  where
-    go : (h : Option Header) → sections ≡ [] → AreSteps h sections
-    go None empty = empty
-    go (Some h) empty = subst (All (IsLine h)) (sym empty) (All-nil (IsLine h))
+-- a line that has no step
+few_on : (phase : Option (List Step)) (number : ℕ) → IfSome phase (λ steps. length steps < number) → IfSome phase (λ steps. length steps < number + 1)
+few_on None number few = tt
+few_on (Some steps) number few = omega arith
 
-steps_more : (header : Option Header) (step : Step) (sections : List Section) → is_some header ≡ true → IfSome header (λ h. IsStepOf h step) → AreSteps header sections → AreSteps header (sections ++ section_of step ∷ [])
-steps_more None step sections some is are = absurd (cc)
-steps_more (Some h) step sections some is are = All-push (IsLine h) sections (section_of step) are (step, refl, is)
+placed_on : (header : Option Header) (number : ℕ) (sections : List Section) (phase : Option (List Step)) → IsPlaced header number sections phase → IsPlaced header (number + 1) sections phase
+placed_on header number sections phase is = record { sections_fit = is.sections_fit; phase_fits = is.phase_fits; few = let few = is.few in omega arith; few_open = few_on phase number is.few_open }
+
+-- a header line comes before all steps and phases
+placed_headed : (old new : Option Header) (number : ℕ) (sections : List Section) (phase : Option (List Step)) → old ≡ None → IsPlaced old number sections phase → IsPlaced new (number + 1) sections phase
+placed_headed old new number sections phase none is = go new phase (subst (λ h. IsPlaced h number sections phase) none is)
+  where
+    go : (h : Option Header) (p : Option (List Step)) → IsPlaced None number sections p → IsPlaced h (number + 1) sections p
+    go h (Some steps) bare = absurd bare.phase_fits
+    go None None bare = placed_on None number sections None bare
+    go (Some h) None bare = record { sections_fit = subst (All (IsSection h)) (sym bare.sections_fit) (All-nil (IsSection h)); phase_fits = tt; few = let few = bare.few in omega arith; few_open = tt }
 
 none_from : {X : Type 0} (o : Option X) → is_none o ≡ true → o ≡ None
 none_from None e = refl
 none_from (Some x) e = absurd (cc)
 
+-- one section more
+placed_section : (header : Option Header) (number : ℕ) (sections : List Section) (phase : Option (List Step)) (section : Section) → is_some header ≡ true → IfSome header (λ h. IsSection h section) → IsPlaced header number sections phase → IsPlaced header (number + 1) (sections ++ section ∷ []) None
+placed_section None number sections phase section some fits is = absurd (cc)
+placed_section (Some h) number sections phase section some fits is = record {
+  sections_fit = All-push (IsSection h) sections section is.sections_fit fits;
+  phase_fits = tt;
+  few = let few = is.few in omega (arith, length_push sections section);
+  few_open = tt;
+}
+
+-- a step outside of all phases is a section
+line_fits : (header : Option Header) (step : Step) → IfSome header (λ h. IsStepOf h step) → IfSome header (λ h. IsSection h (section_of step))
+line_fits None step is = tt
+line_fits (Some h) step is = inl (step, refl, is)
+
+-- one step more in a phase
+placed_step : (header : Option Header) (number : ℕ) (sections : List Section) (steps : List Step) (step : Step) → IfSome header (λ h. IsStepOf h step) → may_do_in_phase step ≡ true → IsPlaced header number sections (Some steps) → IsPlaced header (number + 1) sections (Some (steps ++ step ∷ []))
+placed_step None number sections steps step fits may is = absurd is.phase_fits
+placed_step (Some h) number sections steps step fits may is = record {
+  sections_fit = is.sections_fit;
+  phase_fits = All-push (λ step. IsStepOf h step × IsInPhase step) steps step is.phase_fits (fits, may);
+  few = let few = is.few in omega arith;
+  few_open = let few = is.few_open in omega (arith, length_push steps step);
+}
+
+-- a phase begins
+placed_phase : (header : Option Header) (number : ℕ) (sections : List Section) (phase : Option (List Step)) → is_some header ≡ true → IsPlaced header number sections phase → IsPlaced header (number + 1) sections (Some [])
+placed_phase None number sections phase some is = absurd (cc)
+placed_phase (Some h) number sections phase some is = record { sections_fit = is.sections_fit; phase_fits = All-nil (λ step. IsStepOf h step × IsInPhase step); few = let few = is.few in omega arith; few_open = omega arith }
+
+-- a phase ends
+placed_end : (header : Option Header) (number : ℕ) (sections : List Section) (steps : List Step) → number ≤ MAX_LINES → IsPlaced header number sections (Some steps) → IsPlaced header (number + 1) (sections ++ phase_of steps ∷ []) None
+placed_end None number sections steps time is = absurd is.phase_fits
+placed_end (Some h) number sections steps time is = placed_section (Some h) number sections (Some steps) (phase_of steps) refl (inr (record { phase = refl; steps = is.phase_fits; few = let few = is.few_open in omega arith })) is
+
+-- a step is taken
+step_taken : (number : ℕ) (reading : Reading) (step : Step) (phase : Option (List Step)) → reading.phase ≡ phase → IsRead number reading → number ≤ MAX_LINES → IfSome (header_in reading) (λ h. IsStepOf h step) → is_some (header_in reading) && may_do phase step ≡ true → IsRead (number + 1) (step_read reading phase step)
+step_taken number reading step None here is time fits may = record {
+  set = record { centres = is.set.centres; clients = is.set.clients; cache = is.set.cache; limit = is.set.limit; threads = is.set.threads; rounds = is.set.rounds };
+  placed = subst (IsPlaced (header_in reading) (number + 1) (reading.sections ++ section_of step ∷ [])) (sym here) (placed_section (header_in reading) number reading.sections reading.phase (section_of step) (and_parts _ _ may).0 (line_fits (header_in reading) step fits) is.placed);
+  time = omega arith;
+}
+step_taken number reading step (Some steps) here is time fits may = record {
+  set = record { centres = is.set.centres; clients = is.set.clients; cache = is.set.cache; limit = is.set.limit; threads = is.set.threads; rounds = is.set.rounds };
+  placed = placed_step (header_in reading) number reading.sections steps step fits (and_parts _ _ may).1 (subst (IsPlaced (header_in reading) number reading.sections) here is.placed);
+  time = omega arith;
+}
+
+-- the end of a phase is taken
+end_taken : (number : ℕ) (reading : Reading) (phase : Option (List Step)) → reading.phase ≡ phase → IsRead number reading → number ≤ MAX_LINES → is_some phase ≡ true → IsRead (number + 1) (phase_read reading phase)
+end_taken number reading None here is time some = absurd (cc)
+end_taken number reading (Some steps) here is time some = record {
+  set = record { centres = is.set.centres; clients = is.set.clients; cache = is.set.cache; limit = is.set.limit; threads = is.set.threads; rounds = is.set.rounds };
+  placed = placed_end (header_in reading) number reading.sections steps time (subst (IsPlaced (header_in reading) number reading.sections) here is.placed);
+  time = omega arith;
+}
+
 row_taken : (number : ℕ) (reading : Reading) (line : Row) → IsRead number reading → number ≤ MAX_LINES → IsRowInRange (header_in reading) line → may_stand reading line ≡ true → IsRead (number + 1) (read_more reading line)
 unfolding may_stand read_more
 row_taken number reading (row.Centres n k) is time within may = record {
-  centres = within.sets;
-  clients = is.clients;
-  cache = is.cache;
-  limit = is.limit;
-  threads = is.threads;
-  rounds = is.rounds;
-  steps = steps_headed (header_in reading) (header_said (Some (record { n = n; k = k })) reading.clients) reading.sections (ap (λ g. header_said g reading.clients) (none_from reading.centres may)) is.steps;
-  few = let few = is.few in omega arith;
+  set = record { centres = within.sets; clients = is.set.clients; cache = is.set.cache; limit = is.set.limit; threads = is.set.threads; rounds = is.set.rounds };
+  placed = placed_headed (header_in reading) (header_said (Some (record { n = n; k = k })) reading.clients) number reading.sections reading.phase (ap (λ g. header_said g reading.clients) (none_from reading.centres may)) is.placed;
   time = omega arith;
 }
 row_taken number reading (row.Clients clients) is time within may = record {
-  centres = is.centres;
-  clients = within.sets;
-  cache = is.cache;
-  limit = is.limit;
-  threads = is.threads;
-  rounds = is.rounds;
-  steps = steps_headed (header_in reading) (header_said reading.centres (Some clients)) reading.sections (ap (header_said reading.centres) (none_from reading.clients (and_parts _ _ may).1) ∙ no_clients reading.centres) is.steps;
-  few = let few = is.few in omega arith;
+  set = record { centres = is.set.centres; clients = within.sets; cache = is.set.cache; limit = is.set.limit; threads = is.set.threads; rounds = is.set.rounds };
+  placed = placed_headed (header_in reading) (header_said reading.centres (Some clients)) number reading.sections reading.phase (ap (header_said reading.centres) (none_from reading.clients (and_parts _ _ may).1) ∙ no_clients reading.centres) is.placed;
   time = omega arith;
 }
-row_taken number reading (row.Cache objects) is time within may = record { centres = is.centres; clients = is.clients; cache = within.sets; limit = is.limit; threads = is.threads; rounds = is.rounds; steps = is.steps; few = let few = is.few in omega arith; time = omega arith }
-row_taken number reading (row.Limit most) is time within may = record { centres = is.centres; clients = is.clients; cache = is.cache; limit = within.sets; threads = is.threads; rounds = is.rounds; steps = is.steps; few = let few = is.few in omega arith; time = omega arith }
-row_taken number reading (row.Threads most) is time within may = record { centres = is.centres; clients = is.clients; cache = is.cache; limit = is.limit; threads = within.sets; rounds = is.rounds; steps = is.steps; few = let few = is.few in omega arith; time = omega arith }
-row_taken number reading (row.Rounds most) is time within may = record { centres = is.centres; clients = is.clients; cache = is.cache; limit = is.limit; threads = is.threads; rounds = within.sets; steps = is.steps; few = let few = is.few in omega arith; time = omega arith }
-row_taken number reading (row.Does step) is time within may = record {
-  centres = is.centres;
-  clients = is.clients;
-  cache = is.cache;
-  limit = is.limit;
-  threads = is.threads;
-  rounds = is.rounds;
-  steps = steps_more (header_in reading) step reading.sections may within.does is.steps;
-  few = let few = is.few in omega (arith, length_push reading.sections (section_of step));
+row_taken number reading (row.Cache objects) is time within may = record { set = record { centres = is.set.centres; clients = is.set.clients; cache = within.sets; limit = is.set.limit; threads = is.set.threads; rounds = is.set.rounds }; placed = placed_on (header_in reading) number reading.sections reading.phase is.placed; time = omega arith }
+row_taken number reading (row.Limit most) is time within may = record { set = record { centres = is.set.centres; clients = is.set.clients; cache = is.set.cache; limit = within.sets; threads = is.set.threads; rounds = is.set.rounds }; placed = placed_on (header_in reading) number reading.sections reading.phase is.placed; time = omega arith }
+row_taken number reading (row.Threads most) is time within may = record { set = record { centres = is.set.centres; clients = is.set.clients; cache = is.set.cache; limit = is.set.limit; threads = within.sets; rounds = is.set.rounds }; placed = placed_on (header_in reading) number reading.sections reading.phase is.placed; time = omega arith }
+row_taken number reading (row.Rounds rounds) is time within may = record { set = record { centres = is.set.centres; clients = is.set.clients; cache = is.set.cache; limit = is.set.limit; threads = is.set.threads; rounds = within.sets }; placed = placed_on (header_in reading) number reading.sections reading.phase is.placed; time = omega arith }
+row_taken number reading (row.Does step) is time within may = step_taken number reading step reading.phase refl is time within.does may
+row_taken number reading row.Phase is time within may = record {
+  set = record { centres = is.set.centres; clients = is.set.clients; cache = is.set.cache; limit = is.set.limit; threads = is.set.threads; rounds = is.set.rounds };
+  placed = placed_phase (header_in reading) number reading.sections reading.phase (and_parts _ _ may).0 is.placed;
   time = omega arith;
 }
-row_taken number reading row.Later is time within may = absurd (cc)
+row_taken number reading row.End is time within may = end_taken number reading reading.phase refl is time may
 
 skipped_taken : (number : ℕ) (reading : Reading) → IsRead number reading → number ≤ MAX_LINES → IsRead (number + 1) reading
-skipped_taken number reading is time = record { centres = is.centres; clients = is.clients; cache = is.cache; limit = is.limit; threads = is.threads; rounds = is.rounds; steps = is.steps; few = let few = is.few in omega arith; time = omega arith }
+skipped_taken number reading is time = record { set = is.set; placed = placed_on (header_in reading) number reading.sections reading.phase is.placed; time = omega arith }
 
 -- one line more
 line_read : (number : ℕ) (reading more : Reading) (line : List ℕ) → IsRead number reading → line_taken reading number line ≡ Ok more → IsRead (number + 1) more
@@ -131,7 +199,7 @@ line_read number reading more line is e = go (row_in (header_in reading) number 
 
     row_read : (one : Row) → row_in (header_in reading) number line ≡ Ok (Some one) → (may : Bool) → may_stand reading one ≡ may → cond may (Ok (read_more reading one)) (Err cause.Place) ≡ Ok more → IsRead (number + 1) more
     row_read one r false m bad = absurd (cc)
-    row_read one r true m ok = subst (IsRead (number + 1)) (let this : read_more reading one ≡ more = cc in this) (row_taken number reading one is time (row_in_range (header_in reading) number line one (header_fits reading.centres reading.clients is.centres is.clients) r) m)
+    row_read one r true m ok = subst (IsRead (number + 1)) (let this : read_more reading one ≡ more = cc in this) (row_taken number reading one is time (row_in_range (header_in reading) number line one (read_header number reading is) r) m)
 
     go : (r : Result (Option Row) Cause) → row_in (header_in reading) number line ≡ r → taken reading r ≡ Ok more → IsRead (number + 1) more
     go (Err why) r bad = absurd (cc)
@@ -143,32 +211,33 @@ set_or : (P : ℕ → Type 0) (set : Option ℕ) (other : ℕ) → P other → I
 set_or P None other default within = default
 set_or P (Some n) other default within = within
 
-ended_in_range : (header : Option Header) (number : ℕ) (reading : Reading) (read : ReadScript) → header_in reading ≡ header → IsRead number reading → ended header number reading ≡ Ok read → IsInRange read
-ended_in_range None number reading read h is e = absurd (cc)
-ended_in_range (Some header) number reading read h is e = subst IsInRange (let this : script_with header reading ≡ read = cc in this) (record {
-  header = subst (λ o. IfSome o IsHeader) h (header_fits reading.centres reading.clients is.centres is.clients);
-  cache = set_or (IsCount MOST_CACHED) reading.cache 1024 (omega arith, omega arith) is.cache;
-  limit = set_or (IsCount MOST_RECORDS) reading.limit 1000000 (omega arith, omega arith) is.limit;
-  lines = subst (λ o. AreSteps o reading.sections) h is.steps;
-  few = let few = is.few in let time = is.time in omega arith;
-  threads = set_or (IsCount MOST_THREADS) reading.threads 4 (omega arith, omega arith) is.threads;
-  rounds = set_or (λ rounds. rounds ≤ MOST_ROUNDS) reading.rounds 32 (omega arith) is.rounds;
+ended_in_range : (header : Option Header) (phase : Option (List Step)) (number : ℕ) (reading : Reading) (script : Script) → header_in reading ≡ header → reading.phase ≡ phase → IsRead number reading → ended header number reading ≡ Ok script → IsInRange script
+ended_in_range None phase number reading script h p is e = absurd (cc)
+ended_in_range (Some header) (Some steps) number reading script h p is e = absurd (let bad : Err (Refused number cause.Place) ≡ Ok script = sym (ap (λ o. ended_in o header number reading) p) ∙ e in cc)
+ended_in_range (Some header) None number reading script h p is e = subst IsInRange (let this : ◌≡◌ {A = Result Script ScriptFault} (Ok (script_with header reading)) (Ok script) = sym (ap (λ o. ended_in o header number reading) p) ∙ e in let same : script_with header reading ≡ script = cc in same) (record {
+  header = subst (λ o. IfSome o IsHeader) h (read_header number reading is);
+  cache = set_or (IsCount MOST_CACHED) reading.cache 1024 (omega arith, omega arith) is.set.cache;
+  limit = set_or (IsCount MOST_RECORDS) reading.limit 1000000 (omega arith, omega arith) is.set.limit;
+  sections = subst (λ o. AreSections o reading.sections) h is.placed.sections_fit;
+  few = let few = is.placed.few in let time = is.time in omega arith;
+  threads = set_or (IsCount MOST_THREADS) reading.threads 4 (omega arith, omega arith) is.set.threads;
+  rounds = set_or (λ rounds. rounds ≤ MOST_ROUNDS) reading.rounds 32 (omega arith) is.set.rounds;
 })
 
 -- what follows a line
-abbrev rest_read : ℕ → List (List ℕ) → Result Reading Cause → Result ReadScript ScriptFault
+abbrev rest_read : ℕ → List (List ℕ) → Result Reading Cause → Result Script ScriptFault
 rest_read number lines (Ok more) = lines_read (number + 1) more lines
 rest_read number lines (Err why) = Err (Refused number why)
 
-lines_in_range : (number : ℕ) (reading : Reading) (lines : List (List ℕ)) (read : ReadScript) → IsRead number reading → lines_read number reading lines ≡ Ok read → IsInRange read
-lines_in_range number reading [] read is e = ended_in_range (header_in reading) number reading read refl is e
-lines_in_range number reading (line ∷ lines) read is e = further number lines (line_taken reading number line) read (λ more t rest. lines_in_range (number + 1) more lines read (line_read number reading more line is t) rest) e
+lines_in_range : (number : ℕ) (reading : Reading) (lines : List (List ℕ)) (script : Script) → IsRead number reading → lines_read number reading lines ≡ Ok script → IsInRange script
+lines_in_range number reading [] script is e = ended_in_range (header_in reading) reading.phase number reading script refl refl is e
+lines_in_range number reading (line ∷ lines) script is e = further number lines (line_taken reading number line) script (λ more t rest. lines_in_range (number + 1) more lines script (line_read number reading more line is t) rest) e
   where
-    further : (n : ℕ) (rest : List (List ℕ)) (t : Result Reading Cause) (s : ReadScript) → ((more : Reading) → t ≡ Ok more → lines_read (n + 1) more rest ≡ Ok s → IsInRange s) → rest_read n rest t ≡ Ok s → IsInRange s
+    further : (n : ℕ) (rest : List (List ℕ)) (t : Result Reading Cause) (s : Script) → ((more : Reading) → t ≡ Ok more → lines_read (n + 1) more rest ≡ Ok s → IsInRange s) → rest_read n rest t ≡ Ok s → IsInRange s
     further n rest (Ok more) s each e = each more refl e
     further n rest (Err why) s each e = absurd (cc)
 
 -- a script that is read is in range
-pub script_in_range : (bytes : List ℕ) (read : ReadScript) → Ok read ≡ script_read bytes → IsInRange read
+pub script_in_range : (bytes : List ℕ) (script : Script) → Ok script ≡ script_read bytes → IsInRange script
 unfolding script_read
-script_in_range bytes read is = lines_in_range 1 nothing_read (lines_of bytes) read (record { centres = tt; clients = tt; cache = tt; limit = tt; threads = tt; rounds = tt; steps = refl; few = omega arith; time = omega arith }) (sym is)
+script_in_range bytes script is = lines_in_range 1 nothing_read (lines_of bytes) script (record { set = record { centres = tt; clients = tt; cache = tt; limit = tt; threads = tt; rounds = tt }; placed = record { sections_fit = refl; phase_fits = tt; few = omega arith; few_open = tt }; time = omega arith }) (sym is)

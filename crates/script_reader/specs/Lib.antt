@@ -9,4 +9,3 @@ pub mod Rows
 pub mod Readings
 pub mod Lines
 pub mod Scripts
-pub mod Ranges

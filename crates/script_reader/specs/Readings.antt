@@ -1,7 +1,8 @@
 -- How far lines came, and what may stand behind them.
-use Rattle.std.specs.Prelude.{◌==◌, ◌&&◌, ◌++◌, ℕ, Bool, false, [], ◌∷◌, length, is_some, is_none, Option, Some, None}
+use Rattle.std.specs.Prelude.{◌==◌, ◌&&◌, ◌++◌, ℕ, Bool, true, List, [], ◌∷◌, length, is_some, is_none, Option, Some, None}
 use Rattle.script_text.specs.declared.script.Header.{Header}
-use Rattle.script_text.specs.Rows.{section_of}
+use Rattle.script_text.specs.Rows.{section_of, phase_of, may_do_in_phase}
+use Rattle.script_text.specs.declared.steps.Step.{Step}
 use Rattle.script_reader.specs.declared.row.Row.{Row}
 use Rattle.script_reader.specs.declared.row.Row.TheVariants as row
 use Rattle.script_reader.specs.declared.reading.Group.{Group}
@@ -9,7 +10,7 @@ use Rattle.script_reader.specs.declared.reading.Reading.{Reading}
 
 -- no line was read
 abbrev pub nothing_read : Reading
-nothing_read = record { centres = None; clients = None; cache = None; limit = None; threads = None; rounds = None; sections = [] }
+nothing_read = record { centres = None; clients = None; cache = None; limit = None; threads = None; rounds = None; sections = []; phase = None }
 
 -- what the two header lines say
 abbrev pub header_said : Option Group → Option ℕ → Option Header
@@ -20,9 +21,14 @@ header_said _ _ = None
 abbrev pub header_in : Reading → Option Header
 header_in reading = header_said reading.centres reading.clients
 
--- a setting may stand: behind the header, before all steps, and once
+-- a setting may stand: behind the header, before all steps and phases, and once
 abbrev pub may_set : Reading → Option ℕ → Bool
-may_set reading set = is_some (header_in reading) && (length reading.sections == 0 && is_none set)
+may_set reading set = is_some (header_in reading) && (length reading.sections == 0 && (is_none reading.phase && is_none set))
+
+-- a step may stand in a phase with these steps so far, or outside of all phases
+abbrev pub may_do : Option (List Step) → Step → Bool
+may_do None step = true
+may_do (Some steps) step = may_do_in_phase step
 
 -- a line may stand here
 unfoldable pub may_stand : Reading → Row → Bool
@@ -32,10 +38,21 @@ may_stand reading (row.Cache objects) = may_set reading reading.cache
 may_stand reading (row.Limit most) = may_set reading reading.limit
 may_stand reading (row.Threads most) = may_set reading reading.threads
 may_stand reading (row.Rounds rounds) = may_set reading reading.rounds
-may_stand reading (row.Does step) = is_some (header_in reading)
-may_stand reading row.Later = false
+may_stand reading (row.Does step) = is_some (header_in reading) && may_do reading.phase step
+may_stand reading row.Phase = is_some (header_in reading) && is_none reading.phase
+may_stand reading row.End = is_some reading.phase
 
--- how far the lines came with one more behind them: each step is a section of its own
+-- with one more step: the next of the phase that it stands in, or a section of its own
+abbrev pub step_read : Reading → Option (List Step) → Step → Reading
+step_read reading None step = record reading { sections = reading.sections ++ section_of step ∷ [] }
+step_read reading (Some steps) step = record reading { phase = Some (steps ++ step ∷ []) }
+
+-- with the end of a phase with these steps, which are a section together
+abbrev pub phase_read : Reading → Option (List Step) → Reading
+phase_read reading None = reading
+phase_read reading (Some steps) = record reading { sections = reading.sections ++ phase_of steps ∷ []; phase = None }
+
+-- how far the lines came with one more behind them
 unfoldable pub read_more : Reading → Row → Reading
 read_more reading (row.Centres n k) = record reading { centres = Some (record { n = n; k = k }) }
 read_more reading (row.Clients clients) = record reading { clients = Some clients }
@@ -43,5 +60,6 @@ read_more reading (row.Cache objects) = record reading { cache = Some objects }
 read_more reading (row.Limit most) = record reading { limit = Some most }
 read_more reading (row.Threads most) = record reading { threads = Some most }
 read_more reading (row.Rounds rounds) = record reading { rounds = Some rounds }
-read_more reading (row.Does step) = record reading { sections = reading.sections ++ section_of step ∷ [] }
-read_more reading row.Later = reading
+read_more reading (row.Does step) = step_read reading reading.phase step
+read_more reading row.Phase = record reading { phase = Some [] }
+read_more reading row.End = phase_read reading reading.phase

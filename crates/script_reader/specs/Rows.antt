@@ -4,13 +4,15 @@ use Rattle.ids_core.specs.Ids.{same_sort}
 use Rattle.dc_talk.specs.declared.calls.Change.{Change as ChangeOf}
 use Rattle.dc_talk.specs.declared.calls.Change.TheVariants as change
 use Rattle.dc_talk.specs.Calls.{sort_of_change}
+use Rattle.dc_talk.specs.declared.links.LinkFault.{LinkFault}
+use Rattle.dc_talk.specs.declared.links.LinkFault.TheVariants as link
 use Rattle.script_text.specs.declared.limits.TheConstants.{MAX_LINE, MAX_LINES}
 use Rattle.script_text.specs.declared.script.Header.{Header}
 use Rattle.script_text.specs.declared.steps.AskFault.TheVariants as fault
 use Rattle.script_text.specs.declared.steps.ClientStep.{ClientStep}
 use Rattle.script_text.specs.declared.steps.ClientStep.TheVariants.{Connect, Begin, Change, Read, Commit, Abort, Push, Flush, Refresh, Again, Arm}
 use Rattle.script_text.specs.declared.steps.OperatorStep.{OperatorStep}
-use Rattle.script_text.specs.declared.steps.OperatorStep.TheVariants.{Down, Up, ShipOne, Ship, Tell, Prune, Settle}
+use Rattle.script_text.specs.declared.steps.OperatorStep.TheVariants.{Down, Up, ShipOne, Ship, Tell, Prune, Link, Settle}
 use Rattle.script_text.specs.declared.steps.Step.TheVariants.{Client, Operator}
 use Rattle.script_reader.specs.declared.fault.Cause.{Cause}
 use Rattle.script_reader.specs.declared.fault.Cause.TheVariants as cause
@@ -34,6 +36,10 @@ change_row said made = client_row said (Change said.object made)
 -- a step of the operator
 abbrev pub operator_row : OperatorStep → Row
 operator_row step = row.Does (Operator step)
+
+-- a fault of the link between the two centres that are named
+abbrev pub link_row : Said → LinkFault → Row
+link_row said fault = operator_row (Link said.centre said.other fault)
 
 -- what a line of this form says, whose words say this
 unfoldable pub row_of : Form → Said → Row
@@ -67,13 +73,13 @@ row_of form.ShipOne said = operator_row (ShipOne said.centre said.other said.cou
 row_of form.Ship said = operator_row (Ship said.centre said.other)
 row_of form.Tell said = operator_row (Tell said.centre said.other)
 row_of form.Prune said = operator_row (Prune said.centre)
-row_of form.LinkDrop said = row.Later
-row_of form.LinkTwice said = row.Later
-row_of form.LinkHold said = row.Later
-row_of form.LinkClean said = row.Later
+row_of form.LinkDrop said = link_row said (link.Drop said.count)
+row_of form.LinkTwice said = link_row said (link.Twice said.count)
+row_of form.LinkHold said = link_row said (link.Hold said.count)
+row_of form.LinkClean said = link_row said link.Clean
 row_of form.Settle said = operator_row Settle
-row_of form.Phase said = row.Later
-row_of form.End said = row.Later
+row_of form.Phase said = row.Phase
+row_of form.End said = row.End
 
 -- the object of a client's step is of the kind that the step changes
 abbrev pub is_of_kind : ClientStep → Bool

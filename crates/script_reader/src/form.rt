@@ -3,15 +3,10 @@ ghost use Rattle.std.specs.Prelude.{◌≡◌};
 ghost use Rattle.script_reader.specs.Forms.{parts_of, word_text};
 
 use ids_core::{MOST_CACHED, MOST_CLIENTS, MOST_RECORDS};
+use script_text::{MOST_ROUNDS, MOST_THREADS};
 
 /// The most transactions of a centre, the greatest number of a record, and the rarest fault of a link.
 pub const MOST_COUNTED: u32 = MOST_RECORDS as u32;
-
-/// The most threads.
-pub const MOST_THREADS: u32 = 16;
-
-/// The most rounds of a worker in a phase.
-pub const MOST_ROUNDS: u32 = 1_000;
 
 /// A word that stands in lines as it is.
 #[derive(Clone, Copy)]

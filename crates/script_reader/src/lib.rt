@@ -15,5 +15,4 @@ mod scripts;
 mod words;
 
 pub use fault::{Cause, ScriptFault};
-pub use reading::ReadScript;
 pub use scripts::parse;

@@ -1,14 +1,17 @@
 // How far the lines of a script came.
-ghost use Rattle.std.specs.Prelude.{◌≡◌, Ok, Err, IfOk, OnOk};
+ghost use Rattle.std.specs.Prelude.{◌≡◌, ◌++◌, ◌∷◌, [], Ok, Err, IfOk, OnOk};
+ghost use Rattle.std.specs.Option.{option_map};
 ghost use Rattle.script_reader.specs.declared.fault.Cause.{Cause as CauseOf};
 ghost use Rattle.script_reader.specs.declared.reading.LineFault.TheVariants.{NoMemory as no_memory};
 ghost use Rattle.script_reader.specs.Lines.{line_taken};
-ghost use Rattle.script_reader.specs.Readings.{header_in, may_set, may_stand, nothing_read, read_more};
-ghost use Rattle.script_text.specs.Rows.{section_of};
+ghost use Rattle.script_reader.specs.Readings.{header_in, may_do, may_set, may_stand, nothing_read, phase_read, read_more, step_read};
+ghost use Rattle.script_text.specs.Rows.{may_do_in_phase, section_of};
 
 use crate::fault::Cause;
 use crate::row::{Row, row_in};
-use script_text::{Header, Script, Section, Sections, Step, Steps};
+use dc_talk::Change;
+use list_core::List;
+use script_text::{ClientStep, Header, OperatorStep, Section, Sections, Step, Steps};
 use std::alloc::{AllocError, Global};
 
 /// How many centres there are, and how many of them make an update stable.
@@ -20,7 +23,7 @@ pub struct Group {
     pub k: u8,
 }
 
-/// What lines set, and the sections of their steps.
+/// What lines set, the sections of their steps, and the steps of the phase in which they end, where they end in one.
 #[derive(Drop)]
 pub struct Reading {
     pub centres: Option<Group>,
@@ -30,23 +33,8 @@ pub struct Reading {
     pub threads: Option<u32>,
     pub rounds: Option<u32>,
     pub sections: Sections,
+    pub phase: Option<Steps>,
 }
-
-/// A script, and what its lines set for phases.
-#[derive(Drop)]
-pub struct ReadScript {
-    pub script: Script,
-    /// How many threads play a phase, from 1 to 16.
-    pub threads: u32,
-    /// How many rounds a worker makes in a phase, from 0 to 1,000.
-    pub rounds: u32,
-}
-
-/// How many threads play a phase where no line says it.
-pub const DEFAULT_THREADS: u32 = 4;
-
-/// How many rounds a worker makes where no line says it.
-pub const DEFAULT_ROUNDS: u32 = 32;
 
 /// Why a line was not taken.
 #[derive(Clone, Copy)]
@@ -78,6 +66,7 @@ impl Reading {
             threads: None,
             rounds: None,
             sections: Sections::new(alloc),
+            phase: None,
         }
     }
 
@@ -102,7 +91,8 @@ impl Reading {
     fn may_set(&self, set: Option<u32>) -> bool
         ensures { result ≡ may_set self.now set }
     {
-        self.header().is_some() && (self.sections.is_empty() && set.is_none())
+        self.header().is_some()
+            && (self.sections.is_empty() && (self.phase.is_none() && set.is_none()))
     }
 
     // Whether a line may stand here.
@@ -117,9 +107,17 @@ impl Reading {
             Row::Limit(_) => self.may_set(self.limit),
             Row::Threads(_) => self.may_set(self.threads),
             Row::Rounds(_) => self.may_set(self.rounds),
-            Row::Does(_) => self.header().is_some(),
-            Row::Later => false,
+            Row::Does(step) => self.header().is_some() && self.may_do(step),
+            Row::Phase => self.header().is_some() && self.phase.is_none(),
+            Row::End => self.phase.is_some(),
         }
+    }
+
+    // Whether a step may stand in the phase that is open, or outside of all phases.
+    fn may_do(&self, step: &Step) -> bool
+        ensures { result ≡ may_do self.now.phase step.now }
+    {
+        self.phase.is_none() || may_do_in_phase(step)
     }
 
     // Takes what a line says.
@@ -134,8 +132,32 @@ impl Reading {
             Row::Limit(most) => self.limit = Some(most),
             Row::Threads(most) => self.threads = Some(most),
             Row::Rounds(rounds) => self.rounds = Some(rounds),
-            Row::Does(step) => self.sections.push(section(alloc, step)?)?,
-            Row::Later => {}
+            Row::Does(step) => self.take_step(alloc, step)?,
+            Row::Phase => self.phase = Some(Steps::new(alloc)),
+            Row::End => self.end_phase()?,
+        }
+        Ok(())
+    }
+
+    // Takes a step.
+    fn take_step(&mut self, alloc: Global, step: Step) -> Result<(), AllocError>
+        ensures { OnOk result (self.new ≡ step_read self.old self.old.phase step) }
+    {
+        if self.phase.is_none() {
+            self.sections.push(section(alloc, step)?)?;
+            return Ok(());
+        }
+        // A function that lends a list of steps has to name the types that a step holds, for its proof.
+        let _held: Option<(ClientStep, Change)> = None;
+        push_in(&mut self.phase, step)
+    }
+
+    // Takes the end of a phase.
+    fn end_phase(&mut self) -> Result<(), AllocError>
+        ensures { OnOk result (self.new ≡ phase_read self.old self.old.phase) }
+    {
+        if let Some(steps) = self.phase.take() {
+            self.sections.push(Section { phase: true, steps })?;
         }
         Ok(())
     }
@@ -159,10 +181,36 @@ impl Reading {
     }
 }
 
+// Whether a step may stand in a phase.
+fn may_do_in_phase(step: &Step) -> bool
+    ensures { result ≡ may_do_in_phase step.now }
+{
+    match step {
+        Step::Client { .. } => true,
+        Step::Operator { step } => !matches!(
+            step,
+            OperatorStep::Link { .. } | OperatorStep::Settle
+        ),
+    }
+}
+
+// Puts an item behind a list, where there is one.
+fn push_in<T: Drop>(list: &mut Option<List<T>>, item: T) -> Result<(), AllocError>
+    ensures { OnOk result (list.new ≡ option_map (λ items. items ++ item ∷ []) list.old) }
+{
+    if let Some(items) = list {
+        items.push(item)?;
+    }
+    Ok(())
+}
+
 // A step as a section of its own.
 fn section(alloc: Global, step: Step) -> Result<Section, AllocError>
     ensures { IfOk result (λ section. section ≡ section_of step) }
 {
     let steps = Steps::from_vec(vec![in alloc; step]?);
-    Ok(Section { steps })
+    Ok(Section {
+        phase: false,
+        steps,
+    })
 }

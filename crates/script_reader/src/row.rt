@@ -1,6 +1,6 @@
 // What a line says that is not skipped.
 ghost use Rattle.std.specs.Prelude.{◌≡◌};
-ghost use Rattle.script_reader.specs.Rows.{change_row, client_row, is_of_its_kind, is_of_kind, operator_row, row_in, row_in_text, row_in_words, row_of};
+ghost use Rattle.script_reader.specs.Rows.{change_row, client_row, is_of_its_kind, is_of_kind, link_row, operator_row, row_in, row_in_text, row_in_words, row_of};
 ghost use Rattle.script_reader.specs.Words.{words_of};
 
 use crate::fault::Cause;
@@ -8,7 +8,7 @@ use crate::fit::form_of;
 use crate::form::{Form, parts};
 use crate::said::{Said, said_words};
 use crate::words::{is_plain_text, is_skipped, without_return};
-use dc_talk::Change;
+use dc_talk::{Change, LinkFault};
 use script_text::{AskFault, ClientStep, Header, MAX_LINE, MAX_LINES, OperatorStep, Step};
 
 /// What a line says.
@@ -28,8 +28,10 @@ pub enum Row {
     Rounds(u32),
     /// A step of a client or of the operator.
     Does(Step),
-    /// What no script has yet: a phase, its end, a fault of a link, or a pruning.
-    Later,
+    /// A phase begins.
+    Phase,
+    /// A phase ends.
+    End,
 }
 
 // A step of the client that is named.
@@ -60,6 +62,17 @@ fn operator_row(step: OperatorStep) -> Row
     ensures { result ≡ operator_row step }
 {
     Row::Does(Step::Operator { step })
+}
+
+// A fault of the link between the two centres that are named.
+fn link_row(said: &Said, fault: LinkFault) -> Row
+    ensures { result ≡ link_row said.now fault }
+{
+    operator_row(OperatorStep::Link {
+        from: said.centre,
+        to: said.other,
+        fault,
+    })
 }
 
 /// What a line of a form says, whose words say this.
@@ -154,13 +167,28 @@ pub fn row_of(form: Form, said: &Said) -> Row
         Form::Prune => operator_row(OperatorStep::Prune {
             centre: said.centre,
         }),
+        Form::LinkDrop => link_row(
+            said,
+            LinkFault::Drop {
+                every: u64::from(said.count),
+            },
+        ),
+        Form::LinkTwice => link_row(
+            said,
+            LinkFault::Twice {
+                every: u64::from(said.count),
+            },
+        ),
+        Form::LinkHold => link_row(
+            said,
+            LinkFault::Hold {
+                every: u64::from(said.count),
+            },
+        ),
+        Form::LinkClean => link_row(said, LinkFault::Clean),
         Form::Settle => operator_row(OperatorStep::Settle),
-        Form::LinkDrop
-        | Form::LinkTwice
-        | Form::LinkHold
-        | Form::LinkClean
-        | Form::Phase
-        | Form::End => Row::Later,
+        Form::Phase => Row::Phase,
+        Form::End => Row::End,
     }
 }
 

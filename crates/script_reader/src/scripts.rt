@@ -1,21 +1,22 @@
 // Reads a script.
 ghost use Rattle.std.specs.Prelude.{◌≡◌, ◌≢◌, ◌++◌, ℕ, List, Err, IfOk};
 ghost use Rattle.script_text.specs.Limits.{PassesLimits};
-ghost use Rattle.script_reader.specs.Ranges.{IsInRange};
-ghost use Rattle.script_reader.specs.Scripts.{script_read, script_with};
+ghost use Rattle.script_text.specs.Scripts.{IsInRange};
+ghost use Rattle.script_reader.specs.Readings.{header_in};
+ghost use Rattle.script_reader.specs.Scripts.{ended, script_read, script_with};
 
 use crate::fault::{Cause, ScriptFault};
 use crate::lines::first_line;
-use crate::reading::{DEFAULT_ROUNDS, DEFAULT_THREADS, LineFault, ReadScript, Reading};
+use crate::reading::{LineFault, Reading};
 use ids_core::MOST_RECORDS;
-use script_text::{DEFAULT_CACHE, Header, Script};
+use script_text::{DEFAULT_CACHE, DEFAULT_ROUNDS, DEFAULT_THREADS, Header, Script};
 use std::alloc::Global;
 
 /// The script that bytes are. It is `Refused` where they are none, with the first line at fault and why it is, and
 /// `NoMemory` where there is no memory for the steps. Where the bytes are a front of an input that passes the limits
 /// of a script, this is the answer for the whole input.
 #[tactic(auto, using(crate::proofs::ScriptRanges::script_in_range))]
-pub fn parse(alloc: Global, bytes: &[u8]) -> Result<ReadScript, ScriptFault>
+pub fn parse(alloc: Global, bytes: &[u8]) -> Result<Script, ScriptFault>
     ensures exact { result ≢ Err ScriptFault.NoMemory → result ≡ script_read bytes.now }
     ensures range { IfOk result IsInRange }
     ensures cut_off { result ≢ Err ScriptFault.NoMemory → PassesLimits bytes.now → (more : List ℕ) → result ≡ script_read (bytes.now ++ more) }
@@ -25,7 +26,7 @@ pub fn parse(alloc: Global, bytes: &[u8]) -> Result<ReadScript, ScriptFault>
 
 // The script that the lines of bytes are.
 #[tactic(auto, unfolding(crate::specs::Scripts::script_read))]
-fn read_lines(alloc: Global, bytes: &[u8]) -> Result<ReadScript, ScriptFault>
+fn read_lines(alloc: Global, bytes: &[u8]) -> Result<Script, ScriptFault>
     ensures { result ≢ Err ScriptFault.NoMemory → result ≡ script_read bytes.now }
 {
     let mut reading = Reading::nothing(alloc);
@@ -45,9 +46,16 @@ fn read_lines(alloc: Global, bytes: &[u8]) -> Result<ReadScript, ScriptFault>
         number += 1;
         rest = more;
     }
+    ended(number, reading)
+}
+
+// What ends before the line of this number: a script, or a header or a phase that is not complete.
+fn ended(number: u32, reading: Reading) -> Result<Script, ScriptFault>
+    ensures { result ≡ ended (header_in reading) number reading }
+{
     match reading.header() {
-        Some(header) => Ok(script_with(header, reading)),
-        None => Err(ScriptFault::Refused {
+        Some(header) if reading.phase.is_none() => Ok(script_with(header, reading)),
+        _ => Err(ScriptFault::Refused {
             line: number,
             cause: Cause::Place,
         }),
@@ -55,20 +63,17 @@ fn read_lines(alloc: Global, bytes: &[u8]) -> Result<ReadScript, ScriptFault>
 }
 
 // The script with this header of which this was read.
-fn script_with(header: Header, reading: Reading) -> ReadScript
+fn script_with(header: Header, reading: Reading) -> Script
     ensures { result ≡ script_with header reading }
 {
-    let script = Script {
+    Script {
         n: header.n,
         k: header.k,
         clients: header.clients,
         cache: reading.cache.unwrap_or(DEFAULT_CACHE),
         limit: reading.limit.map_or(MOST_RECORDS, u64::from),
-        sections: reading.sections,
-    };
-    ReadScript {
-        script,
         threads: reading.threads.unwrap_or(DEFAULT_THREADS),
         rounds: reading.rounds.unwrap_or(DEFAULT_ROUNDS),
+        sections: reading.sections,
     }
 }

@@ -1,5 +1,5 @@
 -- The sections of a script: each step is one, but for those of a phase, which are one together.
-use Rattle.std.specs.Prelude.{◌≡◌, ◌≤◌, ◌⊎◌, true, false, All, length, [], ◌∷◌}
+use Rattle.std.specs.Prelude.{◌≡◌, ◌≤◌, ◌⊎◌, Bool, true, false, IsTrue, All, length, List, [], ◌∷◌}
 use Rattle.script_text.specs.Steps.{IsStepOf}
 use Rattle.script_text.specs.declared.limits.TheConstants.{MAX_LINES}
 use Rattle.script_text.specs.declared.script.Header.{Header}
@@ -13,20 +13,28 @@ use Rattle.script_text.specs.declared.steps.Section.{Section}
 abbrev pub section_of : Step → Section
 section_of step = record { phase = false; steps = step ∷ [] }
 
+-- steps as a phase
+abbrev pub phase_of : List Step → Section
+phase_of steps = record { phase = true; steps = steps }
+
 -- a section that is one step, of a script with this header
 abbrev pub IsLine : Header → Section → Type 0
 IsLine header section = (step : Step) × (section ≡ section_of step) × IsStepOf header step
 
--- a step of the operator may stand in a phase: it settles nothing, and sets no link
-abbrev pub IsOrderInPhase : OperatorStep → Type 0
-IsOrderInPhase (Link from to fault) = ⊥
-IsOrderInPhase Settle = ⊥
-IsOrderInPhase step = Unit {0}
+-- whether a step of the operator may stand in a phase: it settles nothing, and sets no link
+abbrev pub may_order_in_phase : OperatorStep → Bool
+may_order_in_phase (Link from to fault) = false
+may_order_in_phase Settle = false
+may_order_in_phase step = true
 
--- a step may stand in a phase
+-- whether a step may stand in a phase
+abbrev pub may_do_in_phase : Step → Bool
+may_do_in_phase (Client client step) = true
+may_do_in_phase (Operator step) = may_order_in_phase step
+
+-- it may
 abbrev pub IsInPhase : Step → Type 0
-IsInPhase (Client client step) = Unit {0}
-IsInPhase (Operator step) = IsOrderInPhase step
+IsInPhase step = IsTrue (may_do_in_phase step)
 
 -- a phase, of a script with this header
 pub record IsPhase (header : Header) (section : Section) : Type 0 where

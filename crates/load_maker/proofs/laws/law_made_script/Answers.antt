@@ -1,5 +1,5 @@
 use Rattle.load_maker.proofs.MadeLines.{made_back, made_read}
-use Rattle.load_maker.proofs.MadeScripts.{made_count, made_refused, steady_read}
+use Rattle.load_maker.proofs.MadeScripts.{made_count, script_back}
 use Rattle.load_maker.proofs.laws.law_made_script.Goals as goal
 
 pub returns-clause-lines : goal.returns-clause-lines
@@ -12,7 +12,4 @@ pub returns-clause-read : goal.returns-clause-read
 returns-clause-read c = made_read
 
 pub returns-clause-script : goal.returns-clause-script
-returns-clause-script c = steady_read
-
-pub returns-clause-phases : goal.returns-clause-phases
-returns-clause-phases c = made_refused
+returns-clause-script c = script_back

@@ -8,5 +8,5 @@ unfolding blocks body
 returns c =
     on_ok_weaker c.last_reads.result
     (λ rest. makes_then _ _ _ _ _ c.in_ok-put.ensures
-    (makes_append _ _ _ _ _ (makes_append _ _ _ _ _ c.in_ok-phases.ensures (makes_then _ _ _ _ _ c.in_ok-put-2.ensures c.in_ok-flushes.ensures)) (makes_then _ _ _ _ _ c.in_ok-put-3.ensures rest)))
+    (makes_append _ _ _ _ _ c.in_ok-phases.ensures (makes_append _ _ _ _ _ (makes_then _ _ _ _ _ c.in_ok-put-2.ensures c.in_ok-flushes.ensures) (makes_then _ _ _ _ _ c.in_ok-put-3.ensures rest))))
     c.last_reads.ensures
