@@ -78,3 +78,21 @@ brings_rest to first items held now a b c before after is rest =
     let left : held ≡ drop (arrived_count first items) (arrivals first items) = is ∙ ap (λ (i : Inlet Record). i.held) after in
     let whole : arrived first items ++ held ≡ arrivals first items = ap (λ held. arrived first items ++ held) left ∙ take-append-drop (arrived_count first items) (arrivals first items) in
     subst (λ all. AddsSuch (Brings to all) a c) whole (brings_both to (arrived first items) held a b c before rest)
+
+-- ---- items behind items
+
+pub arrived_then : (i : Inlet Record) (xs ys : List Record) → arrived i (xs ++ ys) ≡ arrived i xs ++ arrived (inlet_after i xs) ys
+arrived_then i [] ys = ap (λ i. arrived i ys) (sym (after_none i)) ∙ ap (λ front. front ++ arrived (inlet_after i []) ys) (sym (arrived_none i))
+arrived_then i (x ∷ xs) ys =
+    let next : Inlet Record = inlet_after i (x ∷ []) in
+    let first : List Record = arrived i (x ∷ []) in
+    let last : List Record = arrived (inlet_after next xs) ys in
+    arrived_next i x (xs ++ ys)
+    ∙ (ap (λ more. first ++ more) (arrived_then next xs ys)
+    ∙ (sym (append_assoc first (arrived next xs) last)
+    ∙ (ap (λ front. front ++ last) (sym (arrived_next i x xs))
+    ∙ ap (λ i'. arrived i (x ∷ xs) ++ arrived i' ys) (sym (after_next i x xs)))))
+
+pub after_then : (i : Inlet Record) (xs ys : List Record) → inlet_after i (xs ++ ys) ≡ inlet_after (inlet_after i xs) ys
+after_then i [] ys = ap (λ i. inlet_after i ys) (sym (after_none i))
+after_then i (x ∷ xs) ys = after_next i x (xs ++ ys) ∙ (after_then (inlet_after i (x ∷ [])) xs ys ∙ ap (λ i. inlet_after i ys) (sym (after_next i x xs)))

@@ -7,6 +7,7 @@ pub mod Items
 pub mod Bringing
 pub mod Mailing
 pub mod RoundDeeds
+pub mod Taking
 pub mod Passing
 pub mod Alike
 pub mod Repeating

@@ -56,7 +56,7 @@ pub fn bring_rest<D: Door>(
 }
 
 // What comes of one record.
-fn bring_one<D: Door>(
+pub(crate) fn bring_one<D: Door>(
     door: &mut D,
     at: u8,
     inlet: &mut Inlet,
@@ -87,7 +87,7 @@ fn bring_due<D: Door>(door: &mut D, at: u8, due: Due, log: &mut Log) -> Result<(
 }
 
 // A record, where there is one.
-fn bring_some<D: Door>(
+pub(crate) fn bring_some<D: Door>(
     door: &mut D,
     at: u8,
     item: Option<Record>,
