@@ -1,5 +1,7 @@
 pub mod Sparse
 pub mod Kept
+pub mod Parts
+pub mod Turned
 pub mod Places
 pub mod Fitting
 pub mod Alive

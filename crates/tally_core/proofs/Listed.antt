@@ -174,7 +174,7 @@ module _ {P : Type 0} where
       at true false is ih next = ap (λ l. last ∷ l) next ∙ sym (rw (turned false is) refl)
 
   -- so the names that are given out are the live ones
-  all_names : (es : List (Place × Cell P)) → names_after None es ≡ dedup same_name (map (λ e. e.0.name) (filter (λ e. is_live e.1) es))
+  pub all_names : (es : List (Place × Cell P)) → names_after None es ≡ dedup same_name (map (λ e. e.0.name) (filter (λ e. is_live e.1) es))
   all_names [] = refl
   all_names (e ∷ es) = at (is_live e.1) (all_names es) (after_one e.0.name es)
     where

@@ -1,6 +1,7 @@
 pub mod Places
 pub mod Sparse
 pub mod Cells
+pub mod Parted
 pub mod Room
 pub mod Shared
 pub mod Live

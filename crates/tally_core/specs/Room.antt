@@ -1,11 +1,13 @@
 -- Where a cell can be changed with no want of memory.
-use Rattle.std.specs.Prelude.{◌≡◌, ℕ, ℤ, pos, negsuc, Bool, true, false, List, Option, Some, None, int_lt}
-use Rattle.std.specs.BTreeMap.{BTreeMap, get}
+use Rattle.std.specs.Prelude.{◌≡◌, ℕ, ℤ, pos, negsuc, Bool, true, false, cond, List, Option, Some, None, int_lt}
+use Rattle.std.specs.BTreeMap.{BTreeMap, get, is_at}
 use Rattle.list_core.specs.Members.{In}
 use Rattle.ids_core.specs.declared.ids.OpId.{OpId}
 use Rattle.tally_core.specs.declared.place.Place.{Place}
 use Rattle.tally_core.specs.declared.place.Cell.{Cell}
+use Rattle.tally_core.specs.declared.parted.Parted.{Parted}
 use Rattle.tally_core.specs.Places.{place, place_cmp}
+use Rattle.tally_core.specs.Cells.{is_nothing, turned}
 
 -- the tally can rise, or fall, within `i64`
 abbrev pub is_within : Bool → ℤ → Bool
@@ -13,19 +15,40 @@ is_within true count = int_lt count (pos 9223372036854775807)
 is_within false count = int_lt (negsuc 9223372036854775807) count
 
 module _ {P : Type 0} where
-  -- a cell stands, and its tally can rise, or fall
-  abbrev pub fits : Bool → Option (Cell P) → Bool
-  fits adds None = false
-  fits adds (Some c) = is_within adds c.count
+  -- of what stands among the live cells and among the owed ones: a live cell, or one whose tally can fall
+  abbrev pub can_fall : Option (Cell P) → Option (Cell P) → Bool
+  can_fall (Some c) owed = true
+  can_fall None None = false
+  can_fall None (Some c) = is_within false c.count
 
-  -- the tally at the place can rise, or fall
-  abbrev pub Fits : Bool → BTreeMap Place (Cell P) → Place → Type 0
-  Fits adds m p = fits adds (get place_cmp m p) ≡ true
+  -- the tally at the place can fall
+  abbrev pub CanFall : Parted P → Place → Type 0
+  CanFall cells p = can_fall (get place_cmp cells.live p) (get place_cmp cells.owed p) ≡ true
 
   -- each identifier under the name can be lowered
-  abbrev pub CanLower : BTreeMap Place (Cell P) → List ℕ → List OpId → Type 0
-  CanLower m name over = (id : OpId) → In id over → Fits false m (place name id)
+  abbrev pub CanLower : Parted P → List ℕ → List OpId → Type 0
+  CanLower cells name over = (id : OpId) → In id over → CanFall cells (place name id)
 
-  -- what stands at a place of the first stands in the second
-  abbrev pub Stays : BTreeMap Place (Cell P) → BTreeMap Place (Cell P) → Type 0
-  Stays m n = (p : Place) (c : Cell P) → get place_cmp m p ≡ Some c → get place_cmp n p ≡ Some c
+  -- a cell of 0 stands
+  abbrev pub is_empty : Option (Cell P) → Bool
+  is_empty None = false
+  is_empty (Some c) = is_nothing c
+
+  -- the second map has w at the place, and at each other one what the first has
+  abbrev pub Puts : BTreeMap Place (Cell P) → BTreeMap Place (Cell P) → Place → Option (Cell P) → Type 0
+  Puts m n p w = (q : Place) → get place_cmp n q ≡ cond (is_at (place_cmp p) q) w (get place_cmp m q)
+
+  -- what is left of a cell that is lowered
+  abbrev pub lowered : Option (Cell P) → Option (Cell P)
+  lowered None = None
+  lowered (Some c) = cond (is_nothing (turned None c)) None (Some (turned None c))
+
+  -- an add is owed: the tally is below 0
+  abbrev pub owes : Option (Cell P) → Bool
+  owes None = false
+  owes (Some c) = int_lt c.count (pos 0)
+
+  -- what is left of an owed cell once an add comes, which is nothing where none was owed
+  abbrev pub repaid : P → Option (Cell P) → Option (Cell P)
+  repaid p None = None
+  repaid p (Some c) = cond (int_lt c.count (pos 0)) (Some (turned (Some p) c)) None

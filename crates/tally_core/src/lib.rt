@@ -4,6 +4,7 @@
 
 mod changes;
 mod live;
+mod parted;
 mod place;
 mod room;
 mod sees;

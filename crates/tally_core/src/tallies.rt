@@ -8,8 +8,8 @@ ghost use Rattle.tally_core.specs.Cells.{changed};
 ghost use Rattle.tally_core.specs.Live.{live_ids, live_names, kept_at, IsLiveName};
 
 use crate::live::{kept_from, live_from, names_in};
-use crate::place::{Cell, Place};
-use crate::shared::{begin, cells_or, change_shared};
+use crate::parted::Parted;
+use crate::shared::{begin, change_shared, live_or};
 use ids_core::{Name, NoMemory, OpId, Tags};
 use std::alloc::Global;
 use std::collections::BTreeMap;
@@ -20,27 +20,31 @@ use std::sync::Arc;
 /// list of seen identifiers that holds it (the observed-remove set of Shapiro and others, INRIA
 /// RR-7506, 2011, with tallies, so that a remove may come before the add that it saw). A tally of 0
 /// is not there. Where a tally is 1 or more, the identifier is live, and what its add keeps is there.
+/// Tallies below 0 stand apart from these, so that what is live is told without a walk over them.
 /// Copies share their cells until one of them is changed, which takes cells of its own first.
 #[derive(Drop)]
 pub struct Tallies<P: Copy> {
     alloc: Global,
-    cells: Option<Arc<BTreeMap<Place, Cell<P>>>>,
+    cells: Option<Arc<Parted<P>>>,
 }
 
 impl<P: Copy> Model for Tallies<P> {
-    ghost use Rattle.std.specs.Prelude.{option_map};
+    ghost use Rattle.std.specs.Prelude.{◌++◌, option_map};
     ghost use Rattle.std.specs.FinMap as map;
     ghost use Rattle.std.specs.Arc.{arc_value};
     ghost use Rattle.tally_core.specs.Places.{place_cmp, place_code};
     ghost use Rattle.tally_core.specs.declared.place.Cell.{Cell};
     ghost use Rattle.tally_core.specs.Cells.{cell_code, seen};
-    ghost use Rattle.tally_core.specs.Shared.{entries_in};
+    ghost use Rattle.tally_core.specs.Parted.{AreApart};
+    ghost use Rattle.tally_core.specs.Shared.{live_of, owed_of};
 
     ghost Value = { map.FinMap place_cmp (Cell P) };
 
     ghost coded = { map.code place_code (cell_code P.code) };
 
-    ghost view = { λ t. seen (entries_in (option_map arc_value t.cells)) };
+    ghost view = { λ t. seen (live_of (option_map arc_value t.cells) ++ owed_of (option_map arc_value t.cells)) };
+
+    ghost invariant = { λ t. AreApart (live_of (option_map arc_value t.cells)) (owed_of (option_map arc_value t.cells)) };
 }
 
 impl<P: Copy> Tallies<P> {
@@ -91,33 +95,34 @@ impl<P: Copy> Tallies<P> {
 }
 
 impl<P: Copy> Tallies<P> {
-    /// The live identifiers of a name.
+    /// The live identifiers of a name. Time: a look-up among the live tallies, and a step for each of the
+    /// name.
     pub fn live(&self, alloc: Global, name: &Name) -> Result<Tags, NoMemory>
         ensures { IfOk result (λ tags. tags ≡ live_ids self.now name.now) }
     {
         let empty = BTreeMap::new(alloc);
-        match Tags::of(live_from(alloc, cells_or(&self.cells, &empty), name)?) {
+        match Tags::of(live_from(alloc, live_or(&self.cells, &empty), name)?) {
             Ok(tags) => Ok(tags),
             Err(_) => unreachable!(),
         }
     }
 
-    /// The live identifiers of a name in their order, each with what its add keeps.
+    /// The live identifiers of a name in their order, each with what its add keeps. Time: as for `live`.
     pub fn kept(&self, alloc: Global, name: &Name) -> Result<Vec<(OpId, P)>, NoMemory>
         ensures { IfOk result (λ list. list.items ≡ kept_at self.now name.now) }
     {
         let empty = BTreeMap::new(alloc);
-        kept_from(alloc, cells_or(&self.cells, &empty), name)
+        kept_from(alloc, live_or(&self.cells, &empty), name)
     }
 
-    /// The names with a live identifier, ascending.
+    /// The names with a live identifier, ascending. Time: a step for each live tally.
     pub fn names(&self, alloc: Global) -> Result<Vec<Name>, NoMemory>
         ensures names { IfOk result (λ list. list.items ≡ live_names self.now) }
         ensures ascending { IfOk result (λ list. IsStrictlySortedBy name_cmp list.items) }
         ensures exact { IfOk result (λ list. (name : List ℕ) → In name list.items ↔ IsLiveName self.now name) }
     {
         let empty = BTreeMap::new(alloc);
-        let list = names_in(alloc, cells_or(&self.cells, &empty))?;
+        let list = names_in(alloc, live_or(&self.cells, &empty))?;
         Ok(list)
     }
 }

@@ -1,24 +1,36 @@
-use Rattle.std.proofs.Common.{rules, None, sym, refl, ◌∙◌}
-use Rattle.std.specs.BTreeMap.Entry.{entry_value, map_with_value, map_without_entry}
-use Rattle.tally_core.proofs.Kept.{seen-gone, seen-turn, apart, found, written, taken}
+use Rattle.std.proofs.Common.{None, sym, ◌∙◌}
+use Rattle.std.specs.BTreeMap.{get}
+use Rattle.tally_core.specs.Places.{place, place_cmp}
+use Rattle.tally_core.proofs.Parts.{stays, seen_turned, apart_kept}
+use Rattle.tally_core.proofs.Turned.{live_can, live_falls, live_falls_apart, owed_can, owed_falls, owed_falls_apart}
 use Rattle.tally_core.proofs.turn.lower.Goals as goal
 
-pub returns-then-is_nothing-clause-view : goal.returns-then-is_nothing-clause-view
-returns-then-is_nothing-clause-view g c =
-    let there = found c.args.cells.now _ _ _ c.in-Ok-Occupied.field-0-is entry_value _ c.in-Ok-Occupied.ensures.value c.get.ensures in
-    let out = taken c.args.cells.now _ _ _ c.in-Ok-Occupied.field-0-is _ map_without_entry (search rules) c.in-Ok-Occupied.ensures.removal.0 in
-    seen-gone _ _ _ None _ _ there c.turned-cell.ensures (sym c.is_nothing.ensures ∙ c.if-is_nothing.true) out
+pub lower_in-requires : goal.lower_in-requires
+lower_in-requires g c =
+    let p = place c.args.name.now c.args.id.now in let cells = c.args.cells.now in
+    live_can (get place_cmp cells.live p) (get place_cmp cells.owed p) (sym c.contains_key.ensures ∙ c.if-contains_key.true) (c.requires.parted p)
 
-pub returns-then-is_nothing-clause-apart : goal.returns-then-is_nothing-clause-apart
-returns-then-is_nothing-clause-apart g c =
-    apart _ _ _ None (taken c.args.cells.now _ _ _ c.in-Ok-Occupied.field-0-is _ map_without_entry (search rules) c.in-Ok-Occupied.ensures.removal.0)
+pub lower_in-requires-else-contains_key : goal.lower_in-requires-else-contains_key
+lower_in-requires-else-contains_key g c =
+    let p = place c.args.name.now c.args.id.now in let cells = c.args.cells.now in
+    owed_can (get place_cmp cells.live p) (get place_cmp cells.owed p) (sym c.contains_key.ensures ∙ c.if-contains_key.false) c.requires.falls
 
-pub returns-else-is_nothing-clause-view : goal.returns-else-is_nothing-clause-view
-returns-else-is_nothing-clause-view g c =
-    let there = found c.args.cells.now _ _ _ c.in-Ok-Occupied.field-0-is entry_value _ c.in-Ok-Occupied.ensures.value c.get.ensures in
-    let put = written c.args.cells.now _ _ _ c.in-Ok-Occupied.field-0-is _ map_with_value _ c.turned-cell.result (search rules) refl c.in-Ok-Occupied.ensures.update.0 in
-    seen-turn _ _ _ None _ _ there c.turned-cell.ensures put
+pub returns-then-contains_key-clause-parted : goal.returns-then-contains_key-clause-parted
+returns-then-contains_key-clause-parted g c =
+    let p = place c.args.name.now c.args.id.now in let cells = c.args.cells.now in
+    apart_kept cells.live.entries _ cells.owed.entries cells.owed.entries p _ _ c.lower_in.ensures (stays cells.owed.entries p) (live_falls_apart (get place_cmp cells.live p) (get place_cmp cells.owed p) (sym c.contains_key.ensures ∙ c.if-contains_key.true) (c.requires.parted p)) c.requires.parted
 
-pub returns-else-is_nothing-clause-apart : goal.returns-else-is_nothing-clause-apart
-returns-else-is_nothing-clause-apart g c =
-    apart _ _ _ _ (written c.args.cells.now _ _ _ c.in-Ok-Occupied.field-0-is _ map_with_value _ c.turned-cell.result (search rules) refl c.in-Ok-Occupied.ensures.update.0)
+pub returns-then-contains_key-clause-view : goal.returns-then-contains_key-clause-view
+returns-then-contains_key-clause-view g c =
+    let p = place c.args.name.now c.args.id.now in let cells = c.args.cells.now in
+    seen_turned cells.live.entries _ cells.owed.entries cells.owed.entries p None _ _ c.lower_in.ensures (stays cells.owed.entries p) (live_falls (get place_cmp cells.live p) (get place_cmp cells.owed p) (sym c.contains_key.ensures ∙ c.if-contains_key.true) (c.requires.parted p))
+
+pub returns-else-contains_key-clause-parted : goal.returns-else-contains_key-clause-parted
+returns-else-contains_key-clause-parted g c =
+    let p = place c.args.name.now c.args.id.now in let cells = c.args.cells.now in
+    apart_kept cells.live.entries cells.live.entries cells.owed.entries _ p _ _ (stays cells.live.entries p) c.lower_in-else-contains_key.ensures (owed_falls_apart (get place_cmp cells.live p) (get place_cmp cells.owed p) (sym c.contains_key.ensures ∙ c.if-contains_key.false) (c.requires.parted p)) c.requires.parted
+
+pub returns-else-contains_key-clause-view : goal.returns-else-contains_key-clause-view
+returns-else-contains_key-clause-view g c =
+    let p = place c.args.name.now c.args.id.now in let cells = c.args.cells.now in
+    seen_turned cells.live.entries cells.live.entries cells.owed.entries _ p None _ _ (stays cells.live.entries p) c.lower_in-else-contains_key.ensures (owed_falls (get place_cmp cells.live p) (get place_cmp cells.owed p) (sym c.contains_key.ensures ∙ c.if-contains_key.false) c.requires.falls)
