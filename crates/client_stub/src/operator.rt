@@ -13,7 +13,7 @@ use ids_core::NoMemory;
 use script_text::OperatorStep;
 
 /// Takes a step of the operator of `n` centres through a door to them, which it leaves at its place: its asks of
-/// the centres, and then its line, where it has one. The notes are of the section and step that the log is at. An
+/// the centres, and then its line, where it has one. A link's fault it leaves to the caller, who has the links. The notes are of the section and step that the log is at. An
 /// `Err` is want of memory: it may leave a part of the step in the log and at the centres.
 pub fn operate<D: Door>(
     door: &mut D,
@@ -34,6 +34,7 @@ pub fn operate<D: Door>(
         OperatorStep::Ship { from, to } => order_ship(door, *from, *to, log),
         OperatorStep::Tell { from, to } => order_tell(door, *from, *to, log),
         OperatorStep::Prune { centre } => order_prune(door, *centre, log),
+        OperatorStep::Link { .. } => Ok(()),
         OperatorStep::Settle => {
             settle(door, n, log)?;
             Ok(())

@@ -1,6 +1,6 @@
 -- What may happen in a world, and what each event leaves.
-use Rattle.std.specs.Prelude.{◌≡◌, ℕ, ◌+◌, ◌-◌, ◌&&◌, nat_le, List, [], ◌∷◌, Option, Some, None, slice_get, slice_set}
-use Rattle.std.specs.Option.{option_and_then}
+use Rattle.std.specs.Prelude.{◌≡◌, ℕ, ◌+◌, ◌-◌, ◌==◌, ◌&&◌, nat_le, cond, List, [], ◌∷◌, Option, Some, None, slice_get, slice_set}
+use Rattle.std.specs.Option.{option_map, option_and_then}
 use Rattle.list_core.specs.Choices.{when}
 use Rattle.tx_core.specs.declared.tx.Tx.{Tx}
 use Rattle.tx_core.specs.declared.tx.Record.{Record}
@@ -17,20 +17,20 @@ use Rattle.script_text.specs.declared.script.Script.{Script}
 use Rattle.script_text.specs.declared.steps.Section.{Section}
 use Rattle.script_text.specs.declared.steps.ClientStep.{ClientStep}
 use Rattle.script_text.specs.declared.steps.OperatorStep.{OperatorStep}
-use Rattle.script_text.specs.declared.steps.Step.{Step}
-use Rattle.script_text.specs.declared.steps.Step.TheVariants.{Client as ClientTakes, Operator as OperatorTakes}
-use Rattle.script_text.specs.Rows.{section_of}
+use Rattle.script_text.specs.declared.rounds.Role.{Role}
+use Rattle.script_text.specs.declared.rounds.Role.TheVariants.{Sender, Receiver, Reporter, Pruner}
 use Rattle.script_text.specs.Deeds.{StepDeeds, after_all, armed_after}
 use Rattle.script_text.specs.Orders.{OperatorDeeds}
 use Rattle.client_stub.specs.Playing.{StubView}
-use Rattle.run_book.specs.Scripted.{client_steps, operator_steps}
+use Rattle.run_book.specs.Moves.{Does, operator_does, worker_does, closes, actor_of, client_steps, operator_steps}
+use Rattle.run_book.specs.Played.{DoesSo}
 use Rattle.run_book.specs.Setups.{setup_of}
 use Rattle.run_book.specs.Happenings.{Happened, Happens, ClientDoes}
 use Rattle.world_core.specs.declared.event.Event.{Event}
-use Rattle.world_core.specs.declared.event.Event.TheVariants.{Client, Operator, Again, Carry}
+use Rattle.world_core.specs.declared.event.Event.TheVariants.{Client, Operator, Round, Again, Carry}
 use Rattle.world_core.specs.declared.event.Played.{Played}
 use Rattle.world_core.specs.declared.event.Played.TheVariants.{Done, NoSuch}
-use Rattle.world_core.specs.Worlds.{WorldView, IsWorld, Turn, Acts, log_at, stub_at, progress_at, notes_in}
+use Rattle.world_core.specs.Worlds.{WorldView, IsWorld, Turn, Acts, log_at, stub_at, progress_at, notes_in, stage_of, HasPosts}
 
 -- ---- what is named
 
@@ -64,6 +64,23 @@ record_named w from place index = option_and_then (λ list. slice_get list index
 abbrev pub if_centre : {X : Type 0} → WorldView → ℕ → Option X → Option X
 if_centre w centre x = option_and_then (λ there. x) (when (nat_le 1 centre && nat_le centre w.script.n) centre)
 
+-- the role of a number
+abbrev pub role_of : ℕ → Option Role
+role_of number = cond (number == 1) (Some Sender) (cond (number == 2) (Some Receiver) (cond (number == 3) (Some Reporter) (cond (number == 4) (Some Pruner) None)))
+
+-- the round of a number, in a phase, of the worker of a centre with a role, given by its number; behind the last one the
+-- receiver has its closing round
+abbrev pub work_in : Script → ℕ → ℕ → ℕ → Option Does
+work_in script round centre role = cond (nat_le 1 centre && nat_le centre script.n) (cond (nat_le 1 round && nat_le round script.rounds) (option_map (worker_does centre) (role_of role)) (cond (round == script.rounds + 1 && role == 2) (Some (closes centre)) None)) None
+
+-- the same in a section, which has rounds where it is a phase
+abbrev pub work_named : Script → ℕ → ℕ → ℕ → ℕ → Option Does
+work_named script section round centre role = option_and_then (λ found. cond found.phase (work_in script round centre role) None) (numbered script.sections section)
+
+-- whose turn it is when something is done in a section and step
+abbrev pub turn_of : Script → ℕ → ℕ → Does → Turn
+turn_of script section step does = record { actor = actor_of script.clients does; section = section; step = step }
+
 -- ---- what an event leaves
 
 -- a client takes a step in its turn: the client's notes are those of the step, and it is as far as they say; the
@@ -74,6 +91,7 @@ pub record TakesStep (turn : Turn) (step : ClientStep) (old new : WorldView) : T
   pub deeds : List Deed
   pub such : StepDeeds (progress_at old (turn.actor - 1) stub) step deeds
   pub stubs : new.stubs ≡ slice_set old.stubs (turn.actor - 2) (record { client = after_all stub.client deeds; armed = armed_after stub.armed step deeds })
+  pub posts : new.posts ≡ old.posts
   pub allowed : ClientDoes stub.client (log_at old.logs turn.actor).notes (notes_in turn deeds)
   pub acts : Acts turn deeds old new
 
@@ -82,12 +100,23 @@ pub record TakesOrder (turn : Turn) (step : OperatorStep) (old new : WorldView) 
   pub deeds : List Deed
   pub such : OperatorDeeds old.script.n step deeds
   pub stubs : new.stubs ≡ old.stubs
+  pub posts : HasPosts old.script.n (operator_does step) deeds old.posts new.posts
+  pub acts : Acts turn deeds old new
+
+-- a worker makes a round in its turn: its deeds are due at the stage to which the world came, and the links are as they
+-- leave them
+pub record TakesRound (turn : Turn) (does : Does) (old new : WorldView) : Type 0 where
+  pub deeds : List Deed
+  pub such : DoesSo old.script.n (stage_of old) turn.step does deeds
+  pub stubs : new.stubs ≡ old.stubs
+  pub posts : HasPosts old.script.n does deeds old.posts new.posts
   pub acts : Acts turn deeds old new
 
 -- an actor makes one ask whose answer no session hears, outside of the script
 pub record AsksOnce (actor centre : ℕ) (ask : Ask) (old new : WorldView) : Type 0 where
   pub say : Say
   pub stubs : new.stubs ≡ old.stubs
+  pub posts : new.posts ≡ old.posts
   pub acts : Acts (record { actor = actor; section = 0; step = 0 }) (Asked centre ask (Unheard say) ∷ []) old new
 
 -- what an event does, where what it names is there, and that nothing changes where it is not
@@ -99,22 +128,10 @@ Goes found Does old new NoSuch = (found ≡ None) × (new ≡ old)
 abbrev pub Plays : Event → WorldView → WorldView → Played → Type 0
 Plays (Client client section step) old new played = Goes (step_named (client_steps client) old.script section step) (TakesStep (record { actor = client + 1; section = section; step = step })) old new played
 Plays (Operator section step) old new played = Goes (step_named operator_steps old.script section step) (TakesOrder (record { actor = 1; section = section; step = step })) old new played
+Plays (Round section round centre role) old new played = Goes (work_named old.script section round centre role) (λ does. TakesRound (turn_of old.script section round does) does) old new played
 Plays (Again client note centre) old new played = Goes (if_centre old centre (commit_named old client note)) (λ tx. AsksOnce (client + 1) centre (Commit tx)) old new played
 Plays (Carry from entry index to) old new played = Goes (if_centre old to (record_named old from entry index)) (λ item. AsksOnce 1 to (Deliver item)) old new played
 
 -- an actor may ask so next, and no session hears the answer
 abbrev pub MayAsk : ℕ → ℕ → Ask → WorldView → Type 0
 MayAsk actor centre ask w = (all : List Happened) → IsWorld w all → (say : Say) → Happens w.script.n (setup_of w.script) all (record { actor = actor; note = marked 0 0 (Asked centre ask (Unheard say)) })
-
--- ---- a section of one step
-
--- the step of a section is taken, as its only one
-abbrev pub TakesOne : ℕ → Step → WorldView → WorldView → Type 0
-TakesOne section (ClientTakes client step) old new = TakesStep (record { actor = client + 1; section = section; step = 1 }) step old new
-TakesOne section (OperatorTakes step) old new = TakesOrder (record { actor = 1; section = section; step = 1 }) step old new
-
--- a section of one step is played as the section of a number
-pub record PlaysLine (number : ℕ) (section : Section) (old new : WorldView) : Type 0 where
-  pub step : Step
-  pub one : section ≡ section_of step
-  pub takes : TakesOne number step old new

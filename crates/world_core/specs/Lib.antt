@@ -1,3 +1,5 @@
+pub mod Dealing
+pub mod Works
 pub mod Worlds
 pub mod Tables
 pub mod Events

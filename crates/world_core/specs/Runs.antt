@@ -1,12 +1,9 @@
 -- What runs of scripts on one thread leave.
-use Rattle.std.specs.Prelude.{◌≡◌, ◌≤◌, ℕ, List, All, length, map, Some}
-use Rattle.ids_core.specs.declared.limits.TheConstants.{MOST_CACHED, MOST_RECORDS}
+use Rattle.std.specs.Prelude.{◌≡◌, ℕ, List, ◌++◌, map, Some}
 use Rattle.script_text.specs.declared.script.Script.{Script}
-use Rattle.script_text.specs.declared.steps.Section.{Section}
-use Rattle.script_text.specs.Steps.{IsCount, IsHeader}
-use Rattle.script_text.specs.Rows.{IsLine}
-use Rattle.script_text.specs.Scripts.{header_of}
-use Rattle.script_text.specs.Deeds.{Progress}
+use Rattle.script_text.specs.Steps.{IsCount}
+use Rattle.script_text.specs.Scripts.{IsInRange}
+use Rattle.dc_mail.specs.Posts.{post_at}
 use Rattle.client_stub.specs.Playing.{StubView}
 use Rattle.run_book.specs.declared.book.Book.{Book}
 use Rattle.run_book.specs.Setups.{setup_of}
@@ -14,16 +11,9 @@ use Rattle.run_book.specs.Fit.{FitsWith}
 use Rattle.run_book.specs.Scripted.{HasSteps}
 use Rattle.run_book.specs.Refusals.{IsTimely}
 use Rattle.run_book.specs.Happenings.{Happened}
-use Rattle.run_book.specs.Played.{HavePlayed}
+use Rattle.run_book.specs.Moves.{Move}
+use Rattle.run_book.specs.Played.{Stage, HavePlayed}
 use Rattle.world_core.specs.Worlds.{WorldView, IsWorld, stub_at, progress_at}
-
--- the numbers of a script are in range, and each section is one step of one of its actors
-pub record IsInRange (script : Script) : Type 0 where
-  pub header : IsHeader (header_of script)
-  pub cache : IsCount MOST_CACHED script.cache
-  pub limit : IsCount MOST_RECORDS script.limit
-  pub lines : All (IsLine (header_of script)) script.sections
-  pub few : length script.sections ≤ 200000
 
 -- a world that is not spent: the numbers of its script are in range, and something happened in it, or nothing
 pub record IsSound (w : WorldView) : Type 0 where
@@ -40,13 +30,20 @@ pub record IsWorldBook (w : WorldView) (b : Book) : Type 0 where
   pub fits : FitsWith b (setup_of w.script)
   pub timely : IsTimely b (setup_of w.script)
 
--- the world has taken the steps of these sections, one after another
-pub record HasPlayed (sections : List Section) (w : WorldView) : Type 0 where
+-- the world has made these moves of its script, one after another
+pub record HasPlayed (moves : List Move) (w : WorldView) : Type 0 where
   pub all : List Happened
   pub world : IsWorld w all
-  pub come : ℕ → Progress
-  pub played : HavePlayed w.script.n (setup_of w.script) sections all come
-  pub stubs : (client : ℕ) (stub : StubView) → stub_at w.stubs client ≡ Some stub → come client ≡ progress_at w client stub
+  pub stage : Stage
+  pub played : HavePlayed w.script moves all stage
+  pub stubs : (client : ℕ) (stub : StubView) → stub_at w.stubs client ≡ Some stub → stage.come client ≡ progress_at w client stub
+  pub posts : (from to : ℕ) → IsCount w.script.n from → IsCount w.script.n to → stage.posts from to ≡ post_at w.posts from to
+
+-- these moves were made behind those that were made before
+pub record MakesMoves (moves : List Move) (old new : WorldView) : Type 0 where
+  pub script : new.script ≡ old.script
+  pub spent : new.spent ≡ old.spent
+  pub goes_on : (front : List Move) → HasPlayed front old → HasPlayed (front ++ moves) new
 
 -- the book is a run of the script: it is one of its centres, fits its setup, has its steps and is timely
 pub record IsRunOf (script : Script) (b : Book) : Type 0 where

@@ -8,20 +8,25 @@ use Rattle.dc_talk.specs.declared.log.Deed.TheVariants.{Asked}
 use Rattle.dc_talk.specs.Answers.{History}
 use Rattle.dc_talk.specs.Clients.{new_client}
 use Rattle.dc_talk.specs.Logs.{Logged}
-use Rattle.dc_talk.specs.Acting.{Leaves, acting}
+use Rattle.dc_talk.specs.declared.log.Deed.{Deed}
+use Rattle.dc_talk.specs.Acting.{Acting, Leaves, acting}
 use Rattle.dc_host.specs.Centres.{CentreTrail, new_centres}
 use Rattle.dc_host.specs.KeptDoors.{shown_of, begun}
 use Rattle.script_text.specs.declared.script.Script.{Script}
 use Rattle.script_text.specs.declared.steps.ClientStep.{ClientStep}
 use Rattle.script_text.specs.declared.steps.OperatorStep.{OperatorStep}
 use Rattle.client_stub.specs.Playing.{StubView, Takes, Operates, beside}
+use Rattle.script_text.specs.Mail.{Post}
+use Rattle.dc_mail.specs.Posts.{post_at, new_posts}
 use Rattle.run_book.specs.Parts.{idle_log}
+use Rattle.run_book.specs.Moves.{Does, operator_does}
+use Rattle.run_book.specs.Played.{Stage, new_progress, DoesSo}
 use Rattle.world_core.specs.declared.table.Table.{Table}
-use Rattle.world_core.specs.Worlds.{WorldView, Turn, log_at}
+use Rattle.world_core.specs.Worlds.{WorldView, Turn, log_at, HasPosts}
 
 -- what a world of these parts is seen as
 abbrev pub seen_of : Script → Bool → Table → WorldView
-seen_of script spent table = record { script = script; centres = table.door.centres; stubs = table.stubs.items; logs = table.logs.items; spent = spent }
+seen_of script spent table = record { script = script; centres = table.door.centres; stubs = table.stubs.items; logs = table.logs.items; posts = table.posts; spent = spent }
 
 -- ---- at first
 
@@ -42,6 +47,7 @@ pub record IsNew (script : Script) (table : Table) : Type 0 where
   pub centres : table.door.centres ≡ new_centres script.n script.k script.limit
   pub stubs : table.stubs.items ≡ new_stubs script.n script.cache script.clients
   pub logs : table.logs.items ≡ new_logs (1 + script.clients + 4 * script.n)
+  pub posts : table.posts ≡ new_posts
 
 -- ---- a step
 
@@ -68,6 +74,7 @@ pub record HasStepped (turn : Turn) (step : ClientStep) (old new : Table) : Type
   pub log : Logged
   pub takes : Takes step (beside stub (shown_of (begun turn.actor old.door.centres)) (log_in turn (log_at old.logs.items turn.actor))) (beside later (shown_of new.door) log)
   pub stubs : new.stubs.items ≡ slice_set old.stubs.items (turn.actor - 2) later
+  pub posts : new.posts ≡ old.posts
   pub turn_is : IsTurn turn log old new
 
 -- the operator took a step through the door in its turn
@@ -75,6 +82,7 @@ pub record HasOperated (turn : Turn) (step : OperatorStep) (old new : Table) : T
   pub log : Logged
   pub operates : Operates (length old.door.centres) step (acting (shown_of (begun turn.actor old.door.centres)) (log_in turn (log_at old.logs.items turn.actor))) (acting (shown_of new.door) log)
   pub stubs : new.stubs ≡ old.stubs
+  pub posts : HasPosts (length old.door.centres) (operator_does step) operates.deeds old.posts new.posts
   pub turn_is : IsTurn turn log old new
 
 -- the turn of an actor outside of the script
@@ -87,4 +95,24 @@ pub record HasAskedOnce (actor centre : ℕ) (ask : Ask) (old new : Table) : Typ
   pub log : Logged
   pub leaves : Leaves (acting (shown_of (begun actor old.door.centres)) (log_in (outside actor) (log_at old.logs.items actor))) (acting (shown_of new.door) log) (Asked centre ask (Unheard say) ∷ [])
   pub stubs : new.stubs ≡ old.stubs
+  pub posts : new.posts ≡ old.posts
   pub turn_is : IsTurn (outside actor) log old new
+
+-- links on which this lies, whoever came how far
+abbrev pub stage_with : List Post → Stage
+stage_with posts = record { come = λ client. new_progress 0 client 0; posts = post_at posts }
+
+-- a worker made a round of a number over links, through a door: a log and what the door shows grow by deeds that are due,
+-- and the links are as they leave them
+pub record HasWorked (n number : ℕ) (does : Does) (old new : List Post) (a b : Acting) : Type 0 where
+  pub deeds : List Deed
+  pub such : DoesSo n (stage_with old) number does deeds
+  pub leaves : Leaves a b deeds
+  pub posts : HasPosts n does deeds old new
+
+-- a worker made a round in its turn
+pub record HasMadeRound (turn : Turn) (does : Does) (old new : Table) : Type 0 where
+  pub log : Logged
+  pub works : HasWorked (length old.door.centres) turn.step does old.posts new.posts (acting (shown_of (begun turn.actor old.door.centres)) (log_in turn (log_at old.logs.items turn.actor))) (acting (shown_of new.door) log)
+  pub stubs : new.stubs ≡ old.stubs
+  pub turn_is : IsTurn turn log old new

@@ -1,6 +1,9 @@
 -- The system on one thread: the centres, the clients, and the logs of all actors.
-use Rattle.std.specs.Prelude.{◌≡◌, ◌≤◌, ℕ, zero, suc, ◌+◌, ◌-◌, ◌*◌, Bool, length, map, List, ◌++◌, Option, Some, None, slice_get, slice_set, slice_index_or}
+use Rattle.std.specs.Prelude.{◌≡◌, ◌≤◌, ℕ, zero, suc, ◌+◌, ◌-◌, ◌*◌, Bool, length, map, List, ◌++◌, Option, Some, None, unwrap_or, slice_get, slice_set, slice_index_or}
+use Rattle.list_core.specs.Members.{In}
+use Rattle.std.specs.Option.{option_map}
 use Rattle.vv_core.specs.Vectors.{centres}
+use Rattle.tx_core.specs.declared.tx.Record.{Record}
 use Rattle.dc_talk.specs.declared.log.Deed.{Deed}
 use Rattle.dc_talk.specs.declared.log.Note.{Note}
 use Rattle.dc_talk.specs.Logs.{Logged, marked, entries_made}
@@ -8,20 +11,26 @@ use Rattle.dc_talk.specs.Rule.{client_after}
 use Rattle.dc_host.specs.Centres.{CentreTrail}
 use Rattle.dc_host.specs.KeptDoors.{trail_at}
 use Rattle.script_text.specs.declared.script.Script.{Script}
+use Rattle.script_text.specs.Steps.{IsCount}
 use Rattle.script_text.specs.Deeds.{Progress}
+use Rattle.script_text.specs.Mail.{Post, lying}
+use Rattle.dc_mail.specs.Posts.{post_at}
 use Rattle.client_stub.specs.Playing.{StubView}
 use Rattle.run_book.specs.Setups.{setup_of, settings_among}
 use Rattle.run_book.specs.Parts.{idle_log}
-use Rattle.run_book.specs.Happenings.{Happened, notes_by, trail_in, happening, AreTogether}
+use Rattle.run_book.specs.Moves.{Does}
+use Rattle.run_book.specs.Played.{Stage, new_progress, posts_after}
+use Rattle.run_book.specs.Happenings.{Happened, notes_by, trail_in, trails_in, happening, WasSent, AreTogether}
 
 -- what a world is seen as: the script that it plays; the settings and the trail of each centre; each client with the
--- fault that is armed for it; the logs of all actors, by their numbers; and whether the world is spent, so that it
--- plays no more
+-- fault that is armed for it; the logs of all actors, by their numbers; what lies on the links; and whether the world is
+-- spent, so that it plays no more
 pub record WorldView : Type 0 where
   pub script : Script
   pub centres : List CentreTrail
   pub stubs : List StubView
   pub logs : List Logged
+  pub posts : List Post
   pub spent : Bool
 
 -- the log of an actor, counted from 1, and one without notes where there is none
@@ -52,8 +61,12 @@ notes_in turn deeds = map (marked turn.section turn.step) deeds
 abbrev pub log_after : Turn → List Deed → Logged → Logged
 log_after turn deeds log = record log { section = turn.section; step = turn.step; notes = log.notes ++ notes_in turn deeds }
 
+-- each record that lies on a link between two of n centres was sent
+abbrev pub IsMailSent : ℕ → List Post → List Happened → Type 0
+IsMailSent n posts all = (from to : ℕ) → IsCount n from → IsCount n to → (item : Record) → In item (lying (post_at posts from to)) → WasSent (trails_in all) item
+
 -- the world is one in which this happened: the trails and the logs are what is left of it at each centre and of each
--- actor, and each client is as its log says
+-- actor, each client is as its log says, and what lies on the links was sent
 pub record IsWorld (w : WorldView) (all : List Happened) : Type 0 where
   pub settings : map (λ centre. centre.settings) w.centres ≡ map (settings_among w.script.n w.script.k (setup_of w.script)) (centres w.script.n)
   pub trails : (i : ℕ) → trail_at w.centres i ≡ trail_in i all
@@ -62,6 +75,7 @@ pub record IsWorld (w : WorldView) (all : List Happened) : Type 0 where
   pub log_count : length w.logs ≡ 1 + w.script.clients + 4 * w.script.n
   pub actors : (actor : ℕ) → 1 ≤ actor → actor ≤ length w.logs → (log_at w.logs actor).actor ≡ actor
   pub notes : (actor : ℕ) → (log_at w.logs actor).notes ≡ notes_by actor all
+  pub mail : IsMailSent w.script.n w.posts all
   pub together : AreTogether w.script.n w.script.k (setup_of w.script) all
 
 -- deeds of an actor in its turn: its log ends with them, and each trail with their entries; no other note, entry or
@@ -73,3 +87,14 @@ pub record Acts (turn : Turn) (deeds : List Deed) (old new : WorldView) : Type 0
   pub settings : map (λ centre. centre.settings) new.centres ≡ map (λ centre. centre.settings) old.centres
   pub trails : (i : ℕ) → trail_at new.centres i ≡ trail_at old.centres i ++ entries_made turn.actor i deeds
   pub goes_on : (all : List Happened) → IsWorld old all → IsWorld new (all ++ happening turn.actor (notes_in turn deeds))
+
+-- how far each client of a world is, and what lies on its links
+abbrev pub stage_of : WorldView → Stage
+stage_of w = record {
+  come = λ client. unwrap_or (option_map (progress_at w client) (stub_at w.stubs client)) (new_progress w.script.n client w.script.cache);
+  posts = post_at w.posts;
+}
+
+-- the links between n centres are as something that is done with these deeds leaves them
+abbrev pub HasPosts : ℕ → Does → List Deed → List Post → List Post → Type 0
+HasPosts n does deeds old new = (from to : ℕ) → IsCount n from → IsCount n to → post_at new from to ≡ posts_after does deeds (post_at old) from to

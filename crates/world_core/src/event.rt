@@ -15,6 +15,15 @@ pub enum Event {
         section: u32,
         step: u32,
     },
+    /// A worker of a centre makes its round of a number in a phase, whether or not earlier ones were made. Roles are 1 for
+    /// the sender, 2 for the receiver, 3 for the reporter and 4 for the pruner. Rounds are counted from 1 to those of the
+    /// script; the receiver has one more, its closing round.
+    Round {
+        section: u32,
+        round: u32,
+        centre: u8,
+        role: u8,
+    },
     /// The commit ask at a place of the client's log comes again, late, to a centre. Its answer is not heard.
     Again {
         client: u32,
@@ -36,7 +45,8 @@ pub enum Event {
 pub enum Played {
     /// It was played.
     Done,
-    /// What it names is not there: the client, the centre, the section, the step, the note, the entry or the index; a
-    /// note that is no commit ask and an entry that is no answer with records count as not there. Nothing changed.
+    /// What it names is not there: the client, the centre, the section, the step, the round, the role, the note, the entry
+    /// or the index; a section that is no phase for a round, a note that is no commit ask and an entry that is no answer
+    /// with records count as not there. Nothing changed.
     NoSuch,
 }

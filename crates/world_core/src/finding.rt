@@ -3,16 +3,18 @@ ghost use Rattle.std.specs.Prelude.{◌≡◌, ◌+◌, Some, None, IfSome, IfNo
 ghost use Rattle.std.specs.List.{filter_map};
 ghost use Rattle.std.specs.Option.{option_map, option_and_then};
 ghost use Rattle.dc_talk.specs.declared.ask.Ask.TheVariants.{Commit, Deliver};
-ghost use Rattle.run_book.specs.Scripted.{client_step, operator_step, client_steps, operator_steps};
+ghost use Rattle.run_book.specs.Moves.{client_step, operator_step, client_steps, operator_steps};
 ghost use Rattle.dc_host.specs.KeptDoors.{trail_at};
 ghost use Rattle.world_core.specs.Worlds.{log_at};
-ghost use Rattle.world_core.specs.Events.{numbered, step_named, commit_of, commit_named, records_of, record_named, if_centre};
+ghost use Rattle.world_core.specs.Works.{work_of};
+ghost use Rattle.world_core.specs.Events.{numbered, step_named, role_of, work_in, work_named, commit_of, commit_named, records_of, record_named, if_centre};
 
+use crate::works::Work;
 use crate::world::World;
 use dc_talk::{Ask, Deed, Log, Note, Say};
 use hist_lock::Entry;
 use ids_core::NoMemory;
-use script_text::{ClientStep, OperatorStep, Script, Section, Step};
+use script_text::{ClientStep, OperatorStep, Role, Script, Section, Step};
 
 // What a client does in a step, where the step is the client's.
 fn client_step(step: &Step, client: u32) -> Option<ClientStep>
@@ -106,6 +108,54 @@ pub(crate) fn operator_step_named(
     match section_named(script, section) {
         Some(found) => operator_step_in(found.steps.as_slice(), number),
         None => None,
+    }
+}
+
+// The role of a number.
+fn role_of(number: u8) -> Option<Role>
+    ensures { result ≡ role_of number }
+{
+    match number {
+        1 => Some(Role::Sender),
+        2 => Some(Role::Receiver),
+        3 => Some(Role::Reporter),
+        4 => Some(Role::Pruner),
+        _ => None,
+    }
+}
+
+// What the worker of a centre with a role does in a round of a phase.
+fn work_in(script: &Script, round: u32, centre: u8, role: u8) -> Option<Work>
+    ensures { option_map (work_of centre) result ≡ work_in script.now round centre role }
+{
+    if centre == 0 || centre > script.n {
+        return None;
+    }
+    if round >= 1 && round <= script.rounds {
+        return match role_of(role) {
+            Some(role) => Some(Work::Round(role)),
+            None => None,
+        };
+    }
+    if round > script.rounds && round - script.rounds == 1 && role == 2 {
+        return Some(Work::Close);
+    }
+    None
+}
+
+/// What the worker of a centre with a role does in a round of a section of a script.
+pub(crate) fn work_named(
+    script: &Script,
+    section: u32,
+    round: u32,
+    centre: u8,
+    role: u8,
+) -> Option<Work>
+    ensures { option_map (work_of centre) result ≡ work_named script.now section round centre role }
+{
+    match section_named(script, section) {
+        Some(found) if found.phase => work_in(script, round, centre, role),
+        _ => None,
     }
 }
 

@@ -3,7 +3,7 @@ ghost use Rattle.std.specs.Prelude.{◌≡◌, true, false, IfOk, OnErr, IsErr};
 ghost use Rattle.world_core.specs.Events.{Plays};
 
 use crate::event::{Event, Played};
-use crate::finding::{client_step_named, operator_step_named};
+use crate::finding::{client_step_named, operator_step_named, work_named};
 use crate::world::World;
 use ids_core::NoMemory;
 use std::alloc::Global;
@@ -41,6 +41,29 @@ impl<'a> World<'a> {
         match operator_step_named(self.script, section, step) {
             Some(does) => {
                 self.order(section, step, &does)?;
+                Ok(Played::Done)
+            }
+            None => Ok(Played::NoSuch),
+        }
+    }
+
+    // A worker of a centre makes its round of a number in a section.
+    fn play_round(
+        &mut self,
+        alloc: Global,
+        section: u32,
+        round: u32,
+        centre: u8,
+        role: u8,
+    ) -> Result<Played, NoMemory>
+        requires { self.old.spent ≡ false }
+        ensures plays { IfOk result (Plays (Event.Round section round centre role) self.old self.new) }
+        ensures script { self.new.script ≡ self.old.script }
+        ensures spent { OnErr result (self.new.spent ≡ true) }
+    {
+        match work_named(self.script, section, round, centre, role) {
+            Some(does) => {
+                self.work(alloc, section, round, centre, does)?;
                 Ok(Played::Done)
             }
             None => Ok(Played::NoSuch),
@@ -105,6 +128,12 @@ impl<'a> World<'a> {
                 step,
             } => self.play_client(alloc, client, section, step),
             Event::Operator { section, step } => self.play_operator(section, step),
+            Event::Round {
+                section,
+                round,
+                centre,
+                role,
+            } => self.play_round(alloc, section, round, centre, role),
             Event::Again {
                 client,
                 note,

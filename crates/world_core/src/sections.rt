@@ -1,11 +1,12 @@
-// A script, played step by step.
-ghost use Rattle.std.specs.Prelude.{◌≡◌, false, IfOk, OnOk};
-ghost use Rattle.script_text.specs.Rows.{IsLine};
-ghost use Rattle.script_text.specs.Scripts.{header_of};
+// A script, played section by section.
+ghost use Rattle.std.specs.Prelude.{◌≡◌, false, [], ◌∷◌, IfOk, OnOk};
+ghost use Rattle.script_text.specs.Rows.{IsLine, IsSection};
+ghost use Rattle.script_text.specs.Scripts.{header_of, IsInRange};
 ghost use Rattle.script_text.specs.Steps.{IsStepOf};
-ghost use Rattle.world_core.specs.Events.{TakesOne, PlaysLine};
-ghost use Rattle.world_core.specs.Runs.{IsInRange, HasPlayed, IsRunOf};
+ghost use Rattle.run_book.specs.Moves.{step_move, section_moves, moves_of};
+ghost use Rattle.world_core.specs.Runs.{MakesMoves, HasPlayed, IsRunOf};
 
+use crate::phases::play_phase;
 use crate::world::World;
 use ids_core::NoMemory;
 use run_book::Book;
@@ -16,8 +17,7 @@ use std::alloc::Global;
 fn take_one(alloc: Global, world: &mut World<'_>, number: u32, step: &Step) -> Result<(), NoMemory>
     requires fresh { world.old.spent ≡ false }
     requires step { IsStepOf (header_of world.old.script) step.now }
-    ensures takes { OnOk result (TakesOne number step.now world.old world.new) }
-    ensures script { world.new.script ≡ world.old.script }
+    ensures { OnOk result (MakesMoves (step_move number step.now ∷ []) world.old world.new) }
 {
     match step {
         Step::Client { client, step } => world.take(alloc, *client, number, 1, step),
@@ -34,8 +34,7 @@ fn play_line(
 ) -> Result<(), NoMemory>
     requires fresh { world.old.spent ≡ false }
     requires line { IsLine (header_of world.old.script) section.now }
-    ensures plays { OnOk result (PlaysLine number section.now world.old world.new) }
-    ensures script { world.new.script ≡ world.old.script }
+    ensures { OnOk result (MakesMoves (section_moves world.old.script number section.now) world.old world.new) }
 {
     match section.steps.as_slice() {
         [step] => take_one(alloc, world, number, step),
@@ -43,24 +42,45 @@ fn play_line(
     }
 }
 
+// Plays a section, as the section of a number.
+fn play_section(
+    alloc: Global,
+    world: &mut World<'_>,
+    number: u32,
+    section: &Section,
+) -> Result<(), NoMemory>
+    requires fresh { world.old.spent ≡ false }
+    requires range { IsInRange world.old.script }
+    requires section { IsSection (header_of world.old.script) section.now }
+    ensures { OnOk result (MakesMoves (section_moves world.old.script number section.now) world.old world.new) }
+{
+    if section.phase {
+        play_phase(alloc, world, number, section)
+    } else {
+        play_line(alloc, world, number, section)
+    }
+}
+
 // The world of a script after all its sections, one after another.
 fn play_all<'a>(alloc: Global, script: &'a Script) -> Result<World<'a>, NoMemory>
     requires { IsInRange script.now }
     ensures script { IfOk result (λ world. world.script ≡ script.now) }
-    ensures played { IfOk result (HasPlayed script.now.sections) }
+    ensures played { IfOk result (HasPlayed (moves_of script.now)) }
 {
     let mut world = World::new(alloc, script)?;
     let mut number = 0;
     let sections = script.sections.as_slice();
     'sections: for section in sections {
         number += 1;
-        play_line(alloc, &mut world, number, section)?;
+        play_section(alloc, &mut world, number, section)?;
     }
     Ok(world)
 }
 
-/// Plays a script whose numbers are in range, each section as its one step, in order: its run. An `Err` is want of
-/// memory.
+/// Plays a script whose numbers are in range, section by section, and a phase by turns: its run. In turn t each client
+/// that has a t-th step in the phase takes it, in ascending order, then the operator, and then each centre's sender,
+/// receiver, reporter and pruner make their round t, centre by centre; behind the last round the receivers make their
+/// closing round. An `Err` is want of memory.
 pub fn serial(alloc: Global, script: &Script) -> Result<Book, NoMemory>
     requires { IsInRange script.now }
     ensures { IfOk result (IsRunOf script.now) }

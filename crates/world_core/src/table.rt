@@ -4,23 +4,28 @@ ghost use Rattle.ids_core.specs.declared.limits.TheConstants.{MOST_CENTRES, MOST
 ghost use Rattle.script_text.specs.Steps.{IsStep, IsOperatorStep};
 ghost use Rattle.client_stub.specs.Playing.{StubView, IsLinkBehind};
 ghost use Rattle.dc_host.specs.KeptDoors.{shown_of};
-ghost use Rattle.world_core.specs.Runs.{IsInRange};
-ghost use Rattle.world_core.specs.Tables.{new_stubs, new_logs, IsNew, HasStepped, HasOperated, HasAskedOnce};
+ghost use Rattle.script_text.specs.Scripts.{IsInRange};
+ghost use Rattle.world_core.specs.Tables.{new_stubs, new_logs, IsNew, HasStepped, HasOperated, HasMadeRound, HasAskedOnce};
+ghost use Rattle.world_core.specs.Works.{work_of};
+ghost use Rattle.run_book.specs.Moves.{actor_of};
 
+use crate::works::{Work, make_round};
 use client_session::Session;
 use client_stub::{Stub, operate};
 use dc_host::{KeptDoor, centres_of};
+use dc_mail::Posts;
 use dc_talk::{Ask, Deed, Door, Fate, Log};
 use ids_core::NoMemory;
 use script_text::{ClientStep, OperatorStep, Script};
 use std::alloc::Global;
 
-/// The centres behind their door, the clients in order, and the logs of all actors.
+/// The centres behind their door, the clients in order, the logs of all actors, and what lies on the links.
 #[derive(Drop)]
 pub(crate) struct Table {
     pub(crate) door: KeptDoor,
     pub(crate) stubs: Vec<Stub>,
     pub(crate) logs: Vec<Log>,
+    pub(crate) posts: Posts,
 }
 
 // So many clients among `n` centres at first, each with a cache for so many entries.
@@ -63,6 +68,7 @@ impl Table {
             door: KeptDoor::new(centres, 1),
             stubs,
             logs,
+            posts: Posts::new(alloc)?,
         })
     }
 
@@ -102,6 +108,7 @@ impl Table {
         step: &OperatorStep,
     ) -> Result<(), NoMemory>
         requires centres { n ≡ length self.old.door.centres }
+        requires few { n ≤ MOST_CENTRES }
         requires log { 1 ≤ length self.old.logs.items }
         requires fits { IsOperatorStep n step.now }
         ensures { OnOk result (HasOperated (record { actor = 1; section = section; step = number }) step.now self.old self.new) }
@@ -110,6 +117,46 @@ impl Table {
         let log = &mut self.logs[0];
         log.set(section, number);
         operate(&mut self.door, n, step, log)?;
+        if let OperatorStep::Link { from, to, fault } = step {
+            self.posts.set(*from, *to, *fault);
+        }
+        self.door.histories();
+        Ok(())
+    }
+
+    /// Has a worker of a centre among `n` do its work, with so many clients, in the round of a number of a section. After
+    /// want of memory a part of it may be done.
+    pub(crate) fn work(
+        &mut self,
+        alloc: Global,
+        n: u8,
+        clients: u32,
+        section: u32,
+        number: u32,
+        centre: u8,
+        does: Work,
+    ) -> Result<(), NoMemory>
+        requires centres { n ≡ length self.old.door.centres }
+        requires few { n ≤ MOST_CENTRES }
+        requires clients { clients ≤ MOST_CLIENTS }
+        requires centre { (1 ≤ centre) × (centre ≤ n) }
+        requires logs { length self.old.logs.items ≡ 1 + clients + 4 * n }
+        ensures { OnOk result (HasMadeRound (record { actor = actor_of clients (work_of centre does); section = section; step = number }) (work_of centre does) self.old self.new) }
+    {
+        let actor = does.actor(clients, centre);
+        self.door.set(actor);
+        let log = &mut self.logs[(actor - 1) as usize];
+        log.set(section, number);
+        make_round(
+            alloc,
+            &mut self.posts,
+            &mut self.door,
+            n,
+            number,
+            centre,
+            does,
+            log,
+        )?;
         self.door.histories();
         Ok(())
     }

@@ -4,10 +4,14 @@ ghost use Rattle.dc_host.specs.Centres.{all_seen};
 ghost use Rattle.script_text.specs.Steps.{IsStep, IsOperatorStep};
 ghost use Rattle.world_core.specs.Worlds.{IsWorld};
 ghost use Rattle.world_core.specs.Tables.{new_stubs};
-ghost use Rattle.world_core.specs.Events.{TakesStep, TakesOrder, AsksOnce, MayAsk};
-ghost use Rattle.world_core.specs.Runs.{IsInRange, IsWorldBook};
+ghost use Rattle.script_text.specs.Scripts.{IsInRange};
+ghost use Rattle.dc_mail.specs.Posts.{new_posts};
+ghost use Rattle.world_core.specs.Works.{work_of};
+ghost use Rattle.world_core.specs.Events.{TakesStep, TakesOrder, TakesRound, AsksOnce, MayAsk, turn_of};
+ghost use Rattle.world_core.specs.Runs.{IsWorldBook};
 
 use crate::table::Table;
+use crate::works::Work;
 use dc_centre::Centre;
 use dc_talk::Ask;
 use hist_lock::Kept;
@@ -17,8 +21,8 @@ use script_text::{ClientStep, OperatorStep, Script};
 use std::alloc::Global;
 use std::marker::Model;
 
-/// The system that a script sets up, on one thread: its centres with their trails, its clients, and the logs of all
-/// actors. Contracts see what happened in it by these, and whether the world is spent: it is after want of memory in an
+/// The system that a script sets up, on one thread: its centres with their trails, its clients, the logs of all
+/// actors, and what lies on the links between the centres. Contracts see what happened in it by these, and whether the world is spent: it is after want of memory in an
 /// event, which may have left a part of it, and then it plays no more and gives no book.
 #[derive(Drop)]
 pub struct World<'a> {
@@ -61,6 +65,7 @@ impl<'a> World<'a> {
         ensures script { IfOk result (λ world. world.script ≡ script.now) }
         ensures fresh { IfOk result (λ world. world.spent ≡ false) }
         ensures empty { IfOk result (λ world. IsWorld world []) }
+        ensures posts { IfOk result (λ world. world.posts ≡ new_posts) }
         ensures stubs { IfOk result (λ world. world.stubs ≡ new_stubs script.now.n script.now.cache script.now.clients) }
     {
         let table = Table::new(alloc, script)?;
@@ -108,6 +113,37 @@ impl<'a> World<'a> {
     {
         self.spent = true;
         self.table.order(self.script.n, section, number, step)?;
+        self.spent = false;
+        Ok(())
+    }
+
+    /// Has a worker of a centre do its work in the round of a number of a section. After an `Err`, want of memory, the
+    /// world is spent.
+    pub(crate) fn work(
+        &mut self,
+        alloc: Global,
+        section: u32,
+        number: u32,
+        centre: u8,
+        does: Work,
+    ) -> Result<(), NoMemory>
+        requires fresh { self.old.spent ≡ false }
+        requires centre { (1 ≤ centre) × (centre ≤ self.old.script.n) }
+        ensures works { OnOk result (TakesRound (turn_of self.old.script section number (work_of centre does)) (work_of centre does) self.old self.new) }
+        ensures script { self.new.script ≡ self.old.script }
+        ensures spent { OnErr result (self.new.spent ≡ true) }
+    {
+        self.spent = true;
+        let script = self.script;
+        self.table.work(
+            alloc,
+            script.n,
+            script.clients,
+            section,
+            number,
+            centre,
+            does,
+        )?;
         self.spent = false;
         Ok(())
     }
