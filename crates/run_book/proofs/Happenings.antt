@@ -12,3 +12,5 @@ pub mod Carrying
 pub mod OperatorSteps
 pub mod Again
 pub mod Trimming
+pub mod WorkerRounds
+pub mod Posts

@@ -3,3 +3,4 @@ pub mod CountedLines
 pub mod Cuts
 pub mod Provenance
 mod LinkExamples
+pub mod Arriving

@@ -6,9 +6,10 @@ use Rattle.std.specs.Option.{option_map}
 use Rattle.std.proofs.lemmas.List.Elements.{filter_map-append, All-head, All-tail}
 use Rattle.std.proofs.Math.Seq.{take-append_seam}
 use Rattle.list_core.specs.Members.{In}
-use Rattle.list_core.proofs.Members.{In_left, In_right, In_more, In_from_map}
+use Rattle.list_core.proofs.Members.{In_left, In_right, In_more, In_map, In_from_map}
 use Rattle.list_core.proofs.Moments.{each_take}
 use Rattle.list_core.proofs.Passing.{In_filter_map, In_from_filter_map}
+use Rattle.tx_core.specs.declared.tx.Record.{Record}
 use Rattle.dc_talk.specs.declared.ask.Ask.{Ask}
 use Rattle.dc_talk.specs.declared.ask.Ask.TheVariants.{Hello, Refresh, Fetch, Commit, Send, Deliver, Report, Learn, Prune, Stop, Start}
 use Rattle.dc_talk.specs.declared.say.Say.{Say}
@@ -17,12 +18,12 @@ use Rattle.dc_talk.specs.declared.log.Deed.{Deed}
 use Rattle.dc_talk.specs.declared.log.Deed.TheVariants.{Did, Asked, Told}
 use Rattle.dc_talk.specs.declared.log.Note.{Note}
 use Rattle.dc_talk.specs.Entries.{Entry}
-use Rattle.dc_talk.specs.Logs.{exchanged_in, entry_for}
+use Rattle.dc_talk.specs.Logs.{marked, exchanged_in, entry_for}
 use Rattle.dc_talk.specs.Answers.{answer, History}
-use Rattle.script_text.specs.Provenance.{HasAnswer as HasBrought, Carries, CarriesAll}
+use Rattle.script_text.specs.Provenance.{HasAnswer as HasBrought, WasSent as WasBrought, Carries, CarriesAll}
 use Rattle.run_book.specs.Setups.{Setup, settings_among}
-use Rattle.run_book.specs.Happenings.{Happened, note_by, notes_by, entry_in, trail_in, trails_in, happening, GoesToOneOf, HasAnswer, CarrierAllows, trails_after, CarrierDoes, IsCarrier, Happens, AreHistories, AreTogether}
-use Rattle.run_book.proofs.Happenings.Entries.{note_made, trail_more}
+use Rattle.run_book.specs.Happenings.{Happened, note_by, notes_by, entry_in, trail_in, trails_in, happening, GoesToOneOf, HasAnswer, WasSent, CarrierAllows, trails_after, CarrierDoes, IsCarrier, Happens, AreHistories, AreTogether}
+use Rattle.run_book.proofs.Happenings.Entries.{note_made, trail_more, deeds_marked}
 use Rattle.run_book.proofs.Happenings.More.{allows_as, together_more, carrier_then}
 use Rattle.run_book.proofs.Happenings.Sending.{sent_before}
 
@@ -45,6 +46,13 @@ noted_done a all deed there =
     let from = In_from_filter_map (note_by a) all note.0 note.1 in
     record { it = from.0; there = from.1; is = ap (λ (note : Note). note.deed) (note_made a from.0 note.0 from.2).1 ∙ sym note.2 }
 
+-- those that it noted last at a section and step
+pub last_done : (all : List Happened) (actor section step : ℕ) (deeds : List Deed) → AreDone deeds (all ++ happening actor (map (marked section step) deeds))
+last_done all actor section step deeds deed there =
+    let one : Happened = record { actor = actor; note = marked section step deed } in
+    let mine : List Note = map (marked section step) deeds in
+    record { it = one; there = In_right all (happening actor mine) one (In_map (λ (note : Note). record { actor = actor; note = note }) mine (marked section step deed) (In_map (marked section step) deeds deed there)); is = refl }
+
 -- and so with one deed more
 done_more : (before : List Deed) (all : List Happened) (one : Happened) → AreDone before all → AreDone (before ++ one.note.deed ∷ []) (all ++ one ∷ [])
 done_more before all one done deed there = ⊎_elim
@@ -62,9 +70,13 @@ brought_there before all i ask say done has =
 
 -- ---- what a carrier may do
 
+-- a record that deeds that happened brought was sent by its origin
+pub sent_there : (n k : ℕ) (setup : Setup) (all : List Happened) → AreTogether n k setup all → (before : List Deed) → AreDone before all → (item : Record) → WasBrought before item → WasSent (trails_in all) item
+sent_there n k setup all t before done item is = sent_before n k setup all t is.centre is.list item (brought_there before all is.centre (Send is.after is.most) (Records is.list) done is.answer) is.among
+
 -- what carries no more than deeds that happened brought, a carrier may do
 pub carries_allowed : (n k : ℕ) (setup : Setup) (all : List Happened) → AreTogether n k setup all → (before : List Deed) → AreDone before all → (deed : Deed) → Carries before deed → CarrierAllows (trails_in all) deed
-carries_allowed n k setup all t before done (Asked i (Deliver item) fate) is = sent_before n k setup all t is.centre is.list item (brought_there before all is.centre (Send is.after is.most) (Records is.list) done is.answer) is.among
+carries_allowed n k setup all t before done (Asked i (Deliver item) fate) is = sent_there n k setup all t before done item is
 carries_allowed n k setup all t before done (Asked i (Learn from news) fate) is = brought_there before all from Report (Vector news) done is
 carries_allowed n k setup all t before done (Asked i (Send after most) fate) is = tt
 carries_allowed n k setup all t before done (Asked i Report fate) is = tt
@@ -108,3 +120,9 @@ module _ (n k : ℕ) (setup : Setup) (actor : ℕ) (carrier : IsCarrier n setup.
   -- so it happened together with the rest
   pub carries_then : (all : List Happened) (before : List Deed) (notes : List Note) → AreTogether n k setup all → AreDone before all → AreHistories n k setup (all ++ happening actor notes) → All (GoesToOneOf n) (map (λ (note : Note). note.deed) notes) → CarriesAll before (map (λ (note : Note). note.deed) notes) → AreTogether n k setup (all ++ happening actor notes)
   carries_then all before notes t done histories reach carries = carrier_then n k setup actor all notes carrier t histories reach (carries_does all before notes t done histories reach carries)
+
+  -- deeds that carry what they brought themselves, and that it noted at a section and step, it does so
+  pub deeds_do : (all : List Happened) (section step : ℕ) (deeds : List Deed) → AreTogether n k setup all → AreHistories n k setup (all ++ happening actor (map (marked section step) deeds)) → All (GoesToOneOf n) deeds → CarriesAll [] deeds → CarrierDoes actor (trails_in all) (map (marked section step) deeds)
+  deeds_do all section step deeds t histories reach carries =
+      let back = sym (deeds_marked section step deeds) in
+      carries_does all [] (map (marked section step) deeds) t (λ deed there. absurd there) histories (subst (All (GoesToOneOf n)) back reach) (subst (CarriesAll []) back carries)

@@ -1,6 +1,6 @@
 -- The asks of the operator's steps go to centres that there are, and a carrier may ask them.
 use Rattle.std.proofs.Common.{◌≡◌, ℕ, inl, inr, Bool, true, false, ◌==◌, List, [], ◌∷◌, ◌++◌, map, Option, None, Some, refl, sym, subst, arith}
-use Rattle.std.specs.Prelude.{All, MatchBool, filter, not}
+use Rattle.std.specs.Prelude.{MatchBool, filter, not}
 use Rattle.std.proofs.lemmas.List.Elements.{All-nil, All-append}
 use Rattle.list_core.specs.Members.{In}
 use Rattle.list_core.proofs.Members.{In_from_map, In_from_flat_map, In_from_filter}
@@ -27,10 +27,9 @@ use Rattle.script_text.specs.Provenance.{CarriesAll}
 use Rattle.script_text.proofs.Provenance.{carries_both, sends_carry, ships_carry, tells_carry, settles_carry}
 use Rattle.run_book.specs.Setups.{Setup}
 use Rattle.run_book.specs.Happenings.{Happened, trails_in, happening, GoesToOneOf, CarrierDoes, AreHistories, AreTogether}
-use Rattle.run_book.proofs.Happenings.Entries.{deeds_marked}
 use Rattle.run_book.proofs.Happenings.More.{operator_carries}
 use Rattle.run_book.proofs.Happenings.Reach.{AllGo, one_go, told_go}
-use Rattle.run_book.proofs.Happenings.Carrying.{carries_does}
+use Rattle.run_book.proofs.Happenings.Carrying.{deeds_do}
 
 -- ---- which centres are asked
 
@@ -40,11 +39,11 @@ module _ (n : ℕ) where
   IsWithin r = IsCount n r.from × IsCount n r.to
 
   -- no deeds
-  none_go : (deeds : List Deed) → deeds ≡ [] → AllGo n deeds
+  pub none_go : (deeds : List Deed) → deeds ≡ [] → AllGo n deeds
   none_go deeds none = subst (AllGo n) (sym none) (All-nil (GoesToOneOf n))
 
   -- an ask, and what follows it
-  ask_go : (i : ℕ) (ask : Ask) (say : Say) (later deeds : List Deed) → IsCount n i → deeds ≡ Asked i ask (Unheard say) ∷ later → AllGo n later → AllGo n deeds
+  pub ask_go : (i : ℕ) (ask : Ask) (say : Say) (later deeds : List Deed) → IsCount n i → deeds ≡ Asked i ask (Unheard say) ∷ later → AllGo n later → AllGo n deeds
   ask_go i ask say later deeds range whole rest = subst (AllGo n) (sym whole) (one_go n (Asked i ask (Unheard say)) later range rest)
 
   -- asks, and a line
@@ -81,11 +80,11 @@ module _ (n : ℕ) where
   after_told_go r (Vector vector) deeds line within is = ask_go r.to (Learn r.from vector) is.0 [] deeds within.1 is.1 (All-nil (GoesToOneOf n))
   after_told_go r say deeds line within is = none_go deeds is.0
 
-  tells_go : (r : Route) (deeds : List Deed) (line : Option Line) → IsWithin r → Tells r deeds line → AllGo n deeds
+  pub tells_go : (r : Route) (deeds : List Deed) (line : Option Line) → IsWithin r → Tells r deeds line → AllGo n deeds
   tells_go r deeds line within is = ask_go r.from Report is.say is.later deeds within.0 is.whole (after_told_go r is.say is.later line within is.follows)
 
   -- the deeds of each in turn
-  turns_go : {X : Type 0} (Does : X → List Deed → Type 0) (xs : List X) (deeds : List Deed) → ((x : X) (deeds : List Deed) → In x xs → Does x deeds → AllGo n deeds) → InTurn Does xs deeds → AllGo n deeds
+  pub turns_go : {X : Type 0} (Does : X → List Deed → Type 0) (xs : List X) (deeds : List Deed) → ((x : X) (deeds : List Deed) → In x xs → Does x deeds → AllGo n deeds) → InTurn Does xs deeds → AllGo n deeds
   turns_go Does [] deeds each no_turn = All-nil (GoesToOneOf n)
   turns_go Does (x ∷ xs) deeds each (next_turn first later whole does rest) = subst (AllGo n) (sym whole) (All-append (GoesToOneOf n) first later (each x first (inl refl) does) (turns_go Does xs later (λ y ds there. each y ds (inr there)) rest))
 
@@ -141,8 +140,4 @@ order_carries n Settle deeds are = settles_carry n deeds are
 
 -- so the operator does it as a carrier, where the trails with it are histories
 pub order_does : (n k : ℕ) (setup : Setup) (all : List Happened) (step : OperatorStep) (section place : ℕ) (deeds : List Deed) → AreTogether n k setup all → AreHistories n k setup (all ++ happening 1 (map (marked section place) deeds)) → IsOperatorStep n step → OperatorDeeds n step deeds → CarrierDoes 1 (trails_in all) (map (marked section place) deeds)
-order_does n k setup all step section place deeds t histories is are =
-    let back = sym (deeds_marked section place deeds) in
-    carries_does n k setup 1 (operator_carries n setup.clients) all [] (map (marked section place) deeds) t (λ deed there. absurd there) histories
-    (subst (All (GoesToOneOf n)) back (order_go n step deeds is are))
-    (subst (CarriesAll []) back (order_carries n step deeds are))
+order_does n k setup all step section place deeds t histories is are = deeds_do n k setup 1 (operator_carries n setup.clients) all section place deeds t histories (order_go n step deeds is are) (order_carries n step deeds are)

@@ -3,6 +3,7 @@ use Rattle.std.proofs.Common.{◌≡◌, ℕ, List, [], ◌∷◌, ◌++◌, tak
 use Rattle.std.specs.Prelude.{◌==◌, fold}
 use Rattle.std.proofs.lemmas.Bool.{eqb-true}
 use Rattle.std.proofs.lemmas.List.{append-nil}
+use Rattle.std.proofs.lemmas.List.Elements.{filter_map-append}
 use Rattle.list_core.specs.Members.{In}
 use Rattle.list_core.proofs.Members.{In_left, In_from_filter}
 use Rattle.tx_core.specs.declared.tx.Record.{Record}
@@ -18,7 +19,7 @@ use Rattle.dc_talk.specs.Clients.{Client}
 use Rattle.dc_talk.specs.Rule.{Allows, after}
 use Rattle.dc_talk.proofs.PeerAnswers.{sent_by}
 use Rattle.run_book.specs.Setups.{Setup, settings_among}
-use Rattle.run_book.specs.Happenings.{Happened, trail_in, trails_in, HasAnswer, WasSent, CarrierAllows, ClientDoes, trails_after, CarrierDoes, AreTogether}
+use Rattle.run_book.specs.Happenings.{Happened, entry_in, trail_in, trails_in, HasAnswer, WasSent, CarrierAllows, ClientDoes, trails_after, CarrierDoes, AreTogether}
 use Rattle.run_book.proofs.Happenings.Places.{answer_there}
 
 -- ---- trails that grow
@@ -30,6 +31,12 @@ answer_still trail more say has = record { entry = has.entry; there = In_left tr
 -- what was sent was sent after one more deed
 pub sent_still : (actor : ℕ) (deed : Deed) (item : Record) (trails : ℕ → List Entry) → WasSent trails item → WasSent (trails_after actor deed trails) item
 sent_still actor deed item trails was = record { list = was.list; answer = answer_still (trails item.stamp.centre) (entries_made actor item.stamp.centre (deed ∷ [])) (Records was.list) was.answer; has = was.has }
+
+-- and after whatever happened later
+pub sent_later : (all more : List Happened) (item : Record) → WasSent (trails_in all) item → WasSent (trails_in (all ++ more)) item
+sent_later all more item was =
+    let i : ℕ = item.stamp.centre in
+    record { list = was.list; answer = subst (λ es. HasAnswer es (Records was.list)) (sym (filter_map-append (entry_in i) all more)) (answer_still (trail_in i all) (trail_in i more) (Records was.list) was.answer); has = was.has }
 
 -- a record of an answer with records was sent by its origin, which is the centre that answered
 pub sent_before : (n k : ℕ) (setup : Setup) (all : List Happened) → AreTogether n k setup all → (from : ℕ) (list : List Record) (item : Record) → HasAnswer (trail_in from all) (Records list) → In item list → WasSent (trails_in all) item

@@ -1,6 +1,8 @@
--- One move more, of a client or of the operator, behind what happened before it.
+-- One move more, of a client, the operator or a worker, behind what happened before it.
 use Rattle.std.proofs.Common.{◌≡◌, ℕ, ◌+◌, ◌≤◌, List, [], ◌∷◌, ◌++◌, map, sym, ap, ◌∙◌, subst}
 use Rattle.std.specs.Prelude.{All}
+use Rattle.list_core.specs.Members.{In}
+use Rattle.tx_core.specs.declared.tx.Record.{Record}
 use Rattle.dc_talk.specs.declared.log.Deed.{Deed}
 use Rattle.dc_talk.specs.declared.log.Note.{Note}
 use Rattle.dc_talk.specs.Logs.{marked, entries_made}
@@ -9,17 +11,26 @@ use Rattle.dc_talk.specs.Rule.{client_after}
 use Rattle.script_text.specs.declared.script.Script.{Script}
 use Rattle.script_text.specs.declared.steps.ClientStep.{ClientStep}
 use Rattle.script_text.specs.declared.steps.OperatorStep.{OperatorStep}
-use Rattle.script_text.specs.Steps.{IsStep, IsOperatorStep}
+use Rattle.script_text.specs.declared.rounds.Role.{Role}
+use Rattle.script_text.specs.declared.rounds.Role.TheVariants.{Sender, Receiver, Reporter, Pruner}
+use Rattle.script_text.specs.Steps.{IsCount, IsStep, IsOperatorStep}
+use Rattle.script_text.specs.Mail.{due_in_round, due_at_close}
+use Rattle.script_text.specs.Rounds.{worker_of, mailed}
+use Rattle.script_text.specs.Provenance.{CarriesAll, WasSent as WasBrought}
 use Rattle.script_text.specs.Deeds.{StepDeeds}
 use Rattle.script_text.specs.Orders.{OperatorDeeds}
+use Rattle.script_text.proofs.Arriving.{due_lies, close_lies}
 use Rattle.run_book.specs.Setups.{setup_of}
-use Rattle.run_book.specs.Happenings.{Happened, notes_by, trail_in, happening, GoesToOneOf, IsLinkWithin, ClientDoes, AreHistories, AreTogether}
-use Rattle.run_book.specs.Moves.{Does, client_does, operator_does, Move, move, actor_of}
-use Rattle.run_book.specs.Played.{Stage, DoesSo, stage_after, HavePlayed}
+use Rattle.run_book.specs.Happenings.{Happened, notes_by, trail_in, trails_in, happening, GoesToOneOf, IsLinkWithin, ClientDoes, CarrierDoes, IsCarrier, AreHistories, AreTogether}
+use Rattle.run_book.specs.Moves.{Does, client_does, operator_does, worker_does, closes, Move, move, actor_of}
+use Rattle.run_book.specs.Played.{Stage, DoesSo, posts_after, stage_after, HavePlayed}
 use Rattle.run_book.proofs.Happenings.Entries.{trail_then, deeds_marked}
 use Rattle.run_book.proofs.Happenings.More.{client_then, carrier_then, operator_carries}
 use Rattle.run_book.proofs.Happenings.Reach.{step_go, link_within}
 use Rattle.run_book.proofs.Happenings.OperatorSteps.{order_go, order_does}
+use Rattle.run_book.proofs.Happenings.Carrying.{deeds_do}
+use Rattle.run_book.proofs.Happenings.WorkerRounds.{worker_carries, sender_go, receiver_go, reporter_go, pruner_go, receiver_does}
+use Rattle.run_book.proofs.Happenings.Posts.{AreSent, posts_sent}
 use Rattle.run_book.proofs.Happenings.Playing.{all_at, played_more}
 
 -- the trail of a centre after deeds of an actor that it noted at a section and step
@@ -53,12 +64,49 @@ module _ (script : Script) (moves : List Move) (all : List Happened) (stage : St
         played = move_played (client_does client does) deeds are;
       }
 
+  -- a carrier made its move
+  carrier_takes : (does : Does) (deeds : List Deed) → IsCarrier script.n script.clients (actor_of script.clients does) → DoesSo script.n stage step does deeds → All (GoesToOneOf script.n) deeds → CarrierDoes (actor_of script.clients does) (trails_in all) (map (marked section step) deeds) → AreHistories script.n script.k (setup_of script) (happened_then does deeds) → IsMade does deeds
+  carrier_takes does deeds carrier are go allowed histories = record {
+    together = carrier_then script.n script.k (setup_of script) (actor_of script.clients does) all (map (marked section step) deeds) carrier t histories (subst (All (GoesToOneOf script.n)) (sym (deeds_marked section step deeds)) go) allowed;
+    played = move_played does deeds are;
+  }
+
   -- the operator took its step
   pub operator_takes : (does : OperatorStep) (deeds : List Deed) → IsOperatorStep script.n does → OperatorDeeds script.n does deeds → AreHistories script.n script.k (setup_of script) (happened_then (operator_does does) deeds) → IsMade (operator_does does) deeds
   operator_takes does deeds is are histories =
-      let mine : List Note = map (marked section step) deeds in
-      let go : All (GoesToOneOf script.n) (map (λ (note : Note). note.deed) mine) = subst (All (GoesToOneOf script.n)) (sym (deeds_marked section step deeds)) (order_go script.n does deeds is are) in
-      record {
-        together = carrier_then script.n script.k (setup_of script) 1 all mine (operator_carries script.n script.clients) t histories go (order_does script.n script.k (setup_of script) all does section step deeds t histories is are);
-        played = move_played (operator_does does) deeds are;
-      }
+      carrier_takes (operator_does does) deeds (operator_carries script.n script.clients) are (order_go script.n does deeds is are)
+      (order_does script.n script.k (setup_of script) all does section step deeds t histories is are) histories
+
+  -- the deeds of a worker's round go to centres that there are
+  round_go : (i : ℕ) (role : Role) (deeds : List Deed) → IsCount script.n i → DoesSo script.n stage step (worker_does i role) deeds → All (GoesToOneOf script.n) deeds
+  round_go i Sender deeds range are = sender_go script.n i deeds range are
+  round_go i Receiver deeds range are = receiver_go script.n i (λ from. due_in_round (stage.posts from i)) deeds range are
+  round_go i Reporter deeds range are = reporter_go script.n i deeds range are
+  round_go i Pruner deeds range are = pruner_go script.n i step deeds range are
+
+  -- a sender, a reporter or a pruner made its round: what it carries it brought itself
+  pub worker_takes : (i : ℕ) (role : Role) (deeds : List Deed) → IsCount script.n i → DoesSo script.n stage step (worker_does i role) deeds → CarriesAll [] deeds → AreHistories script.n script.k (setup_of script) (happened_then (worker_does i role) deeds) → IsMade (worker_does i role) deeds
+  worker_takes i role deeds range are carries histories =
+      let carrier = worker_carries script.n script.clients i role range in
+      let go = round_go i role deeds range are in
+      carrier_takes (worker_does i role) deeds carrier are go
+      (deeds_do script.n script.k (setup_of script) (worker_of script.clients i role) carrier all section step deeds t histories go carries) histories
+
+  -- a receiver made its round: what lay on its links was sent
+  pub receiver_takes : (i : ℕ) (deeds : List Deed) → IsCount script.n i → DoesSo script.n stage step (worker_does i Receiver) deeds → AreSent stage.posts all → AreHistories script.n script.k (setup_of script) (happened_then (worker_does i Receiver) deeds) → IsMade (worker_does i Receiver) deeds
+  receiver_takes i deeds range are sent histories =
+      carrier_takes (worker_does i Receiver) deeds (worker_carries script.n script.clients i Receiver range) are (round_go i Receiver deeds range are)
+      (receiver_does (worker_of script.clients i Receiver) script.n i section step (λ from. due_in_round (stage.posts from i)) deeds (trails_in all) (λ from item due. sent from i item (due_lies (stage.posts from i) item due)) are) histories
+
+  -- a receiver made its closing round
+  pub closing_takes : (i : ℕ) (deeds : List Deed) → IsCount script.n i → DoesSo script.n stage step (closes i) deeds → AreSent stage.posts all → AreHistories script.n script.k (setup_of script) (happened_then (closes i) deeds) → IsMade (closes i) deeds
+  closing_takes i deeds range are sent histories =
+      carrier_takes (closes i) deeds (worker_carries script.n script.clients i Receiver range) are (receiver_go script.n i (λ from. due_at_close (stage.posts from i)) deeds range are)
+      (receiver_does (worker_of script.clients i Receiver) script.n i section step (λ from. due_at_close (stage.posts from i)) deeds (trails_in all) (λ from item due. sent from i item (close_lies (stage.posts from i) item due)) are) histories
+
+  -- after a move that was made each record that lies on a link was sent, where the deeds brought what they put there
+  pub made_sent : (does : Does) (deeds : List Deed) → IsMade does deeds → ((to : ℕ) (item : Record) → In item (mailed to deeds) → WasBrought deeds item) → AreSent stage.posts all → AreSent (stage_after does (map (marked section step) deeds) stage).posts (happened_then does deeds)
+  made_sent does deeds made brought sent =
+      let noted : map (λ (note : Note). note.deed) (map (marked section step) deeds) ≡ deeds = deeds_marked section step deeds in
+      subst (λ ds. AreSent (posts_after does ds stage.posts) (happened_then does deeds)) (sym noted)
+      (posts_sent script.n script.k (setup_of script) does all (actor_of script.clients does) section step deeds stage.posts made.together brought sent)
