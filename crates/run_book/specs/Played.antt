@@ -42,12 +42,16 @@ come_after (client_does client step) notes come other = cond (other == client) (
 come_after does notes come other = come other
 
 -- what lies on a link then
+abbrev pub post_after : Does → List Deed → ℕ → ℕ → Post → Post
+post_after (operator_does (Link i j fault)) deeds from to post = cond (from == i && to == j) (post_set fault post) post
+post_after (worker_does i Sender) deeds from to post = cond (from == i && not (to == i)) (post_put (mailed to deeds) post) post
+post_after (worker_does i Receiver) deeds from to post = cond (to == i && not (from == i)) (post_after_round post) post
+post_after (closes i) deeds from to post = cond (to == i && not (from == i)) (post_closed post) post
+post_after does deeds from to post = post
+
+-- on each link
 abbrev pub posts_after : Does → List Deed → (ℕ → ℕ → Post) → ℕ → ℕ → Post
-posts_after (operator_does (Link i j fault)) deeds posts from to = cond (from == i && to == j) (post_set fault (posts from to)) (posts from to)
-posts_after (worker_does i Sender) deeds posts from to = cond (from == i && not (to == i)) (post_put (mailed to deeds) (posts from to)) (posts from to)
-posts_after (worker_does i Receiver) deeds posts from to = cond (to == i && not (from == i)) (post_after_round (posts from to)) (posts from to)
-posts_after (closes i) deeds posts from to = cond (to == i && not (from == i)) (post_closed (posts from to)) (posts from to)
-posts_after does deeds posts from to = posts from to
+posts_after does deeds posts from to = post_after does deeds from to (posts from to)
 
 -- the stage then
 abbrev pub stage_after : Does → List Note → Stage → Stage

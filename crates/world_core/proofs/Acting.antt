@@ -40,8 +40,8 @@ linked_then client stubs old door stub linked begins within low is =
     (linked stub (slice_get_read stubs (length stubs) (client - 1) stub refl (omega (arith, within, low)) is))
 
 -- a client's step in its turn
-pub step_left : (client section number : ℕ) (step : ClientStep) (old new : Table) (door : KeptView) (stub later : StubView) (found before log : Logged) → (1 ≤ client) × (client ≤ length old.stubs.items) → client < length old.logs.items → door ≡ begun (client + 1) old.door.centres → stub ≡ get_or old.stubs.items (client - 1) stub → found ≡ get_or old.logs.items client found → before ≡ record found { section = section; step = number } → place_of new.door ≡ place_of door → Takes step (beside stub (shown_of door) before) (beside later (shown_of new.door) log) → new.stubs.items ≡ slice_set old.stubs.items (client - 1) later → new.logs.items ≡ slice_set old.logs.items client log → AreHistories new.door.centres → HasStepped (record { actor = client + 1; section = section; step = number }) step old new
-step_left client section number step old new door stub later found before log range inside begins stub_is found_is before_is same takes stubs logs histories =
+pub step_left : (client section number : ℕ) (step : ClientStep) (old new : Table) (door : KeptView) (stub later : StubView) (found before log : Logged) → (1 ≤ client) × (client ≤ length old.stubs.items) → client < length old.logs.items → door ≡ begun (client + 1) old.door.centres → stub ≡ get_or old.stubs.items (client - 1) stub → found ≡ get_or old.logs.items client found → before ≡ record found { section = section; step = number } → place_of new.door ≡ place_of door → Takes step (beside stub (shown_of door) before) (beside later (shown_of new.door) log) → new.stubs.items ≡ slice_set old.stubs.items (client - 1) later → new.posts ≡ old.posts → new.logs.items ≡ slice_set old.logs.items client log → AreHistories new.door.centres → HasStepped (record { actor = client + 1; section = section; step = number }) step old new
+step_left client section number step old new door stub later found before log range inside begins stub_is found_is before_is same takes stubs posts logs histories =
     let turn : Turn = record { actor = client + 1; section = section; step = number } in
     let place : client - 1 ≡ turn.actor - 2 = omega arith in
     let own : client ≡ turn.actor - 1 = omega arith in
@@ -54,6 +54,7 @@ step_left client section number step old new door stub later found before log ra
       takes = subst (λ (first : Logged). Takes step (beside stub (shown_of (begun turn.actor old.door.centres)) first) (beside later (shown_of new.door) log)) log_is
           (subst (λ (door : KeptView). Takes step (beside stub (shown_of door) before) (beside later (shown_of new.door) log)) begins takes);
       stubs = subst (λ k. new.stubs.items ≡ slice_set old.stubs.items k later) place stubs;
+      posts = posts;
       turn_is = record {
         logs = subst (λ k. new.logs.items ≡ slice_set old.logs.items k log) own logs;
         settings = settings_kept turn.actor old.door.centres door new.door begins same;
@@ -62,8 +63,8 @@ step_left client section number step old new door stub later found before log ra
     }
 
 -- an ask outside of the script
-pub ask_left : (actor centre : ℕ) (ask : Ask) (say : Say) (old new : Table) (door : KeptView) (found before log : Logged) → (1 ≤ actor) × (actor ≤ length old.logs.items) → IsBehind (shown_of (begun actor old.door.centres)) centre → door ≡ begun actor old.door.centres → found ≡ get_or old.logs.items (actor - 1) found → before ≡ record found { section = 0; step = 0 } → place_of new.door ≡ place_of door → HasAsked (shown_of door) (shown_of new.door) centre (entry door.actor ask say) → log ≡ noted before (Asked centre ask (Unheard say)) → new.stubs ≡ old.stubs → new.logs.items ≡ slice_set old.logs.items (actor - 1) log → AreHistories new.door.centres → HasAskedOnce actor centre ask old new
-ask_left actor centre ask say old new door found before log range behind begins found_is before_is same has log_is stubs logs histories =
+pub ask_left : (actor centre : ℕ) (ask : Ask) (say : Say) (old new : Table) (door : KeptView) (found before log : Logged) → (1 ≤ actor) × (actor ≤ length old.logs.items) → IsBehind (shown_of (begun actor old.door.centres)) centre → door ≡ begun actor old.door.centres → found ≡ get_or old.logs.items (actor - 1) found → before ≡ record found { section = 0; step = 0 } → place_of new.door ≡ place_of door → HasAsked (shown_of door) (shown_of new.door) centre (entry door.actor ask say) → log ≡ noted before (Asked centre ask (Unheard say)) → new.stubs ≡ old.stubs → new.posts ≡ old.posts → new.logs.items ≡ slice_set old.logs.items (actor - 1) log → AreHistories new.door.centres → HasAskedOnce actor centre ask old new
+ask_left actor centre ask say old new door found before log range behind begins found_is before_is same has log_is stubs posts logs histories =
     let deed : Deed = Asked centre ask (Unheard say) in
     let own : actor - 1 + 1 ≡ actor = omega (arith, range.0) in
     let at : log_at old.logs.items actor ≡ found = subst (λ a. log_at old.logs.items a ≡ found) own (log_found old.logs.items (actor - 1) found (omega (arith, range.0, range.1)) found_is) in
@@ -77,5 +78,6 @@ ask_left actor centre ask say old new door found before log range behind begins 
         behind = All-cons (IsAskBehind (shown_of (begun actor old.door.centres))) deed [] behind (All-nil (IsAskBehind (shown_of (begun actor old.door.centres))));
       };
       stubs = stubs;
+      posts = posts;
       turn_is = record { logs = logs; settings = settings_kept actor old.door.centres door new.door begins same; histories = histories };
     }

@@ -34,10 +34,12 @@ use Rattle.run_book.proofs.Happenings.More.{client_then, carrier_then, operator_
 use Rattle.run_book.proofs.Happenings.OperatorSteps.{order_does}
 use Rattle.run_book.proofs.Happenings.Reach.{link_within}
 use Rattle.world_core.specs.declared.table.Table.{Table}
-use Rattle.world_core.specs.Worlds.{Turn, IsWorld, Acts, log_at, stub_at, notes_in}
+use Rattle.run_book.specs.Moves.{operator_does}
+use Rattle.world_core.specs.Worlds.{Turn, IsWorld, HasPosts, Acts, log_at, stub_at, notes_in}
 use Rattle.world_core.specs.Tables.{HasStepped, HasOperated, HasAskedOnce, log_in, outside, seen_of}
 use Rattle.world_core.specs.Events.{TakesStep, TakesOrder, AsksOnce, MayAsk}
 use Rattle.world_core.proofs.Numbered.{set_else, set_here}
+use Rattle.world_core.proofs.Mail.{mail_later, mail_after}
 use Rattle.world_core.proofs.Worlds.{centre_count, HasActed, more, world_then, histories_then, stub_named, stub_got}
 
 -- ---- deeds through the door
@@ -160,7 +162,7 @@ module _ (script : Script) (client section number : ℕ) (step : ClientStep) (ol
     logs = client_acted.logs;
     settings = client_acted.settings;
     trails = client_acted.trails;
-    goes_on = λ all w. world_then mine done script spent old new client_acted all w false (clients_then spent all w) (together spent all w high);
+    goes_on = λ all w. world_then mine done script spent old new client_acted all w false (clients_then spent all w) (mail_later script.n old.posts new.posts all (happening mine.actor (notes_in mine done)) h.posts w.mail) (together spent all w high);
   }
 
   -- it takes its step
@@ -174,6 +176,7 @@ module _ (script : Script) (client section number : ℕ) (step : ClientStep) (ol
         deeds = done;
         such = subst (λ a. StepDeeds (record { client = h.stub.client; armed = h.stub.armed; notes = (log_at old.logs.items a).notes }) step done) again h.takes.such;
         stubs = h.stubs ∙ ap (slice_set old.stubs.items (mine.actor - 2)) (λ i. record { client = h.takes.grows.client i; armed = h.takes.armed i });
+        posts = h.posts;
         allowed = client_may;
         acts = client_acts high spent fresh;
       }
@@ -203,23 +206,29 @@ module _ (script : Script) (section number : ℕ) (step : OperatorStep) (old new
   pub order_taken : length old.door.centres ≡ script.n → IsOperatorStep script.n step → (spent : Bool) → spent ≡ false → TakesOrder its step (seen_of script spent old) (seen_of script false new)
   order_taken count fits spent fresh =
       let such : OperatorDeeds script.n step ordered = subst (λ n. OperatorDeeds n step ordered) count h.operates.such in
+      let posts : HasPosts script.n (operator_does step) ordered old.posts new.posts = subst (λ n. HasPosts n (operator_does step) ordered old.posts new.posts) count h.posts in
       record {
         deeds = ordered;
         such = such;
         stubs = ap (λ stubs. stubs.items) h.stubs;
+        posts = posts;
         acts = record {
           script = refl;
           spent = sym fresh;
           logs = operator_acted.logs;
           settings = operator_acted.settings;
           trails = operator_acted.trails;
-          goes_on = λ all w. world_then its ordered script spent old new operator_acted all w false
+          goes_on = λ all w.
+              let together : AreTogether script.n script.k (setup_of script) (more its ordered script spent old new operator_acted all w) =
+                  carrier_then script.n script.k (setup_of script) 1 all (notes_in its ordered) (operator_carries script.n script.clients) w.together
+                  (histories_then its ordered script spent old new operator_acted all w)
+                  (behind_go (shown_of (begun 1 old.door.centres)) script.n its ordered (centre_count (seen_of script spent old) all w) h.operates.leaves.behind)
+                  (order_does script.n script.k (setup_of script) all step section number ordered w.together (histories_then its ordered script spent old new operator_acted all w) fits such) in
+              world_then its ordered script spent old new operator_acted all w false
               (λ client stub is. w.stubs client stub (subst (λ stubs. stub_at stubs client ≡ Some stub) (ap (λ stubs. stubs.items) h.stubs) is)
               ∙ ap (client_after script.n client script.cache) (sym (other_then 1 (client + 1) all (notes_in its ordered) (λ same. omega (arith, same, (stub_got new.stubs.items client stub is).0)))))
-              (carrier_then script.n script.k (setup_of script) 1 all (notes_in its ordered) (operator_carries script.n script.clients) w.together
-              (histories_then its ordered script spent old new operator_acted all w)
-              (behind_go (shown_of (begun 1 old.door.centres)) script.n its ordered (centre_count (seen_of script spent old) all w) h.operates.leaves.behind)
-              (order_does script.n script.k (setup_of script) all step section number ordered w.together (histories_then its ordered script spent old new operator_acted all w) fits such));
+              (mail_after script.n script.k (setup_of script) (operator_does step) its ordered all old.posts new.posts together posts w.mail)
+              together;
         };
       }
 
@@ -261,6 +270,7 @@ module _ (script : Script) (actor centre : ℕ) (ask : Ask) (old new : Table) (h
   ask_made spent fresh may = record {
     say = h.say;
     stubs = ap (λ stubs. stubs.items) h.stubs;
+    posts = h.posts;
     acts = record {
       script = refl;
       spent = sym fresh;
@@ -269,6 +279,7 @@ module _ (script : Script) (actor centre : ℕ) (ask : Ask) (old new : Table) (h
       trails = asker_acted.trails;
       goes_on = λ all w. world_then (outside actor) asked script spent old new asker_acted all w false
           (λ client stub is. w.stubs client stub (subst (λ stubs. stub_at stubs client ≡ Some stub) (ap (λ stubs. stubs.items) h.stubs) is) ∙ unheard client all)
+          (mail_later script.n old.posts new.posts all (happening actor (notes_in (outside actor) asked)) h.posts w.mail)
           (together_more script.n script.k (setup_of script) all (record { actor = actor; note = marked 0 0 (Asked centre ask (Unheard h.say)) }) w.together
           (histories_then (outside actor) asked script spent old new asker_acted all w) (may all w h.say));
     };

@@ -17,7 +17,9 @@ use Rattle.dc_talk.specs.Answers.{History}
 use Rattle.dc_talk.specs.Rule.{client_after}
 use Rattle.dc_host.specs.Centres.{CentreTrail, new_centre, new_centres}
 use Rattle.dc_host.specs.KeptDoors.{centre_at, entries_of, trail_at}
+use Rattle.ids_core.specs.declared.limits.TheConstants.{MOST_CENTRES}
 use Rattle.script_text.specs.declared.script.Script.{Script}
+use Rattle.script_text.specs.Scripts.{IsInRange}
 use Rattle.client_stub.specs.Playing.{StubView}
 use Rattle.run_book.specs.Setups.{Setup, setup_of, settings_among}
 use Rattle.run_book.specs.Parts.{idle_log}
@@ -26,10 +28,11 @@ use Rattle.run_book.proofs.Happenings.Entries.{own_then, other_then}
 use Rattle.run_book.proofs.Happenings.Steps.{trail_marked}
 use Rattle.run_book.proofs.Happenings.More.{together_none}
 use Rattle.world_core.specs.declared.table.Table.{Table}
-use Rattle.world_core.specs.Worlds.{WorldView, Turn, IsWorld, Acts, log_at, stub_at, notes_in, log_after}
+use Rattle.world_core.specs.Worlds.{WorldView, Turn, IsWorld, IsMailSent, Acts, log_at, stub_at, notes_in, log_after}
 use Rattle.world_core.specs.Tables.{AreHistories as AreKept, IsNew, new_stub, new_stubs, new_logs, seen_of}
-use Rattle.world_core.specs.Runs.{IsInRange, IsSound}
+use Rattle.world_core.specs.Runs.{IsSound}
 use Rattle.world_core.proofs.Numbered.{get_below}
+use Rattle.world_core.proofs.Mail.{new_mail}
 
 -- ---- logs and clients by number
 
@@ -97,8 +100,8 @@ new_client_is n cache clients (suc place) stub there =
     ap (λ (stub : StubView). stub.client) (sym same) ∙ ap (λ client. client_after n client cache []) next
 
 -- a world at first is one in which nothing happened
-pub new_world : (script : Script) (spent : Bool) (table : Table) → IsNew script table → IsWorld (seen_of script spent table) []
-new_world script spent table is = record {
+pub new_world : (script : Script) (spent : Bool) (table : Table) → script.n ≤ MOST_CENTRES → IsNew script table → IsWorld (seen_of script spent table) []
+new_world script spent table few is = record {
   settings = ap (map (λ (centre : CentreTrail). centre.settings)) is.centres ∙ new_settings script.n script.k (setup_of script) (centres script.n);
   trails = λ i. ap (λ cs. trail_at cs i) is.centres ∙ new_trails script.n script.k script.limit i;
   stub_count = ap (λ (stubs : List StubView). length stubs) is.stubs ∙ length-map-range_with_len (new_stub script.n script.cache) 1 script.clients;
@@ -108,6 +111,7 @@ new_world script spent table is = record {
       let count : length table.logs.items ≡ 1 + script.clients + 4 * script.n = ap (λ (logs : List Logged). length logs) is.logs ∙ length-map-range_with_len idle_log 1 (1 + script.clients + 4 * script.n) in
       ap (λ logs. (log_at logs actor).actor) is.logs ∙ new_actors (1 + script.clients + 4 * script.n) actor low (omega (arith, high, count));
   notes = λ actor. ap (λ logs. (log_at logs actor).notes) is.logs ∙ new_notes (range_with_len 1 (1 + script.clients + 4 * script.n)) actor;
+  mail = subst (λ posts. IsMailSent script.n posts []) (sym is.posts) (new_mail script.n few);
   together = together_none script.n script.k (setup_of script);
 }
 
@@ -190,8 +194,8 @@ module _ (turn : Turn) (deeds : List Deed) (script : Script) (spent : Bool) (old
           ∙ w.actors a low (omega (arith, high, log_count_then)))
 
   -- the world then
-  pub world_then : (after : Bool) → ((client : ℕ) (stub : StubView) → stub_at new.stubs.items client ≡ Some stub → stub.client ≡ client_after script.n client script.cache (notes_by (client + 1) more)) → AreTogether script.n script.k (setup_of script) more → IsWorld (seen_of script after new) more
-  world_then after stubs together = record {
+  pub world_then : (after : Bool) → ((client : ℕ) (stub : StubView) → stub_at new.stubs.items client ≡ Some stub → stub.client ≡ client_after script.n client script.cache (notes_by (client + 1) more)) → IsMailSent script.n new.posts more → AreTogether script.n script.k (setup_of script) more → IsWorld (seen_of script after new) more
+  world_then after stubs mail together = record {
     settings = settings_then;
     trails = trails_then;
     stub_count = did.stub_count ∙ w.stub_count;
@@ -199,6 +203,7 @@ module _ (turn : Turn) (deeds : List Deed) (script : Script) (spent : Bool) (old
     log_count = log_count_then ∙ w.log_count;
     actors = actor_then;
     notes = log_then;
+    mail = mail;
     together = together;
   }
 
