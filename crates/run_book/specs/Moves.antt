@@ -1,5 +1,5 @@
 -- The moves of a run of a script on one thread: who does what next, and in which section and step.
-use Rattle.std.specs.Prelude.{ℕ, ◌+◌, ◌-◌, ◌==◌, nat_le, max, cond, length, map, flat_map, List, [], ◌∷◌, ◌++◌, Option, Some, None, slice_get}
+use Rattle.std.specs.Prelude.{ℕ, ◌+◌, ◌-◌, ◌==◌, nat_le, max, cond, fold, length, map, flat_map, List, [], ◌∷◌, ◌++◌, Option, Some, None, slice_get}
 use Rattle.std.specs.List.{filter_map, range_with_len}
 use Rattle.std.specs.Option.{option_map}
 use Rattle.list_core.specs.Choices.{when}
@@ -91,9 +91,13 @@ turn_moves script number section t =
     ++ one_or_none (operator_turn number section t)
     ++ flat_map (worker_turn number script.rounds t) (centres script.n)
 
--- a phase, in as many turns as there may be steps or rounds
+-- the most steps that one of so many clients, or the operator, has in a section
+abbrev pub most_steps : ℕ → Section → ℕ
+most_steps clients section = fold max (length (operator_steps section)) (map (λ client. length (client_steps client section)) (range_with_len 1 clients))
+
+-- a phase, in as many turns as there are steps of an actor, rounds and closing rounds
 abbrev pub phase_moves : Script → ℕ → Section → List Move
-phase_moves script number section = flat_map (turn_moves script number section) (range_with_len 1 (max (length section.steps) (script.rounds + 1)))
+phase_moves script number section = flat_map (turn_moves script number section) (range_with_len 1 (max (most_steps script.clients section) (script.rounds + 1)))
 
 -- a section
 abbrev pub section_moves : Script → ℕ → Section → List Move

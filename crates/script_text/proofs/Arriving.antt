@@ -8,7 +8,7 @@ use Rattle.dc_talk.specs.declared.links.LinkFault.{LinkFault}
 use Rattle.dc_talk.specs.declared.links.LinkFault.TheVariants.{Clean, Drop, Twice, Hold}
 use Rattle.script_text.specs.declared.rounds.TheConstants.{MOST_MAILED}
 use Rattle.script_text.specs.Links.{is_nth, numbered_on, swapped, through, passed, Inlet, arrivals, arrived_count, inlet_after}
-use Rattle.script_text.specs.Mail.{Post, post_put, taken_in_round, due_in_round, post_after_round, due_at_close, post_closed, post_set}
+use Rattle.script_text.specs.Mail.{Post, post_put, taken_in_round, due_in_round, post_after_round, due_at_close, post_closed, post_set, lying}
 
 module _ {X : Type 0} where
   -- a numbered item is an item
@@ -62,15 +62,11 @@ module _ {X : Type 0} where
       let own : In x all → In x ((first ∷ rest) ++ inlet.held) = λ among. In_left (first ∷ rest) inlet.held x (through_among inlet.fault inlet.before (first ∷ rest) x among) in
       ⊎_elim
       (λ front. ⊎_elim
-          (λ early. own (In_take place all x early))
-          (λ held. In_right (first ∷ rest) inlet.held x held)
-          (In_either (take place all) inlet.held x front))
+      (λ early. own (In_take place all x early))
+      (λ held. In_right (first ∷ rest) inlet.held x held)
+      (In_either (take place all) inlet.held x front))
       (λ back. own (In_drop place all x back))
       (In_either (take place all ++ inlet.held) (drop place all) x there)
-
--- the records that lie on a link: those that were put and not yet taken, and what is held
-abbrev pub lying : Post → List Record
-lying post = post.waits ++ post.inlet.held
 
 -- what lies of a part of what waits
 part_lies : (post : Post) (part : List Record) → ((item : Record) → In item part → In item post.waits) → (item : Record) → In item (part ++ post.inlet.held) → In item (lying post)

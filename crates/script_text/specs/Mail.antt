@@ -40,3 +40,7 @@ post_closed post = record { waits = []; inlet = inlet_closed post.inlet post.wai
 -- with another fault
 abbrev pub post_set : LinkFault → Post → Post
 post_set fault post = record post { inlet = inlet_set fault post.inlet }
+
+-- the records that lie there: those that were put and not yet taken, and what is held
+abbrev pub lying : Post → List Record
+lying post = post.waits ++ post.inlet.held

@@ -105,15 +105,15 @@ brings_sent trails j (item ∷ items) (first ∷ deeds) sent is deed (inl same) 
 brings_sent trails j (item ∷ items) (first ∷ deeds) sent is deed (inr there) = brings_sent trails j items deeds (λ other among. sent other (inr among)) is.1 deed there
 
 -- what is done in turn, each of which delivers what was sent
-pub turns_sent : (trails : ℕ → List Entry) (Does : ℕ → List Deed → Type 0) (xs : List ℕ) (deeds : List Deed) → ((x : ℕ) (deeds : List Deed) → Does x deeds → (deed : Deed) → In deed deeds → DeliversSent trails deed) → InTurn Does xs deeds → (deed : Deed) → In deed deeds → DeliversSent trails deed
+pub turns_sent : (trails : ℕ → List Entry) (Does : ℕ → List Deed → Type 0) (xs : List ℕ) (deeds : List Deed) → ((x : ℕ) (deeds : List Deed) → In x xs → Does x deeds → (deed : Deed) → In deed deeds → DeliversSent trails deed) → InTurn Does xs deeds → (deed : Deed) → In deed deeds → DeliversSent trails deed
 turns_sent trails Does [] deeds each no_turn deed there = absurd there
 turns_sent trails Does (x ∷ xs) deeds each (next_turn first later whole does rest) deed there = ⊎_elim
-    (λ front. each x first does deed front)
-    (λ back. turns_sent trails Does xs later each rest deed back)
+    (λ front. each x first (inl refl) does deed front)
+    (λ back. turns_sent trails Does xs later (λ y ds among. each y ds (inr among)) rest deed back)
     (In_either first later deed (subst (In deed) whole there))
 
 -- a receiver to which records are due that were sent, does as a carrier may
-pub receiver_does : (actor n j section step : ℕ) (due : ℕ → List Record) (deeds : List Deed) (trails : ℕ → List Entry) → ((from : ℕ) (item : Record) → In item (due from) → WasSent trails item) → ReceiverDeeds n j due deeds → CarrierDoes actor trails (map (marked section step) deeds)
+pub receiver_does : (actor n j section step : ℕ) (due : ℕ → List Record) (deeds : List Deed) (trails : ℕ → List Entry) → ((from : ℕ) → IsCount n from → (item : Record) → In item (due from) → WasSent trails item) → ReceiverDeeds n j due deeds → CarrierDoes actor trails (map (marked section step) deeds)
 receiver_does actor n j section step due deeds trails sent is =
     deliveries_do actor section step deeds trails
-    (turns_sent trails (λ from deeds. Brings j (due from) deeds) (others n j) deeds (λ from ds does. brings_sent trails j (due from) ds (sent from) does) is)
+    (turns_sent trails (λ from deeds. Brings j (due from) deeds) (others n j) deeds (λ from ds there does. brings_sent trails j (due from) ds (sent from (others_within n j from there)) does) is)
