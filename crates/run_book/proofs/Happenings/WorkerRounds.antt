@@ -44,10 +44,12 @@ module _ (n : ℕ) where
       let low = In_from_range 1 n j (In_from_filter (λ j. not (j == i)) (centres n) j there).0 in
       (low.0, omega (arith, low.1))
 
+  -- what follows the report to a sender
   after_needed_go : (r : Route) (say : Say) (deeds : List Deed) (items : List Record) → IsWithin n r → AfterNeeded r say deeds items → AllGo n deeds
   after_needed_go r (Vector vector) deeds items within is = ask_go n r.from (Send (at vector r.from) MOST_MAILED) is.0 [] deeds within.0 is.1 (All-nil (GoesToOneOf n))
   after_needed_go r say deeds items within is = none_go n deeds is.0
 
+  -- the asks of a sender over one route
   mails_go : (r : Route) (deeds : List Deed) (items : List Record) → IsWithin n r → Mails r deeds items → AllGo n deeds
   mails_go r deeds items within is = ask_go n r.to Report is.say is.later deeds within.1 is.whole (after_needed_go r is.say is.later items within is.follows)
 
@@ -67,6 +69,7 @@ module _ (n : ℕ) where
       go true asks = ask_go n i Prune asks.0 [] deeds range asks.1 (All-nil (GoesToOneOf n))
       go false none = none_go n deeds none
 
+  -- deliveries
   brings_go : (j : ℕ) (items : List Record) (deeds : List Deed) → IsCount n j → Brings j items deeds → AllGo n deeds
   brings_go j [] deeds range is = none_go n deeds is
   brings_go j (item ∷ items) [] range is = absurd is
