@@ -29,7 +29,7 @@ pub first_sent : (script : Script) (all : List Happened) → AreSent script.n (f
 first_sent script all from to range other item there = absurd there
 
 -- what lies on a link after a move lay there before, or was put there by the deeds
-lies_after : (does : Does) (deeds : List Deed) (posts : ℕ → ℕ → Post) (from to : ℕ) (item : Record) → In item (lying (posts_after does deeds posts from to)) → In item (lying (posts from to)) ⊎ In item (mailed to deeds)
+pub lies_after : (does : Does) (deeds : List Deed) (posts : ℕ → ℕ → Post) (from to : ℕ) (item : Record) → In item (lying (posts_after does deeds posts from to)) → In item (lying (posts from to)) ⊎ In item (mailed to deeds)
 lies_after (operator_does (Link i j fault)) deeds posts from to item there = go (from == i && to == j) there
   where
     go : (test : Bool) → In item (lying (cond test (post_set fault (posts from to)) (posts from to))) → In item (lying (posts from to)) ⊎ In item (mailed to deeds)
