@@ -6,6 +6,7 @@ pub mod OwnAsks
 pub mod Growth
 pub mod Pairing
 pub mod Filtered
+pub mod Moves
 pub mod Happenings
 pub mod Snapshots
 pub mod Dots

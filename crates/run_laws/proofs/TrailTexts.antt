@@ -1,5 +1,5 @@
 -- Two runs of a script have one text of their trails.
-use Rattle.std.proofs.Common.{◌≡◌, ℕ, zero, suc, ◌+◌, ◌-◌, List, [], ◌++◌, map, length, take, refl, ap}
+use Rattle.std.proofs.Common.{◌≡◌, ℕ, zero, suc, ◌+◌, ◌-◌, List, [], ◌++◌, map, length, take, refl, sym, ap, ◌∙◌}
 use Rattle.std.specs.Prelude.{filter, flat_map, is_some, slice_get, slice_index_or}
 use Rattle.std.specs.List.{range_with_len}
 use Rattle.ids_core.specs.declared.ids.Dot.{Dot}

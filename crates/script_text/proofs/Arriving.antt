@@ -62,9 +62,9 @@ module _ {X : Type 0} where
       let own : In x all → In x ((first ∷ rest) ++ inlet.held) = λ among. In_left (first ∷ rest) inlet.held x (through_among inlet.fault inlet.before (first ∷ rest) x among) in
       ⊎_elim
       (λ front. ⊎_elim
-          (λ early. own (In_take place all x early))
-          (λ held. In_right (first ∷ rest) inlet.held x held)
-          (In_either (take place all) inlet.held x front))
+      (λ early. own (In_take place all x early))
+      (λ held. In_right (first ∷ rest) inlet.held x held)
+      (In_either (take place all) inlet.held x front))
       (λ back. own (In_drop place all x back))
       (In_either (take place all ++ inlet.held) (drop place all) x there)
 

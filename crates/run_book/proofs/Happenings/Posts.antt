@@ -8,6 +8,7 @@ use Rattle.dc_talk.specs.Logs.{marked}
 use Rattle.script_text.specs.declared.script.Script.{Script}
 use Rattle.script_text.specs.declared.steps.OperatorStep.TheVariants.{Down, Up, ShipOne, Ship, Tell, Prune, Link, Settle}
 use Rattle.script_text.specs.declared.rounds.Role.TheVariants.{Sender, Receiver, Reporter, Pruner}
+use Rattle.script_text.specs.Steps.{IsCount}
 use Rattle.script_text.specs.Mail.{Post, post_put, post_after_round, post_closed, post_set, lying}
 use Rattle.script_text.specs.Rounds.{mailed}
 use Rattle.script_text.specs.Provenance.{WasSent as WasBrought}
@@ -19,13 +20,13 @@ use Rattle.run_book.specs.Played.{first_stage, posts_after}
 use Rattle.run_book.proofs.Happenings.Sending.{sent_later}
 use Rattle.run_book.proofs.Happenings.Carrying.{last_done, sent_there}
 
--- each record that lies on a link was sent
-abbrev pub AreSent : (ℕ → ℕ → Post) → List Happened → Type 0
-AreSent posts all = (from to : ℕ) (item : Record) → In item (lying (posts from to)) → WasSent (trails_in all) item
+-- each record that lies on a link between two of n centres was sent
+abbrev pub AreSent : ℕ → (ℕ → ℕ → Post) → List Happened → Type 0
+AreSent n posts all = (from to : ℕ) → IsCount n from → IsCount n to → (item : Record) → In item (lying (posts from to)) → WasSent (trails_in all) item
 
 -- on the links of a script nothing lies at first
-pub first_sent : (script : Script) (all : List Happened) → AreSent (first_stage script).posts all
-first_sent script all from to item there = absurd there
+pub first_sent : (script : Script) (all : List Happened) → AreSent script.n (first_stage script).posts all
+first_sent script all from to range other item there = absurd there
 
 -- what lies on a link after a move lay there before, or was put there by the deeds
 pub lies_after : (does : Does) (deeds : List Deed) (posts : ℕ → ℕ → Post) (from to : ℕ) (item : Record) → In item (lying (posts_after does deeds posts from to)) → In item (lying (posts from to)) ⊎ In item (mailed to deeds)
@@ -61,10 +62,10 @@ lies_after (worker_does i Reporter) deeds posts from to item there = inl there
 lies_after (worker_does i Pruner) deeds posts from to item there = inl there
 
 -- so after a move each record that lies on a link was sent, where the deeds brought what they put there
-pub posts_sent : (n k : ℕ) (setup : Setup) (does : Does) (all : List Happened) (actor section step : ℕ) (deeds : List Deed) (posts : ℕ → ℕ → Post) → AreTogether n k setup (all ++ happening actor (map (marked section step) deeds)) → ((to : ℕ) (item : Record) → In item (mailed to deeds) → WasBrought deeds item) → AreSent posts all → AreSent (posts_after does deeds posts) (all ++ happening actor (map (marked section step) deeds))
-posts_sent n k setup does all actor section step deeds posts t brought sent from to item there =
+pub posts_sent : (n k : ℕ) (setup : Setup) (does : Does) (all : List Happened) (actor section step : ℕ) (deeds : List Deed) (posts : ℕ → ℕ → Post) → AreTogether n k setup (all ++ happening actor (map (marked section step) deeds)) → ((to : ℕ) (item : Record) → In item (mailed to deeds) → WasBrought deeds item) → AreSent n posts all → AreSent n (posts_after does deeds posts) (all ++ happening actor (map (marked section step) deeds))
+posts_sent n k setup does all actor section step deeds posts t brought sent from to range other item there =
     let later : List Happened = happening actor (map (marked section step) deeds) in
     ⊎_elim
-    (λ old. sent_later all later item (sent from to item old))
+    (λ old. sent_later all later item (sent from to range other item old))
     (λ new. sent_there n k setup (all ++ later) t deeds (last_done all actor section step deeds) item (brought to item new))
     (lies_after does deeds posts from to item there)

@@ -93,20 +93,20 @@ module _ (script : Script) (moves : List Move) (all : List Happened) (stage : St
       (deeds_do script.n script.k (setup_of script) (worker_of script.clients i role) carrier all section step deeds t histories go carries) histories
 
   -- a receiver made its round: what lay on its links was sent
-  pub receiver_takes : (i : ℕ) (deeds : List Deed) → IsCount script.n i → DoesSo script.n stage step (worker_does i Receiver) deeds → AreSent stage.posts all → AreHistories script.n script.k (setup_of script) (happened_then (worker_does i Receiver) deeds) → IsMade (worker_does i Receiver) deeds
+  pub receiver_takes : (i : ℕ) (deeds : List Deed) → IsCount script.n i → DoesSo script.n stage step (worker_does i Receiver) deeds → AreSent script.n stage.posts all → AreHistories script.n script.k (setup_of script) (happened_then (worker_does i Receiver) deeds) → IsMade (worker_does i Receiver) deeds
   receiver_takes i deeds range are sent histories =
       carrier_takes (worker_does i Receiver) deeds (worker_carries script.n script.clients i Receiver range) are (round_go i Receiver deeds range are)
-      (receiver_does (worker_of script.clients i Receiver) script.n i section step (λ from. due_in_round (stage.posts from i)) deeds (trails_in all) (λ from item due. sent from i item (due_lies (stage.posts from i) item due)) are) histories
+      (receiver_does (worker_of script.clients i Receiver) script.n i section step (λ from. due_in_round (stage.posts from i)) deeds (trails_in all) (λ from other item due. sent from i other range item (due_lies (stage.posts from i) item due)) are) histories
 
   -- a receiver made its closing round
-  pub closing_takes : (i : ℕ) (deeds : List Deed) → IsCount script.n i → DoesSo script.n stage step (closes i) deeds → AreSent stage.posts all → AreHistories script.n script.k (setup_of script) (happened_then (closes i) deeds) → IsMade (closes i) deeds
+  pub closing_takes : (i : ℕ) (deeds : List Deed) → IsCount script.n i → DoesSo script.n stage step (closes i) deeds → AreSent script.n stage.posts all → AreHistories script.n script.k (setup_of script) (happened_then (closes i) deeds) → IsMade (closes i) deeds
   closing_takes i deeds range are sent histories =
       carrier_takes (closes i) deeds (worker_carries script.n script.clients i Receiver range) are (receiver_go script.n i (λ from. due_at_close (stage.posts from i)) deeds range are)
-      (receiver_does (worker_of script.clients i Receiver) script.n i section step (λ from. due_at_close (stage.posts from i)) deeds (trails_in all) (λ from item due. sent from i item (close_lies (stage.posts from i) item due)) are) histories
+      (receiver_does (worker_of script.clients i Receiver) script.n i section step (λ from. due_at_close (stage.posts from i)) deeds (trails_in all) (λ from other item due. sent from i other range item (close_lies (stage.posts from i) item due)) are) histories
 
   -- after a move that was made each record that lies on a link was sent, where the deeds brought what they put there
-  pub made_sent : (does : Does) (deeds : List Deed) → IsMade does deeds → ((to : ℕ) (item : Record) → In item (mailed to deeds) → WasBrought deeds item) → AreSent stage.posts all → AreSent (stage_after does (map (marked section step) deeds) stage).posts (happened_then does deeds)
+  pub made_sent : (does : Does) (deeds : List Deed) → IsMade does deeds → ((to : ℕ) (item : Record) → In item (mailed to deeds) → WasBrought deeds item) → AreSent script.n stage.posts all → AreSent script.n (stage_after does (map (marked section step) deeds) stage).posts (happened_then does deeds)
   made_sent does deeds made brought sent =
       let noted : map (λ (note : Note). note.deed) (map (marked section step) deeds) ≡ deeds = deeds_marked section step deeds in
-      subst (λ ds. AreSent (posts_after does ds stage.posts) (happened_then does deeds)) (sym noted)
+      subst (λ ds. AreSent script.n (posts_after does ds stage.posts) (happened_then does deeds)) (sym noted)
       (posts_sent script.n script.k (setup_of script) does all (actor_of script.clients does) section step deeds stage.posts made.together brought sent)

@@ -44,10 +44,12 @@ module _ (n : ℕ) where
       let low = In_from_range 1 n j (In_from_filter (λ j. not (j == i)) (centres n) j there).0 in
       (low.0, omega (arith, low.1))
 
+  -- what follows the report to a sender
   after_needed_go : (r : Route) (say : Say) (deeds : List Deed) (items : List Record) → IsWithin n r → AfterNeeded r say deeds items → AllGo n deeds
   after_needed_go r (Vector vector) deeds items within is = ask_go n r.from (Send (at vector r.from) MOST_MAILED) is.0 [] deeds within.0 is.1 (All-nil (GoesToOneOf n))
   after_needed_go r say deeds items within is = none_go n deeds is.0
 
+  -- the asks of a sender over one route
   mails_go : (r : Route) (deeds : List Deed) (items : List Record) → IsWithin n r → Mails r deeds items → AllGo n deeds
   mails_go r deeds items within is = ask_go n r.to Report is.say is.later deeds within.1 is.whole (after_needed_go r is.say is.later items within is.follows)
 
@@ -67,6 +69,7 @@ module _ (n : ℕ) where
       go true asks = ask_go n i Prune asks.0 [] deeds range asks.1 (All-nil (GoesToOneOf n))
       go false none = none_go n deeds none
 
+  -- deliveries
   brings_go : (j : ℕ) (items : List Record) (deeds : List Deed) → IsCount n j → Brings j items deeds → AllGo n deeds
   brings_go j [] deeds range is = none_go n deeds is
   brings_go j (item ∷ items) [] range is = absurd is
@@ -105,15 +108,15 @@ brings_sent trails j (item ∷ items) (first ∷ deeds) sent is deed (inl same) 
 brings_sent trails j (item ∷ items) (first ∷ deeds) sent is deed (inr there) = brings_sent trails j items deeds (λ other among. sent other (inr among)) is.1 deed there
 
 -- what is done in turn, each of which delivers what was sent
-pub turns_sent : (trails : ℕ → List Entry) (Does : ℕ → List Deed → Type 0) (xs : List ℕ) (deeds : List Deed) → ((x : ℕ) (deeds : List Deed) → Does x deeds → (deed : Deed) → In deed deeds → DeliversSent trails deed) → InTurn Does xs deeds → (deed : Deed) → In deed deeds → DeliversSent trails deed
+pub turns_sent : (trails : ℕ → List Entry) (Does : ℕ → List Deed → Type 0) (xs : List ℕ) (deeds : List Deed) → ((x : ℕ) (deeds : List Deed) → In x xs → Does x deeds → (deed : Deed) → In deed deeds → DeliversSent trails deed) → InTurn Does xs deeds → (deed : Deed) → In deed deeds → DeliversSent trails deed
 turns_sent trails Does [] deeds each no_turn deed there = absurd there
 turns_sent trails Does (x ∷ xs) deeds each (next_turn first later whole does rest) deed there = ⊎_elim
-    (λ front. each x first does deed front)
-    (λ back. turns_sent trails Does xs later each rest deed back)
+    (λ front. each x first (inl refl) does deed front)
+    (λ back. turns_sent trails Does xs later (λ y ds among. each y ds (inr among)) rest deed back)
     (In_either first later deed (subst (In deed) whole there))
 
 -- a receiver to which records are due that were sent, does as a carrier may
-pub receiver_does : (actor n j section step : ℕ) (due : ℕ → List Record) (deeds : List Deed) (trails : ℕ → List Entry) → ((from : ℕ) (item : Record) → In item (due from) → WasSent trails item) → ReceiverDeeds n j due deeds → CarrierDoes actor trails (map (marked section step) deeds)
+pub receiver_does : (actor n j section step : ℕ) (due : ℕ → List Record) (deeds : List Deed) (trails : ℕ → List Entry) → ((from : ℕ) → IsCount n from → (item : Record) → In item (due from) → WasSent trails item) → ReceiverDeeds n j due deeds → CarrierDoes actor trails (map (marked section step) deeds)
 receiver_does actor n j section step due deeds trails sent is =
     deliveries_do actor section step deeds trails
-    (turns_sent trails (λ from deeds. Brings j (due from) deeds) (others n j) deeds (λ from ds does. brings_sent trails j (due from) ds (sent from) does) is)
+    (turns_sent trails (λ from deeds. Brings j (due from) deeds) (others n j) deeds (λ from ds there does. brings_sent trails j (due from) ds (sent from (others_within n j from there)) does) is)
