@@ -279,6 +279,9 @@ module _ {X : Type 0} where
       count : length (first ++ rest) - left ≡ length first + (length rest - left)
       count = omega (arith, length-append first rest, few)
 
+  pub arrivals_item : (fault : LinkFault) (before : ℕ) (held : List X) (x : X) (xs : List X) → arrivals (inlet fault before held) (x ∷ xs) ≡ (comes fault (before + 1) x ++ held) ++ arrivals (inlet fault (before + 1) (stays fault (before + 1) x)) xs
+  arrivals_item fault before held x xs = (one_item fault before held x).others xs
+
   pub arrivals_next : (i : Inlet X) (x : X) (xs : List X) → arrivals i (x ∷ xs) ≡ arrived i (x ∷ []) ++ arrivals (inlet_after i (x ∷ [])) xs
   arrivals_next i x xs =
       let one = one_item i.fault i.before i.held x in
