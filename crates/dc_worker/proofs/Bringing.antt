@@ -1,15 +1,22 @@
 -- Deliveries of what comes over a link.
-use Rattle.std.proofs.Common.{◌≡◌, ℕ, ◌+◌, List, [], ◌∷◌, ◌++◌, length, take, drop, refl, sym, ap, ◌∙◌, subst, arith, append_assoc}
+use Rattle.std.proofs.Common.{◌≡◌, ℕ, ◌+◌, inl, inr, ⊎_elim, Bool, true, false, cond, List, [], ◌∷◌, ◌++◌, length, take, drop, refl, sym, ap, ◌∙◌, subst, arith, append_assoc}
 use Rattle.std.proofs.lemmas.List.{append-nil, take-append-drop}
 use Rattle.std.proofs.Math.Nat.{sub_self}
+use Rattle.list_core.specs.Members.{In}
+use Rattle.list_core.proofs.Members.{In_left, In_right, In_either, In_take, In_drop}
 use Rattle.tx_core.specs.declared.tx.Record.{Record}
 use Rattle.dc_talk.specs.declared.log.Deed.{Deed}
 use Rattle.dc_talk.specs.Acting.{Acting}
-use Rattle.script_text.specs.Links.{Inlet, arrivals, arrived, arrived_count, inlet_after}
+use Rattle.dc_talk.specs.declared.links.LinkFault.{LinkFault}
+use Rattle.dc_talk.specs.declared.links.LinkFault.TheVariants.{Clean, Drop, Twice, Hold}
+use Rattle.script_text.specs.Provenance.{WasSent, Carries, CarriesAll}
+use Rattle.script_text.specs.Links.{is_nth, is_held, Inlet, arrivals, arrived, arrived_count, inlet_after}
 use Rattle.script_text.specs.Rounds.{Brings}
 use Rattle.dc_worker.specs.Work.{AddsSuch}
+use Rattle.dc_worker.specs.Inlets.{comes, stays}
+use Rattle.script_text.proofs.Provenance.{sent_before}
 use Rattle.dc_worker.proofs.Work.{adds_none, adds_then}
-use Rattle.dc_worker.proofs.Items.{arrived_next, after_next}
+use Rattle.dc_worker.proofs.Items.{arrivals_item, arrivals_next, arrived_next, after_next}
 
 -- deliveries behind deliveries
 pub brings_then : (to : ℕ) (xs ys : List Record) (ds es : List Deed) → Brings to xs ds → Brings to ys es → Brings to (xs ++ ys) (ds ++ es)
@@ -96,3 +103,86 @@ arrived_then i (x ∷ xs) ys =
 pub after_then : (i : Inlet Record) (xs ys : List Record) → inlet_after i (xs ++ ys) ≡ inlet_after (inlet_after i xs) ys
 after_then i [] ys = ap (λ i. inlet_after i ys) (sym (after_none i))
 after_then i (x ∷ xs) ys = after_next i x (xs ++ ys) ∙ (after_then (inlet_after i (x ∷ [])) xs ys ∙ ap (λ i. inlet_after i ys) (sym (after_next i x xs)))
+
+pub arrivals_then : (i : Inlet Record) (xs ys : List Record) → arrivals i (xs ++ ys) ≡ arrived i xs ++ arrivals (inlet_after i xs) ys
+arrivals_then i [] ys = ap (λ i. arrivals i ys) (sym (after_none i)) ∙ ap (λ front. front ++ arrivals (inlet_after i []) ys) (sym (arrived_none i))
+arrivals_then i (x ∷ xs) ys =
+    let next : Inlet Record = inlet_after i (x ∷ []) in
+    let first : List Record = arrived i (x ∷ []) in
+    let last : List Record = arrivals (inlet_after next xs) ys in
+    arrivals_next i x (xs ++ ys)
+    ∙ (ap (λ more. first ++ more) (arrivals_then next xs ys)
+    ∙ (sym (append_assoc first (arrived next xs) last)
+    ∙ (ap (λ front. front ++ last) (sym (arrived_next i x xs))
+    ∙ ap (λ i'. arrived i (x ∷ xs) ++ arrivals i' ys) (sym (after_next i x xs)))))
+
+-- ---- where they come from
+
+-- what comes of an item is the item
+comes_from : (fault : LinkFault) (number : ℕ) (x y : Record) → In y (comes fault number x) → y ≡ x
+comes_from Clean number x y (inl same) = same
+comes_from Clean number x y (inr none) = absurd none
+comes_from (Drop every) number x y among = go (is_nth every number) among
+  where
+    go : (test : Bool) → In y (cond test [] (x ∷ [])) → y ≡ x
+    go true none = absurd none
+    go false (inl same) = same
+    go false (inr none) = absurd none
+comes_from (Twice every) number x y among = go (is_nth every number) among
+  where
+    go : (test : Bool) → In y (cond test (x ∷ x ∷ []) (x ∷ [])) → y ≡ x
+    go true (inl same) = same
+    go true (inr (inl same)) = same
+    go true (inr (inr none)) = absurd none
+    go false (inl same) = same
+    go false (inr none) = absurd none
+comes_from (Hold every) number x y among = go (is_nth every number) among
+  where
+    go : (test : Bool) → In y (cond test [] (x ∷ [])) → y ≡ x
+    go true none = absurd none
+    go false (inl same) = same
+    go false (inr none) = absurd none
+
+-- what is held of it is the item
+stays_from : (test : Bool) (x y : Record) → In y (cond test (x ∷ []) []) → y ≡ x
+stays_from true x y (inl same) = same
+stays_from true x y (inr none) = absurd none
+stays_from false x y none = absurd none
+
+-- what comes of an item and of others was held, or is one of them
+from_next : (fault : LinkFault) (number : ℕ) (held rest : List Record) (x y : Record) (xs : List Record) → In y ((comes fault number x ++ held) ++ rest) → (In y rest → In y (stays fault number x ++ xs)) → In y (held ++ x ∷ xs)
+from_next fault number held rest x y xs among later = ⊎_elim front behind (In_either (comes fault number x ++ held) rest y among)
+  where
+    here : y ≡ x → In y (held ++ x ∷ xs)
+    here same = In_right held (x ∷ xs) y (inl same)
+
+    front : In y (comes fault number x ++ held) → In y (held ++ x ∷ xs)
+    front first = ⊎_elim (λ of. here (comes_from fault number x y of)) (λ of. In_left held (x ∷ xs) y of) (In_either (comes fault number x) held y first)
+
+    behind : In y rest → In y (held ++ x ∷ xs)
+    behind last = ⊎_elim (λ of. here (stays_from (is_held fault number) x y of)) (λ of. In_right held (x ∷ xs) y (inr of)) (In_either (stays fault number x) xs y (later last))
+
+come_from : (fault : LinkFault) (before : ℕ) (held xs : List Record) (y : Record) → In y (arrivals (record { fault = fault; before = before; held = held }) xs) → In y (held ++ xs)
+come_from fault before held [] y among = In_left held [] y among
+come_from fault before held (x ∷ xs) y among =
+    from_next fault (before + 1) held (arrivals (record { fault = fault; before = before + 1; held = stays fault (before + 1) x }) xs) x y xs
+    (subst (In y) (arrivals_item fault before held x xs) among)
+    (λ rest. come_from fault (before + 1) (stays fault (before + 1) x) xs y rest)
+
+pub arrivals_from : (i : Inlet Record) (xs : List Record) (y : Record) → In y (arrivals i xs) → In y (i.held ++ xs)
+arrivals_from i xs y among = come_from i.fault i.before i.held xs y among
+
+pub arrived_from : (i : Inlet Record) (xs : List Record) (y : Record) → In y (arrived i xs) → In y (i.held ++ xs)
+arrived_from i xs y among = arrivals_from i xs y (In_take (arrived_count i xs) (arrivals i xs) y among)
+
+pub held_from : (i : Inlet Record) (xs : List Record) (y : Record) → In y (inlet_after i xs).held → In y (i.held ++ xs)
+held_from i xs y among = arrivals_from i xs y (In_drop (arrived_count i xs) (arrivals i xs) y among)
+
+-- deliveries of records that were sent
+pub brings_carry : (before : List Deed) (to : ℕ) (items : List Record) (deeds : List Deed) → ((item : Record) → In item items → WasSent before item) → Brings to items deeds → CarriesAll before deeds
+brings_carry before to [] deeds sent is = subst (CarriesAll before) (sym is) tt
+brings_carry before to (item ∷ items) [] sent is = tt
+brings_carry before to (item ∷ items) (deed ∷ deeds) sent is = (
+  subst (Carries before) (sym is.0.1) (sent item (inl refl)),
+  brings_carry (before ++ deed ∷ []) to items deeds (λ other among. sent_before before (deed ∷ []) other (sent other (inr among))) is.1,
+)

@@ -1,5 +1,5 @@
 -- What is delivered of items, item by item.
-use Rattle.std.proofs.Common.{◌≡◌, ◌≤◌, ℕ, zero, suc, ◌+◌, ◌-◌, ◌%◌, ◌==◌, Bool, true, false, true≢false, cond, not, List, [], ◌∷◌, ◌++◌, map, filter, length, take, drop, refl, sym, ap, ◌∙◌, subst, arith}
+use Rattle.std.proofs.Common.{◌≡◌, ◌≤◌, ℕ, zero, suc, ◌+◌, ◌-◌, ◌%◌, ◌==◌, Bool, true, false, true≢false, cond, not, List, [], ◌∷◌, ◌++◌, map, filter, length, take, drop, refl, sym, ap, ◌∙◌, arith}
 use Rattle.std.proofs.lemmas.Bool.{eqb-true, eq-eqb}
 use Rattle.std.proofs.lemmas.List.{append-nil, take-append-drop, length-append}
 use Rattle.std.proofs.Math.Seq.{take-length, take-append_seam, drop-append_seam, take-append-add, drop-append-add}
@@ -7,7 +7,7 @@ use Rattle.std.proofs.Math.Nat.{sub-zero, mod-add-mod, mod-eq_of_lt, mod-zero, m
 use Rattle.dc_talk.specs.declared.links.LinkFault.{LinkFault}
 use Rattle.dc_talk.specs.declared.links.LinkFault.TheVariants.{Clean, Drop, Twice, Hold}
 use Rattle.script_text.specs.Steps.{IsFault}
-use Rattle.script_text.specs.Links.{Inlet, is_nth, is_held, numbered_on, swapped, through, held_count, passed, arrivals, still_held, arrived, inlet_after}
+use Rattle.script_text.specs.Links.{Inlet, is_nth, is_held, numbered_on, swapped, through, passed, arrivals, still_held, arrived, inlet_after}
 use Rattle.dc_worker.specs.Inlets.{HasCount, comes, stays}
 
 -- a choice between the same
@@ -278,6 +278,9 @@ module _ {X : Type 0} where
 
       count : length (first ++ rest) - left ≡ length first + (length rest - left)
       count = omega (arith, length-append first rest, few)
+
+  pub arrivals_item : (fault : LinkFault) (before : ℕ) (held : List X) (x : X) (xs : List X) → arrivals (inlet fault before held) (x ∷ xs) ≡ (comes fault (before + 1) x ++ held) ++ arrivals (inlet fault (before + 1) (stays fault (before + 1) x)) xs
+  arrivals_item fault before held x xs = (one_item fault before held x).others xs
 
   pub arrivals_next : (i : Inlet X) (x : X) (xs : List X) → arrivals i (x ∷ xs) ≡ arrived i (x ∷ []) ++ arrivals (inlet_after i (x ∷ [])) xs
   arrivals_next i x xs =

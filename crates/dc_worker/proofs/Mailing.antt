@@ -13,7 +13,7 @@ use Rattle.dc_talk.specs.declared.log.Deed.{Deed}
 use Rattle.dc_talk.specs.declared.log.Deed.TheVariants.{Asked}
 use Rattle.dc_talk.specs.Acting.{Acting}
 use Rattle.script_text.specs.declared.rounds.TheConstants.{MOST_MAILED}
-use Rattle.script_text.specs.Carrying.{Route, stopped_end}
+use Rattle.script_text.specs.Carrying.{Route}
 use Rattle.script_text.specs.Provenance.{WasSent, CarriesAll}
 use Rattle.script_text.specs.Rounds.{records_in, AfterNeeded, Mails, mailed_from, mailed}
 use Rattle.dc_worker.specs.declared.sends.Sent.{Sent}

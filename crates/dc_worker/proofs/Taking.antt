@@ -1,15 +1,13 @@
 -- What is taken from a link, and what is put on it, one after another.
-use Rattle.std.proofs.Common.{◌≡◌, ℕ, ◌+◌, ◌-◌, Bool, true, false, cond, List, [], ◌∷◌, ◌++◌, length, refl, sym, ap, ◌∙◌, subst, arith, append_assoc, length-append}
+use Rattle.std.proofs.Common.{◌≡◌, ℕ, ◌+◌, ◌-◌, Bool, true, false, cond, List, [], ◌++◌, length, refl, sym, ap, ◌∙◌, subst, arith, append_assoc, length-append}
 use Rattle.std.proofs.lemmas.List.{append-nil}
 use Rattle.tx_core.specs.declared.tx.Record.{Record}
 use Rattle.dc_talk.specs.Acting.{Acting}
-use Rattle.script_text.specs.Links.{Inlet, arrivals, arrived, arrived_count, inlet_after}
+use Rattle.script_text.specs.Links.{Inlet, arrived, inlet_after}
 use Rattle.script_text.specs.Carrying.{Route}
 use Rattle.script_text.specs.Rounds.{Mails, Brings}
 use Rattle.dc_worker.specs.Work.{AddsSuch, CarriesSuch}
 use Rattle.dc_worker.specs.Links.{IsMore, outgoing, Posts, Incoming, incoming, Receives, Closes}
-use Rattle.dc_worker.proofs.Work.{adds_none}
-use Rattle.dc_worker.proofs.Items.{arrived_next, after_next}
 use Rattle.dc_worker.proofs.Bringing.{arrived_none, after_none, arrived_then, after_then, brings_none, brings_both, brings_rest}
 
 -- ---- lists that grow at the end

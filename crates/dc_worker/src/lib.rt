@@ -22,7 +22,7 @@ pub use brings::{bring, bring_rest};
 pub use deliveries::{deliver, deliver_all};
 pub use ends::{base_line, is_there, ship_line};
 pub use inlets::Inlet;
-pub use laws::{law_carried, law_mailed, law_settled};
+pub use laws::{law_carried, law_links, law_mailed, law_settled};
 pub use mails::{mail_for, prune_round, report_round};
 pub use receivers::{drain_round, take_round};
 pub use senders::send_round;

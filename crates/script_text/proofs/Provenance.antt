@@ -31,7 +31,7 @@ has_before deeds back i ask say has = record { deed = has.deed; there = In_left 
 sent_behind : (front deeds : List Deed) (item : Record) → WasSent deeds item → WasSent (front ++ deeds) item
 sent_behind front deeds item sent = record { centre = sent.centre; after = sent.after; most = sent.most; list = sent.list; answer = has_behind front deeds sent.centre (Send sent.after sent.most) (Records sent.list) sent.answer; among = sent.among }
 
-sent_before : (deeds back : List Deed) (item : Record) → WasSent deeds item → WasSent (deeds ++ back) item
+pub sent_before : (deeds back : List Deed) (item : Record) → WasSent deeds item → WasSent (deeds ++ back) item
 sent_before deeds back item sent = record { centre = sent.centre; after = sent.after; most = sent.most; list = sent.list; answer = has_before deeds back sent.centre (Send sent.after sent.most) (Records sent.list) sent.answer; among = sent.among }
 
 -- a deed that carries no more than those before it brought does so behind more of them

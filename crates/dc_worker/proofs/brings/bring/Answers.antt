@@ -25,3 +25,17 @@ items-preserved g c = record {
       let e = acting (g.D.Door.shown c.bring_one.new.door) c.bring_one.new.log in
       brings_on_more c.args.at c.args.inlet.now c.args.items.items c.items.item-iterator.rest.items c.next.new.self.rest.items c.items.inlet c.bring_one.new.inlet a b e c.in-Some.item c.in-Some.ensures.steps.0 c.items.invariant.brings c.in_ok-bring_one.ensures.brings c.in_ok-bring_one.ensures.inlet;
 }
+
+pub returns-clause-brings : goal.returns-clause-brings
+returns-clause-brings g c =
+    let a = acting (g.D.Door.shown c.args.door.now) c.args.log.now in
+    let b = acting (g.D.Door.shown c.items.door) c.items.log in
+    let none : c.items.item-iterator.rest.items ≡ [] = nil_from_length c.items.item-iterator.rest.items (omega (arith, c.items.item-iterator.rest.ok, c.in-None.ensures.steps.0)) in
+    brings_on_all c.args.at c.args.inlet.now c.args.items.items c.items.item-iterator.rest.items c.items.inlet a b none c.items.invariant.brings
+
+pub returns-clause-inlet : goal.returns-clause-inlet
+returns-clause-inlet g c =
+    let a = acting (g.D.Door.shown c.args.door.now) c.args.log.now in
+    let b = acting (g.D.Door.shown c.items.door) c.items.log in
+    let none : c.items.item-iterator.rest.items ≡ [] = nil_from_length c.items.item-iterator.rest.items (omega (arith, c.items.item-iterator.rest.ok, c.in-None.ensures.steps.0)) in
+    after_all c.args.at c.args.inlet.now c.args.items.items c.items.item-iterator.rest.items c.items.inlet a b none c.items.invariant.brings

@@ -3,7 +3,6 @@ use Rattle.std.specs.Option.{option_to_list}
 use Rattle.dc_talk.specs.Acting.{acting, IsCutShort}
 use Rattle.script_text.specs.Rounds.{Brings}
 use Rattle.dc_worker.specs.Work.{AddsSuch}
-use Rattle.dc_worker.specs.Inlets.{due_items}
 use Rattle.dc_worker.proofs.Work.{cut_then, on_turn, err_turn}
 use Rattle.dc_worker.proofs.Bringing.{brings_both}
 use Rattle.dc_worker.proofs.brings.bring_due.Goals as goal

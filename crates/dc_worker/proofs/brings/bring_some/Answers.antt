@@ -1,6 +1,5 @@
 use Rattle.std.proofs.Common.{ap}
 use Rattle.std.specs.Option.{option_to_list}
-use Rattle.dc_talk.specs.Acting.{acting}
 use Rattle.dc_worker.proofs.Bringing.{brings_absent}
 use Rattle.dc_worker.proofs.brings.bring_some.Goals as goal
 

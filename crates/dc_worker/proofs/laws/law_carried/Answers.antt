@@ -1,5 +1,6 @@
 use Rattle.std.proofs.Common.{[]}
 use Rattle.script_text.proofs.Provenance.{carries_more, carries_then, sends_carry, ships_carry, tells_carry, settles_carry}
+use Rattle.dc_worker.proofs.Bringing.{brings_carry}
 use Rattle.dc_worker.proofs.Mailing.{mails_carry}
 use Rattle.dc_worker.proofs.RoundDeeds.{sender_carries, reporter_carries, pruner_carries}
 use Rattle.dc_worker.proofs.laws.law_carried.Goals as goal
@@ -33,3 +34,6 @@ returns-clause-reporter c = reporter_carries
 
 pub returns-clause-pruner : goal.returns-clause-pruner
 returns-clause-pruner c = pruner_carries
+
+pub returns-clause-brings : goal.returns-clause-brings
+returns-clause-brings c = brings_carry
