@@ -123,27 +123,27 @@ fn a_line_stands_in_its_place(rt: HostRuntime) -> Result<(), Fail> {
     Ok(())
 }
 
-// Whether lines behind the header of three centres and twelve clients are refused at this line, counted from the first
-// of them, by their place.
+// Whether lines behind the header of three centres and twelve clients, which is two lines, are refused at this line by
+// its place.
 fn is_out_of_place(alloc: Global, lines: &[u8], at: u32) -> Result<bool, Fail> {
     let mut text = b"centres 3 k 2\nclients 12\n".to_vec(alloc)?;
     text.extend_from_slice(lines)?;
-    Ok(is_refused(alloc, &text, 2 + at, Cause::Place))
+    Ok(is_refused(alloc, &text, at, Cause::Place))
 }
 
 #[test]
 fn a_phase_stands_in_its_place(rt: HostRuntime) -> Result<(), Fail> {
     let alloc = rt.alloc();
     assert!(rt; is_refused(alloc, b"phase\n", 1, Cause::Place));
-    assert!(rt; is_out_of_place(alloc, b"end\n", 1)?);
-    assert!(rt; is_out_of_place(alloc, b"phase\nphase\nend\nend\n", 2)?);
-    assert!(rt; is_out_of_place(alloc, b"phase\nend\nend\n", 3)?);
-    assert!(rt; is_out_of_place(alloc, b"phase\nsettle\nend\n", 2)?);
-    assert!(rt; is_out_of_place(alloc, b"phase\nlink 1 2 clean\nend\n", 2)?);
-    assert!(rt; is_out_of_place(alloc, b"phase\ncache 5\nend\n", 2)?);
-    assert!(rt; is_out_of_place(alloc, b"phase\nend\nrounds 5\n", 3)?);
-    assert!(rt; is_out_of_place(alloc, b"phase", 2)?);
-    assert!(rt; is_out_of_place(alloc, b"phase\nc1 begin\n\n", 4)?);
+    assert!(rt; is_out_of_place(alloc, b"end\n", 3)?);
+    assert!(rt; is_out_of_place(alloc, b"phase\nphase\nend\nend\n", 4)?);
+    assert!(rt; is_out_of_place(alloc, b"phase\nend\nend\n", 5)?);
+    assert!(rt; is_out_of_place(alloc, b"phase\nsettle\nend\n", 4)?);
+    assert!(rt; is_out_of_place(alloc, b"phase\nlink 1 2 clean\nend\n", 4)?);
+    assert!(rt; is_out_of_place(alloc, b"phase\ncache 5\nend\n", 4)?);
+    assert!(rt; is_out_of_place(alloc, b"phase\nend\nrounds 5\n", 5)?);
+    assert!(rt; is_out_of_place(alloc, b"phase", 4)?);
+    assert!(rt; is_out_of_place(alloc, b"phase\nc1 begin\n\n", 6)?);
     Ok(())
 }
 
