@@ -32,12 +32,12 @@ number|c12345678901234567890 begin
 number|c01 begin
 word|c01 jump 1 2
 name|c1 put s.a K v
-place|phase
 place|end
 count|phase 1
 range|prune 2
 count|link 1
 range|link 1 1 drop 0
+count|end 1
 word|link 1 1 lose 3
 END
 }

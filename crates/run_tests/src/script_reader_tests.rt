@@ -1,6 +1,6 @@
 // Which bytes are a script and of which settings and steps, and of others the line at fault and the cause. The texts, lines and causes follow the rules
 // of the language, and were not taken from the reader.
-use dc_talk::Change;
+use dc_talk::{Change, LinkFault};
 use ids_core::Sort;
 use script_reader::{Cause, ScriptFault, parse};
 use script_text::{AskFault, ClientStep, OperatorStep, Section, Step};
@@ -118,11 +118,32 @@ fn a_line_stands_in_its_place(rt: HostRuntime) -> Result<(), Fail> {
     );
     assert!(rt; is_refused_of_three(alloc, b"threads 17", Cause::Range)?);
     assert!(rt; is_refused_of_three(alloc, b"rounds 1001", Cause::Range)?);
-    assert!(rt; is_refused_of_three(alloc, b"phase", Cause::Place)?);
-    assert!(rt; is_refused_of_three(alloc, b"end", Cause::Place)?);
     assert!(rt; is_refused_of_three(alloc, b"prune", Cause::Count)?);
     assert!(rt; is_refused_of_three(alloc, b"prune 4", Cause::Range)?);
-    assert!(rt; is_refused_of_three(alloc, b"link 1 2 drop 1", Cause::Place)?);
+    Ok(())
+}
+
+// Whether lines behind the header of three centres and twelve clients, which is two lines, are refused at this line by
+// its place.
+fn is_out_of_place(alloc: Global, lines: &[u8], at: u32) -> Result<bool, Fail> {
+    let mut text = b"centres 3 k 2\nclients 12\n".to_vec(alloc)?;
+    text.extend_from_slice(lines)?;
+    Ok(is_refused(alloc, &text, at, Cause::Place))
+}
+
+#[test]
+fn a_phase_stands_in_its_place(rt: HostRuntime) -> Result<(), Fail> {
+    let alloc = rt.alloc();
+    assert!(rt; is_refused(alloc, b"phase\n", 1, Cause::Place));
+    assert!(rt; is_out_of_place(alloc, b"end\n", 3)?);
+    assert!(rt; is_out_of_place(alloc, b"phase\nphase\nend\nend\n", 4)?);
+    assert!(rt; is_out_of_place(alloc, b"phase\nend\nend\n", 5)?);
+    assert!(rt; is_out_of_place(alloc, b"phase\nsettle\nend\n", 4)?);
+    assert!(rt; is_out_of_place(alloc, b"phase\nlink 1 2 clean\nend\n", 4)?);
+    assert!(rt; is_out_of_place(alloc, b"phase\ncache 5\nend\n", 4)?);
+    assert!(rt; is_out_of_place(alloc, b"phase\nend\nrounds 5\n", 5)?);
+    assert!(rt; is_out_of_place(alloc, b"phase", 4)?);
+    assert!(rt; is_out_of_place(alloc, b"phase\nc1 begin\n\n", 6)?);
     Ok(())
 }
 
@@ -170,14 +191,11 @@ fn a_script_has_200_000_lines_of_256_bytes_at_most(rt: HostRuntime) -> Result<()
 fn blanks_and_comments_are_passed_over(rt: HostRuntime) -> Result<(), Fail> {
     let text =
         b"# \xff\n  centres\t3 k 2  \r\n\nclients 12\nrounds 0\n\t#\x00\nthreads 16\nlimit 7\nc12  put m.a\tk w\nship 1 3 5\r";
-    let read = parse(rt.alloc(), text)?;
-    assert_eq!(rt; (read.threads, read.rounds), (16, 0));
-    assert_eq!(rt;
-        (read.script.n, read.script.k, read.script.clients),
-        (3, 2, 12)
-    );
-    assert_eq!(rt; (read.script.cache, read.script.limit), (1_024, 7));
-    let sections = read.script.sections.as_slice();
+    let script = parse(rt.alloc(), text)?;
+    assert_eq!(rt; (script.threads, script.rounds), (16, 0));
+    assert_eq!(rt; (script.n, script.k, script.clients), (3, 2, 12));
+    assert_eq!(rt; (script.cache, script.limit), (1_024, 7));
+    let sections = script.sections.as_slice();
     assert_eq!(rt; sections.len(), 2);
     let put = sections[0].steps.as_slice();
     assert!(rt;
@@ -199,11 +217,11 @@ fn blanks_and_comments_are_passed_over(rt: HostRuntime) -> Result<(), Fail> {
     Ok(())
 }
 
-// The one step of the section at a place, if there is one alone.
+// The one step of the section at a place, if it is no phase.
 fn step_at(sections: &[Section], place: usize) -> Option<Step> {
     match sections.get(place) {
         Some(section) => match section.steps.as_slice() {
-            [step] => Some(*step),
+            [step] if !section.phase => Some(*step),
             _ => None,
         },
         None => None,
@@ -262,7 +280,7 @@ fn puts_at(sections: &[Section], place: usize, name: &[u8], key: &[u8], word: &[
 fn a_script_has_its_settings_and_steps(rt: HostRuntime) -> Result<(), Fail> {
     let text =
         b"centres 1 k 1\nclients 1024\nlimit 7\ncache 100000\nc1024 connect 1\nc1 put m.m k w_1\nc1 inc c.a_9 -5";
-    let script = parse(rt.alloc(), text)?.script;
+    let script = parse(rt.alloc(), text)?;
     assert_eq!(rt; (script.n, script.k, script.clients), (1, 1, 1_024));
     assert_eq!(rt; (script.cache, script.limit), (100_000, 7));
     let sections = script.sections.as_slice();
@@ -278,7 +296,7 @@ fn a_script_has_its_settings_and_steps(rt: HostRuntime) -> Result<(), Fail> {
 #[test]
 fn a_script_of_two_centres_has_its_orders(rt: HostRuntime) -> Result<(), Fail> {
     let text = b"centres 2 k 2\nclients 2\ndown 1\nc2 connect 2\nup 1\n";
-    let script = parse(rt.alloc(), text)?.script;
+    let script = parse(rt.alloc(), text)?;
     assert_eq!(rt; (script.n, script.k, script.clients), (2, 2, 2));
     assert_eq!(rt; (script.cache, script.limit), (1_024, 1_000_000));
     let sections = script.sections.as_slice();
@@ -304,7 +322,7 @@ fn fault_at(sections: &[Section], place: usize) -> Option<AskFault> {
 fn a_script_of_two_centres_has_its_faults(rt: HostRuntime) -> Result<(), Fail> {
     let text =
         b"centres 2 k 1\nclients 1\nc1 again 2 4611686018427387904\nc1 lose ask\nc1 lose reply\nc1 twice\n";
-    let script = parse(rt.alloc(), text)?.script;
+    let script = parse(rt.alloc(), text)?;
     let sections = script.sections.as_slice();
     assert_eq!(rt; sections.len(), 4);
     let again = does_at(sections, 0, 1);
@@ -314,5 +332,77 @@ fn a_script_of_two_centres_has_its_faults(rt: HostRuntime) -> Result<(), Fail> {
     assert!(rt; matches!(fault_at(sections, 1), Some(AskFault::LoseAsk)));
     assert!(rt; matches!(fault_at(sections, 2), Some(AskFault::LoseReply)));
     assert!(rt; matches!(fault_at(sections, 3), Some(AskFault::Twice)));
+    Ok(())
+}
+
+// The fault of the link from one centre to another that is set in the section at a place.
+fn link_at(sections: &[Section], place: usize) -> Option<(u8, u8, LinkFault)> {
+    match order_at(sections, place) {
+        Some(OperatorStep::Link { from, to, fault }) => Some((from, to, fault)),
+        _ => None,
+    }
+}
+
+#[test]
+fn a_script_has_the_faults_of_its_links(rt: HostRuntime) -> Result<(), Fail> {
+    let text =
+        b"centres 3 k 1\nclients 1\nlink 1 2 drop 2\nlink 2 1 twice 1000000\nlink 3 1 hold 1\nlink 1 3 clean\n";
+    let script = parse(rt.alloc(), text)?;
+    assert_eq!(rt; (script.threads, script.rounds), (4, 32));
+    let sections = script.sections.as_slice();
+    assert_eq!(rt; sections.len(), 4);
+    assert!(rt;
+        matches!(
+            link_at(sections, 0),
+            Some((1, 2, LinkFault::Drop { every: 2 }))
+        )
+    );
+    assert!(rt;
+        matches!(
+            link_at(sections, 1),
+            Some((2, 1, LinkFault::Twice { every: 1_000_000 }))
+        )
+    );
+    assert!(rt;
+        matches!(
+            link_at(sections, 2),
+            Some((3, 1, LinkFault::Hold { every: 1 }))
+        )
+    );
+    assert!(rt; matches!(link_at(sections, 3), Some((1, 3, LinkFault::Clean))));
+    Ok(())
+}
+
+// Whether steps are a begin of client 2, a stop of centre 1 and a commit of client 2.
+fn are_three(steps: &[Step]) -> bool {
+    matches!(
+        steps,
+        [
+            Step::Client {
+                client: 2,
+                step: ClientStep::Begin
+            },
+            Step::Operator {
+                step: OperatorStep::Down { centre: 1 }
+            },
+            Step::Client {
+                client: 2,
+                step: ClientStep::Commit
+            }
+        ]
+    )
+}
+
+#[test]
+fn the_steps_of_a_phase_are_one_section(rt: HostRuntime) -> Result<(), Fail> {
+    let text =
+        b"centres 2 k 1\nclients 2\nsettle\nphase\nc2 begin\n# a comment\ndown 1\nc2 commit\nend\nphase\nend\nup 1\n";
+    let script = parse(rt.alloc(), text)?;
+    let sections = script.sections.as_slice();
+    assert_eq!(rt; sections.len(), 4);
+    assert!(rt; matches!(order_at(sections, 0), Some(OperatorStep::Settle)));
+    assert!(rt; sections[1].phase && are_three(sections[1].steps.as_slice()));
+    assert!(rt; sections[2].phase && sections[2].steps.is_empty());
+    assert!(rt; matches!(order_at(sections, 3), Some(OperatorStep::Up { centre: 1 })));
     Ok(())
 }

@@ -8,8 +8,8 @@ use world_core::serial;
 
 /// The book of a script.
 pub fn played(alloc: Global, text: &[u8]) -> Result<Book, Fail> {
-    let read = parse(alloc, text)?;
-    Ok(serial(alloc, &read.script)?)
+    let script = parse(alloc, text)?;
+    Ok(serial(alloc, &script)?)
 }
 
 #[test]

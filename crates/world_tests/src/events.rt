@@ -211,7 +211,7 @@ fn the_books_of_two_hundred_lists_of_events_fit(rt: HostRuntime) -> Result<(), F
         sizes: (0, 0),
     };
     for text in SCRIPTS {
-        let script = parse(rt.alloc(), text)?.script;
+        let script = parse(rt.alloc(), text)?;
         for seed in 1..51 {
             look_at(&rt, rt.alloc(), &script, seed, &mut tally)?;
         }

@@ -158,7 +158,7 @@ fn take_lines(
 
 // The text of a script whose lines are taken in their order over one door.
 fn told(rt: &impl Abort, alloc: Global, text: &[u8]) -> Result<Vec<u8>, Fail> {
-    let script = parse(alloc, text)?.script;
+    let script = parse(alloc, text)?;
     let centres = centres_of(alloc, script.n, script.k, script.limit)?;
     let mut door = KeptDoor::new(centres, 1);
     let mut desk = Desk {

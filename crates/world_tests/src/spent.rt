@@ -20,7 +20,7 @@ c1 read s.a
 #[test]
 fn a_spent_world_plays_no_more_and_gives_no_book(rt: HostRuntime) -> Result<(), Fail> {
     let alloc = rt.alloc();
-    let script = parse(alloc, SCRIPT)?.script;
+    let script = parse(alloc, SCRIPT)?;
     let mut world = World::new(alloc, &script)?;
     for section in 1..8 {
         let (client, step) = (1, 1);

@@ -189,7 +189,7 @@ fn spoilt(alloc: Global, book: &Book, change: Change) -> Result<Book, Fail> {
 #[test]
 fn each_change_of_a_book_is_found(rt: HostRuntime) -> Result<(), Fail> {
     let alloc = rt.alloc();
-    let script = parse(alloc, SCRIPT)?.script;
+    let script = parse(alloc, SCRIPT)?;
     let book = serial(alloc, &script)?;
     for (change, want) in [
         (Change::Nothing, Verdict::Fits),
