@@ -23,6 +23,7 @@ use Rattle.tally_core.proofs.Sparse.{shown, get-sparse, entries-sparse, sorted_k
 use Rattle.tally_core.proofs.Kept.{nothing_is, find}
 use Rattle.tally_core.proofs.Parts.{find_both}
 
+-- a test that is turned twice
 not_not : (b : Bool) → not (not b) ≡ b
 not_not true = refl
 not_not false = refl
@@ -39,6 +40,7 @@ tests_swap {A} f g (x ∷ xs) = at (f x) refl (g x) refl (tests_swap f g xs)
     at false e false h ih = ih
 
 module _ {P : Type 0} where
+  -- both searches among entries find the same
   find_looks : (q : Place) (es : List (Place × Cell P)) → map_of.find place_cmp q es ≡ lookup (is_at (place_cmp q)) es
   find_looks q [] = refl
   find_looks q (e ∷ es) = ap (cond (eq_by_cmp place_cmp q e.0) (Some e.1)) (find_looks q es)
@@ -49,9 +51,11 @@ module _ {P : Type 0} where
     abbrev passing : List (Place × Cell P) → List (Place × Cell P)
     passing es = filter (λ e. t e.1) es
 
+    -- the cell does not pass
     abbrev fails : Cell P → Bool
     fails c = not (t c)
 
+    -- a map of those that pass has the entries that do
     entries_passing : (es : List (Place × Cell P)) → IsStrictlySortedBy place_cmp (keys_of es) → entries (from_sparse {R = place_cmp} nothing fails es) ≡ passing es
     entries_passing es h = entries-sparse nothing fails place_cmp_total place_cmp_same es h ∙ (λ i. filter (λ e. not_not (t e.1) i) es)
 
@@ -69,6 +73,7 @@ module _ {P : Type 0} where
         at true = refl
         at false = ap (λ b. cond (not b) None (Some d)) (dead d apart)
 
+    -- so what passes of what both parts say is what passes of the live cells
     passing_seen : (L O : List (Place × Cell P)) → IsStrictlySortedBy place_cmp (keys_of L) → AreApart L O → passing (entries (seen (L ++ O))) ≡ passing L
     passing_seen L O sorted apart = sym (entries_passing (entries m) (sorted_keys place_cmp m)) ∙ (ap entries alike ∙ entries_passing L sorted)
       where
@@ -87,12 +92,15 @@ module _ {P : Type 0} where
         let n : (Place × Cell P) → Bool = λ e. same_name e.0.name name in
         tests_swap (λ e. t e.1) n L ∙ (ap (filter n) (sym (passing_seen L O sorted apart)) ∙ sym (tests_swap (λ e. t e.1) n (entries (seen (L ++ O)))))
 
+  -- an owed cell is no live one
   owed_dead : (c : Cell P) → is_owed c ≡ true → is_live c ≡ false
   owed_dead c h = not-true (is_live c) (and_parts (not (is_live c)) _ h).0
 
+  -- the cell keeps something
   abbrev keeps : Cell P → Bool
   keeps c = is_some c.kept
 
+  -- an owed cell keeps nothing
   owed_keeps : (c : Cell P) → is_owed c ≡ true → keeps c ≡ false
   owed_keeps c h = not-true (is_some c.kept) (and_parts (not (is_live c)) _ h).1
 
@@ -105,11 +113,14 @@ module _ {P : Type 0} where
       at None is ih = ih
       at (Some p) is ih = rw is (ap (λ l. (e.0.id, p) ∷ l) ih)
 
+  -- the live identifiers of a name are those of the live cells
   pub live_seen : (name : List ℕ) (L O : List (Place × Cell P)) → IsStrictlySortedBy place_cmp (keys_of L) → AreApart L O → live_in (under name L) ≡ live_ids (seen (L ++ O)) name
   live_seen name L O sorted apart = ap (map (λ e. e.0.id)) (passing_under is_live refl owed_dead name L O sorted apart)
 
+  -- what is kept under a name is what the live cells keep
   pub kept_seen : (name : List ℕ) (L O : List (Place × Cell P)) → IsStrictlySortedBy place_cmp (keys_of L) → AreApart L O → kept_in (under name L) ≡ kept_at (seen (L ++ O)) name
   kept_seen name L O sorted apart = sym (kept_passing (under name L)) ∙ (ap kept_in (passing_under keeps refl owed_keeps name L O sorted apart) ∙ kept_passing (under name (entries (seen (L ++ O)))))
 
+  -- the live names are those of the live cells
   pub names_seen : (L O : List (Place × Cell P)) → IsStrictlySortedBy place_cmp (keys_of L) → AreApart L O → names_after None L ≡ live_names (seen (L ++ O))
   names_seen L O sorted apart = all_names L ∙ ap (λ es. dedup same_name (map (λ e. e.0.name) es)) (sym (passing_seen is_live refl owed_dead L O sorted apart))

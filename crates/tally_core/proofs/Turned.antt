@@ -10,7 +10,8 @@ use Rattle.tally_core.specs.Cells.{cell, nothing, is_nothing, turned}
 use Rattle.tally_core.specs.Changes.{or_else}
 use Rattle.tally_core.specs.Live.{is_live}
 use Rattle.tally_core.specs.Parted.{is_owed, is_apart}
-use Rattle.tally_core.specs.Room.{can_fall, is_empty, lowered, repaid, owes}
+use Rattle.tally_core.specs.Room.{can_fall, is_empty}
+use Rattle.tally_core.specs.Turn.{lowered, owes, repaid}
 use Rattle.tally_core.proofs.Kept.{nothing_is}
 use Rattle.tally_core.proofs.Parts.{told}
 
@@ -78,7 +79,7 @@ module _ {P : Type 0} where
   owed_can None y none can = can
   owed_can (Some c) y none can = cc
 
-  -- A live cell is lowered.
+  -- what is told where a live cell is lowered
   pub live_falls : (x y : Option (Cell P)) → is_some x ≡ true → is_apart x y ≡ true → told (or_else (lowered x) y) ≡ told (Some (turned None (unwrap_or (or_else x y) nothing)))
   live_falls None y some apart = cc
   live_falls (Some c) (Some d) some apart = cc
@@ -88,6 +89,7 @@ module _ {P : Type 0} where
       at true = refl
       at false = refl
 
+  -- and what is left of it is live
   pub live_falls_apart : (x y : Option (Cell P)) → is_some x ≡ true → is_apart x y ≡ true → is_apart (lowered x) y ≡ true
   live_falls_apart None y some apart = cc
   live_falls_apart (Some c) (Some d) some apart = cc
@@ -97,12 +99,13 @@ module _ {P : Type 0} where
       at true e = refl
       at false e = lowered_live c apart e
 
-  -- An owed cell is lowered.
+  -- what is told where an owed cell is lowered
   pub owed_falls : (x y : Option (Cell P)) → is_some x ≡ false → can_fall x y ≡ true → told (or_else x (lowered y)) ≡ told (Some (turned None (unwrap_or (or_else x y) nothing)))
   owed_falls (Some c) y none can = cc
   owed_falls None None none can = cc
   owed_falls None (Some d) none can = lowered_told d
 
+  -- and is still owed
   pub owed_falls_apart : (x y : Option (Cell P)) → is_some x ≡ false → is_apart x y ≡ true → is_apart x (lowered y) ≡ true
   owed_falls_apart (Some c) y none apart = cc
   owed_falls_apart None None none apart = refl
@@ -115,17 +118,19 @@ module _ {P : Type 0} where
       at true = refl
       at false = dead_keeps (d.count +ℤ negsuc 0) d.kept (still_below d.count dead)
 
-  -- An owed cell is raised.
+  -- what is told where an owed cell is raised
   pub owed_rises : (kept : P) (x y : Option (Cell P)) → owes y ≡ true → is_apart x y ≡ true → told (or_else x (repaid kept y)) ≡ told (Some (turned (Some kept) (unwrap_or (or_else x y) nothing)))
   owed_rises kept x None owed apart = cc
   owed_rises kept (Some c) (Some d) owed apart = cc
   owed_rises kept None (Some d) owed apart = rw owed refl
 
+  -- and is still owed, or of 0
   pub owed_rises_apart : (kept : P) (x y : Option (Cell P)) → owes y ≡ true → is_apart x y ≡ true → is_apart x (repaid kept y) ≡ true
   owed_rises_apart kept x None owed apart = cc
   owed_rises_apart kept (Some c) (Some d) owed apart = cc
   owed_rises_apart kept None (Some d) owed apart = rw owed (dead_keeps (d.count +ℤ pos 1) (Some kept) (not_above d.count owed))
 
+  -- and can fall if it could
   pub owed_rises_can : (kept : P) (x y : Option (Cell P)) → owes y ≡ true → can_fall x y ≡ true → can_fall x (repaid kept y) ≡ true
   owed_rises_can kept x None owed can = cc
   owed_rises_can kept (Some c) (Some d) owed can = refl
@@ -142,7 +147,7 @@ module _ {P : Type 0} where
   live_alone None None none apart = refl
   live_alone None (Some d) none apart = sym (nothing_is d (owed_none d apart none))
 
-  -- A live cell is raised, or a first one is put.
+  -- what is told where a live cell is raised, or a first one is put
   pub live_rises : (kept : P) (x y : Option (Cell P)) → owes y ≡ false → is_apart x y ≡ true → told (or_else (Some (turned (Some kept) (unwrap_or x nothing))) (repaid kept y)) ≡ told (Some (turned (Some kept) (unwrap_or (or_else x y) nothing)))
   live_rises kept x y none apart = ap (λ c. told (Some (turned (Some kept) c))) (live_alone x y none apart)
 
@@ -152,31 +157,34 @@ module _ {P : Type 0} where
   cleared_apart (Some c) None apart = apart
   cleared_apart (Some c) (Some d) apart = cc
 
-  -- Where no add is owed, a cell of 0 is taken out.
+  -- what is told where no add is owed and a cell of 0 is taken out
   pub none_owed : (kept : P) (x y : Option (Cell P)) → owes y ≡ false → is_apart x y ≡ true → told (or_else x (repaid kept y)) ≡ told (or_else x y)
   none_owed kept (Some c) y none apart = refl
   none_owed kept None None none apart = refl
   none_owed kept None (Some d) none apart = ap told (repaid_none kept (Some d) none) ∙ sym (ap (λ b. cond b None (Some d)) (owed_none d apart none))
 
-  -- A cell of nothing is put among the owed ones, where none stands.
+  -- what is told where a cell of nothing is put among the owed ones
   pub stands : (x y : Option (Cell P)) (c : Cell P) → x ≡ None → y ≡ None → c ≡ nothing → told (or_else x (Some c)) ≡ told (or_else x y)
   stands x y c gone none is = rw (gone, none, is) refl
 
+  -- it is in its part
   pub stands_apart : (x : Option (Cell P)) (c : Cell P) → x ≡ None → c ≡ nothing → is_apart x (Some c) ≡ true
   stands_apart x c gone is = rw (gone, is) refl
 
+  -- and nothing could fall there before
   pub stands_can : (x y : Option (Cell P)) (c : Cell P) → x ≡ None → y ≡ None → can_fall x y ≡ true → can_fall x (Some c) ≡ true
   stands_can x y c gone none can = absurd (false≢true (sym (ap (λ x. can_fall x y) gone ∙ ap (can_fall None) none) ∙ can))
 
-  -- A cell of nothing is taken out of the owed ones.
+  -- what is told where a cell of nothing is taken out of the owed ones
   pub cleared : (x y : Option (Cell P)) → is_empty y ≡ true → is_apart x y ≡ true → told (or_else x None) ≡ told (or_else x y)
   cleared x None empty apart = cc
   cleared (Some c) (Some d) empty apart = cc
   cleared None (Some d) empty apart = sym (ap (λ b. cond b None (Some d)) empty)
 
-  -- What is left of a lowered cell, by the test of it.
+  -- nothing is left of a cell that is lowered to nothing
   pub lowered_gone : (x : Option (Cell P)) (c v : Cell P) → x ≡ Some c → v ≡ turned None c → is_nothing v ≡ true → lowered x ≡ None
   lowered_gone x c v there is nil = ap lowered there ∙ ap (λ b. cond b None (Some (turned None c))) (ap is_nothing (sym is) ∙ nil)
 
+  -- and else what it is lowered to
   pub lowered_left : (x : Option (Cell P)) (c v : Cell P) → x ≡ Some c → v ≡ turned None c → is_nothing v ≡ false → lowered x ≡ Some v
   lowered_left x c v there is some = ap lowered there ∙ (ap (λ b. cond b None (Some (turned None c))) (ap is_nothing (sym is) ∙ some) ∙ ap Some (sym is))

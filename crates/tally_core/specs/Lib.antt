@@ -3,6 +3,7 @@ pub mod Sparse
 pub mod Cells
 pub mod Parted
 pub mod Room
+pub mod Turn
 pub mod Shared
 pub mod Live
 pub mod Changes

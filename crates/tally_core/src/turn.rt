@@ -8,7 +8,8 @@ ghost use Rattle.tally_core.specs.declared.place.Place as the_place;
 ghost use Rattle.tally_core.specs.Places.{place_cmp, place};
 ghost use Rattle.tally_core.specs.Cells.{turn, turned, changed, lowers, cell, nothing};
 ghost use Rattle.tally_core.specs.Parted.{IsParted, seen_of};
-ghost use Rattle.tally_core.specs.Room.{CanFall, CanLower, Puts, can_fall, is_within, lowered, owes, repaid};
+ghost use Rattle.tally_core.specs.Room.{CanFall, CanLower, can_fall, is_within};
+ghost use Rattle.tally_core.specs.Turn.{Puts, lowered, owes, repaid};
 
 use crate::parted::Parted;
 use crate::place::{Cell, Place};

@@ -1,7 +1,7 @@
 use Rattle.std.proofs.Common.{rules, Some, sym, subst, ◌∙◌}
 use Rattle.std.specs.BTreeMap.{get}
 use Rattle.tally_core.specs.Places.{place, place_cmp}
-use Rattle.tally_core.specs.Room.{repaid}
+use Rattle.tally_core.specs.Turn.{repaid}
 use Rattle.tally_core.proofs.Kept.{Updated}
 use Rattle.tally_core.proofs.Parts.{stays, seen_turned, seen_kept, apart_kept, can_kept}
 use Rattle.tally_core.proofs.Turned.{owed_rises, owed_rises_apart, owed_rises_can, live_rises, none_owed}

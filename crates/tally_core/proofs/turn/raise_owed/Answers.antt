@@ -1,6 +1,6 @@
 use Rattle.std.proofs.Common.{ap, sym, refl}
 use Rattle.tally_core.specs.Places.{place}
-use Rattle.tally_core.specs.Room.{repaid}
+use Rattle.tally_core.specs.Turn.{repaid}
 use Rattle.tally_core.proofs.Parts.{stays_none}
 use Rattle.tally_core.proofs.turn.raise_owed.Goals as goal
 
