@@ -46,14 +46,14 @@ run_texts false b c setup texts trails = texts
 -- two runs that the same words and bytes ask for
 one_run : (words : List (List ℕ)) (bytes : List ℕ) (taken again : Option (List ℕ)) (one two : Owed) → IsPlayed (given_bytes words bytes taken) one → IsPlayed (given_bytes words bytes again) two → AreAlike one two
 one_run words bytes taken again one two p q =
-    let read : p.run.read ≡ q.run.read = one_script bytes p.run.read q.run.read (script_said bytes one.book p.run) (script_said bytes two.book q.run) in
-    let script : Script = p.run.read.script in
-    let ran : IsRunOf script two.book = subst (λ read. IsRunOf read.script two.book) (sym read) q.run.run in
+    let read : p.run.script ≡ q.run.script = one_script bytes p.run.script q.run.script (script_said bytes one.book p.run) (script_said bytes two.book q.run) in
+    let script : Script = p.run.script in
+    let ran : IsRunOf script two.book = subst (λ script. IsRunOf script two.book) (sym read) q.run.run in
     let book = one_book script one.book two.book p.run.run ran in
     let trails = same_trail_texts script one.book two.book (are_runs script one.book two.book p.run.run ran) in
     let flag : p.trail ≡ q.trail = one_flag p.trail q.trail (sym p.form ∙ q.form) in
-    let text : run_text p.trail one.book (setup_of script) ≡ run_text q.trail two.book (setup_of q.run.read.script) =
-    run_texts p.trail one.book two.book (setup_of script) book.texts trails ∙ λ i. run_text (flag i) two.book (setup_of (read i).script) in
+    let text : run_text p.trail one.book (setup_of script) ≡ run_text q.trail two.book (setup_of q.run.script) =
+    run_texts p.trail one.book two.book (setup_of script) book.texts trails ∙ λ i. run_text (flag i) two.book (setup_of (read i)) in
     record { status = p.status ∙ sym q.status; text = p.text ∙ (text ∙ sym q.text); book = book }
 
 -- a question is a form that the program knows

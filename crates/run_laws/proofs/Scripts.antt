@@ -3,17 +3,17 @@ use Rattle.std.proofs.Common.{◌≡◌, ℕ, List, sym, ap, ◌∙◌}
 use Rattle.std.specs.Prelude.{Some, Ok, Err}
 use Rattle.script_reader.specs.declared.fault.Cause.{Cause}
 use Rattle.script_reader.specs.declared.fault.ScriptFault.TheVariants.{Refused}
-use Rattle.script_reader.specs.declared.reading.ReadScript.{ReadScript}
+use Rattle.script_text.specs.declared.script.Script.{Script}
 use Rattle.script_reader.specs.Scripts.{script_read}
 use Rattle.run_book.specs.declared.book.Book.{Book}
 use Rattle.top_call.specs.Runs.{IsCausalRun, IsRefusedAt, refusal_text}
 
 -- the bytes of a script are one script
-pub one_script : (bytes : List ℕ) (s t : ReadScript) → script_read bytes ≡ Ok s → script_read bytes ≡ Ok t → s ≡ t
+pub one_script : (bytes : List ℕ) (s t : Script) → script_read bytes ≡ Ok s → script_read bytes ≡ Ok t → s ≡ t
 one_script bytes s t is too = let both : Ok s ≡ Ok t = sym is ∙ too in cc
 
 -- the script of a run is what its input says
-pub script_said : (bytes : List ℕ) (book : Book) (run : IsCausalRun (Some bytes) book) → script_read bytes ≡ Ok run.read
+pub script_said : (bytes : List ℕ) (book : Book) (run : IsCausalRun (Some bytes) book) → script_read bytes ≡ Ok run.script
 script_said bytes book run = ap script_read run.input ∙ run.spelled
 
 -- so is the line at fault, and the cause
@@ -22,7 +22,7 @@ fault_said bytes line cause refused = ap script_read refused.input ∙ refused.f
 
 -- bytes that are a script are not refused
 pub not_refused : (bytes : List ℕ) (book : Book) (line : ℕ) (cause : Cause) → IsCausalRun (Some bytes) book → IsRefusedAt (Some bytes) line cause → ⊥
-not_refused bytes book line cause run refused = absurd (let both : Ok run.read ≡ Err (Refused line cause) = sym (script_said bytes book run) ∙ fault_said bytes line cause refused in cc)
+not_refused bytes book line cause run refused = absurd (let both : Ok run.script ≡ Err (Refused line cause) = sym (script_said bytes book run) ∙ fault_said bytes line cause refused in cc)
 
 -- the same bytes are refused by the same line
 pub one_refusal : (bytes : List ℕ) (m n : ℕ) (why cause : Cause) → IsRefusedAt (Some bytes) m why → IsRefusedAt (Some bytes) n cause → refusal_text m why ≡ refusal_text n cause

@@ -1,7 +1,6 @@
 // The laws of runs. Each is a function with nothing to do, whose contract is the law.
 ghost use Rattle.std.specs.Prelude.{◌≡◌, ℕ, List, Ok, Option};
 ghost use Rattle.script_text.specs.declared.script.Script.{Script};
-ghost use Rattle.script_reader.specs.declared.reading.ReadScript.{ReadScript};
 ghost use Rattle.script_reader.specs.Scripts.{script_read};
 ghost use Rattle.world_core.specs.Runs.{IsRunOf};
 ghost use Rattle.top_call.specs.Runs.{IsOwed};
@@ -20,7 +19,7 @@ pub fn law_one_book(book: &Book, other: &Book)
 
 /// The bytes of a script are one script: what they say can be read in one way alone.
 pub fn law_one_script()
-    ensures { (bytes : List ℕ) (s t : ReadScript) → script_read bytes ≡ Ok s → script_read bytes ≡ Ok t → s ≡ t }
+    ensures { (bytes : List ℕ) (s t : Script) → script_read bytes ≡ Ok s → script_read bytes ≡ Ok t → s ≡ t }
 {}
 
 /// The output follows from the input. What the program owes for its words and the bytes of its input is one status,

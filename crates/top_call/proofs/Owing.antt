@@ -6,14 +6,13 @@ use Rattle.io_edge.specs.Streams.{TookFront, puts_back, puts_behind}
 use Rattle.script_text.specs.Limits.{PassesLimits}
 use Rattle.script_reader.specs.declared.fault.Cause.{Cause}
 use Rattle.script_reader.specs.declared.fault.ScriptFault.TheVariants.{Refused as RefusedAt}
-use Rattle.script_reader.specs.declared.reading.ReadScript.{ReadScript}
-use Rattle.script_reader.specs.Ranges.{IsInRange as IsReadInRange}
+use Rattle.script_text.specs.declared.script.Script.{Script}
 use Rattle.script_reader.specs.Scripts.{script_read}
 use Rattle.script_reader.proofs.CutOff.{cut_off, past_is_none}
 use Rattle.run_book.specs.Setups.{setup_of}
 use Rattle.run_book.proofs.Causal.Theorem.{causal}
 use Rattle.run_book.specs.declared.book.Book.{Book}
-use Rattle.world_core.specs.Runs.{IsInRange, IsRunOf}
+use Rattle.world_core.specs.Runs.{IsRunOf}
 use Rattle.top_call.specs.declared.engine.Owed.{Owed}
 use Rattle.top_call.specs.declared.top.Ended.{Ended}
 use Rattle.top_call.specs.Runs.{Given, IsAnswerable, IsCausalRun, IsDone, IsRefusedAt, IsOwed, IsPlay, IsServed, Played, Made, Told, Done, Refused, Misused, IsPlayed, IsSomeScript, IsStatus, EndsSo, Plays, Wrote, empty_book, given_script, run_text, told_text}
@@ -21,23 +20,19 @@ use Rattle.command_line.specs.declared.form.Form.{Form}
 use Rattle.command_line.specs.declared.form.Form.TheVariants.{Serial, Make, Help, Version}
 use Rattle.command_line.specs.Forms.{spelled}
 
--- a script that was read has its numbers in range
-pub in_range : (read : ReadScript) → IsReadInRange read → IsInRange read.script
-in_range read is = record { header = is.header; cache = is.cache; limit = is.limit; lines = is.lines; few = is.few }
-
 -- what is owed for a script is a run of its steps
-pub run_plays : (trail : Bool) (bytes : List ℕ) (read : ReadScript) (owed : Owed) → script_read bytes ≡ Ok read → owed.status ≡ 0 → IsRunOf read.script owed.book → owed.text.items ≡ run_text trail owed.book (setup_of read.script) → owed.fault ≡ None → IsPlayed (given_script trail (Some bytes)) owed
-run_plays trail bytes read owed spelled status run text sound = record {
+pub run_plays : (trail : Bool) (bytes : List ℕ) (script : Script) (owed : Owed) → script_read bytes ≡ Ok script → owed.status ≡ 0 → IsRunOf script owed.book → owed.text.items ≡ run_text trail owed.book (setup_of script) → owed.fault ≡ None → IsPlayed (given_script trail (Some bytes)) owed
+run_plays trail bytes script owed spelled status run text sound = record {
   trail = trail;
   form = refl;
   status = status;
   run = record {
     bytes = bytes;
     input = refl;
-    read = read;
+    script = script;
     spelled = spelled;
     run = run;
-    causal = causal owed.book (setup_of read.script) run.fits;
+    causal = causal owed.book (setup_of script) run.fits;
   };
   text = text;
   sound = sound;
@@ -116,7 +111,7 @@ owed_left trail old new bytes past owed parts limits whole (Done d) = Done (Play
   run = record {
     bytes = bytes;
     input = subst (λ left. IfSome left (λ all. all ≡ bytes)) (sym parts) (all_read bytes new (whole_of bytes past new within limits whole));
-    read = p.run.read;
+    script = p.run.script;
     spelled = spells;
     run = p.run.run;
     causal = p.run.causal;
@@ -128,11 +123,11 @@ owed_left trail old new bytes past owed parts limits whole (Done d) = Done (Play
     p : IsPlayed (given_script trail (Some bytes)) owed
     p = played_of (given_script trail (Some bytes)) owed (trail, refl) d
 
-    spells : script_read bytes ≡ Ok p.run.read
+    spells : script_read bytes ≡ Ok p.run.script
     spells = ap script_read p.run.input ∙ p.run.spelled
 
     within : PassesLimits bytes → ⊥
-    within past = past_is_none bytes p.run.read past spells
+    within past = past_is_none bytes p.run.script past spells
 owed_left trail old new bytes past owed parts limits whole (Refused r) = Refused (record {
   form = r.form;
   status = r.status;
@@ -153,13 +148,13 @@ owed_left trail old new bytes past owed parts limits whole (Misused u) = absurd 
 pub end_met : (trail : Bool) (new : Option (List ℕ)) (bytes : List ℕ) (past : Bool) (owed : Owed) → (IsTrue past ↔ PassesLimits bytes) → (past ≡ false → IfSome new (λ rest. rest ≡ [])) → IsOwed (given_script trail (Some bytes)) owed → owed.status ≡ 0 → IfSome new (λ rest. rest ≡ [])
 end_met trail new bytes past owed limits whole (Done d) zero =
     let p = played_of (given_script trail (Some bytes)) owed (trail, refl) d in
-    whole_of bytes past new (λ over. past_is_none bytes p.run.read over (ap script_read p.run.input ∙ p.run.spelled)) limits whole
+    whole_of bytes past new (λ over. past_is_none bytes p.run.script over (ap script_read p.run.input ∙ p.run.spelled)) limits whole
 end_met trail new bytes past owed limits whole (Refused r) zero = absurd (omega (arith, zero, r.status))
 end_met trail new bytes past owed limits whole (Misused u) zero = absurd (omega (arith, zero, u.status))
 
 -- a run of what a source had left
 abbrev run_left : (left other : Option (List ℕ)) (book : Book) → left ≡ other → IsCausalRun left book → IsCausalRun other book
-run_left left other book same run = record { bytes = run.bytes; input = subst (λ l. IfSome l (λ all. all ≡ run.bytes)) same run.input; read = run.read; spelled = run.spelled; run = run.run; causal = run.causal }
+run_left left other book same run = record { bytes = run.bytes; input = subst (λ l. IfSome l (λ all. all ≡ run.bytes)) same run.input; script = run.script; spelled = run.spelled; run = run.run; causal = run.causal }
 
 -- what is owed for a script is owed for the words that play it, whatever the sink has
 pub owed_given : (trail : Bool) (given : Given) (left : Option (List ℕ)) (owed : Owed) → given.words ≡ spelled (Serial trail) → given.left ≡ left → IsOwed (given_script trail left) owed → IsOwed given owed
@@ -252,7 +247,7 @@ owed_status given owed (Misused u) = (λ four. omega (arith, four, u.status), λ
 -- what a source tells is not both a script and refused
 not_both : (left : Option (List ℕ)) (line : ℕ) (cause : Cause) → IsSomeAnd left IsSomeScript → IsRefusedAt left line cause → ⊥
 not_both None line cause some refused = some
-not_both (Some bytes) line cause (read, spelled) refused = absurd (let both : Ok read ≡ Err (RefusedAt line cause) = sym spelled ∙ (ap script_read refused.input ∙ refused.fault) in cc)
+not_both (Some bytes) line cause (script, spelled) refused = absurd (let both : Ok script ≡ Err (RefusedAt line cause) = sym spelled ∙ (ap script_read refused.input ∙ refused.fault) in cc)
 
 -- what a form wants of the source is there, so nothing is refused
 never_refused : (given : Given) (line : ℕ) (cause : Cause) (asked : Form) → given.words ≡ spelled asked → IsServed asked given.left → Plays given.words → IsRefusedAt given.left line cause → ⊥

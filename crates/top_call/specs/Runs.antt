@@ -9,7 +9,7 @@ use Rattle.command_line.specs.Texts.{help_text, usage_text, version_text}
 use Rattle.io_edge.specs.Streams.{TookFront, puts_behind}
 use Rattle.script_reader.specs.declared.fault.Cause.{Cause}
 use Rattle.script_reader.specs.declared.fault.ScriptFault.TheVariants.{Refused as RefusedAt}
-use Rattle.script_reader.specs.declared.reading.ReadScript.{ReadScript}
+use Rattle.script_text.specs.declared.script.Script.{Script}
 use Rattle.script_reader.specs.Causes.{cause_text}
 use Rattle.script_reader.specs.Scripts.{script_read}
 use Rattle.run_book.specs.declared.book.Book.{Book}
@@ -66,17 +66,17 @@ empty_book = record { n = 1; k = 1; trails = []; logs = [] }
 
 -- the bytes are a script
 abbrev pub IsSomeScript : List ℕ → Type 0
-IsSomeScript bytes = (read : ReadScript) × (script_read bytes ≡ Ok read)
+IsSomeScript bytes = (script : Script) × (script_read bytes ≡ Ok script)
 
 -- all that a source had left, as far as it tells that, are bytes that are a script, and the book is one
 -- of a run of this script and causal
 pub record IsCausalRun (left : Option (List ℕ)) (book : Book) : Type 0 where
   pub bytes : List ℕ
   pub input : IfSome left (λ all. all ≡ bytes)
-  pub read : ReadScript
-  pub spelled : script_read bytes ≡ Ok read
-  pub run : IsRunOf read.script book
-  pub causal : IsCausal book (setup_of read.script)
+  pub script : Script
+  pub spelled : script_read bytes ≡ Ok script
+  pub run : IsRunOf script book
+  pub causal : IsCausal book (setup_of script)
 
 -- all that a source had left, as far as it tells that, are bytes that are no script: the first line at fault has this
 -- number, and this is why it is refused
@@ -93,7 +93,7 @@ pub record IsPlayed (given : Given) (owed : Owed) : Type 0 where
   pub form : given.words ≡ spelled (Serial trail)
   pub status : owed.status ≡ 0
   pub run : IsCausalRun given.left owed.book
-  pub text : owed.text.items ≡ run_text trail owed.book (setup_of run.read.script)
+  pub text : owed.text.items ≡ run_text trail owed.book (setup_of run.script)
   pub sound : owed.fault ≡ None
 
 -- what is owed for a number: status 0, and the script that is made of it

@@ -2,7 +2,8 @@
 ghost use Rattle.std.specs.Prelude.{◌≡◌, Some, None, IfOk};
 ghost use Rattle.run_book.specs.Fit.{FitsWith};
 ghost use Rattle.run_book.specs.Setups.{Setup, setup_of};
-ghost use Rattle.world_core.specs.Runs.{IsInRange, IsRunOf};
+ghost use Rattle.script_text.specs.Scripts.{IsInRange};
+ghost use Rattle.world_core.specs.Runs.{IsRunOf};
 ghost use Rattle.top_call.specs.Runs.{IsOwed, empty_book, given_script, refusal_text, run_text};
 
 use crate::refusal::refusal_line;
@@ -92,13 +93,12 @@ fn script_run(alloc: Global, script: &Script, trail: bool) -> Result<Owed, NoMem
 }
 
 /// What is owed for an input: a script is played, and other bytes are refused.
-#[tactic(auto, using(crate::proofs::Owing::in_range))]
 pub fn owed_for(alloc: Global, bytes: &[u8], trail: bool) -> Result<Owed, NoMemory>
     ensures { IfOk result (IsOwed (given_script trail (Some bytes.now))) }
 {
     match parse(alloc, bytes) {
-        Ok(read) => {
-            let owed = script_run(alloc, &read.script, trail)?;
+        Ok(script) => {
+            let owed = script_run(alloc, &script, trail)?;
             Ok(owed)
         }
         Err(ScriptFault::Refused { line, cause }) => {

@@ -16,12 +16,13 @@ use Rattle.dc_host.specs.declared.kept_door.KeptPlace.{KeptPlace}
 use Rattle.dc_host.specs.Centres.{CentreTrail}
 use Rattle.dc_host.specs.KeptDoors.{KeptView, shown_of, place_of, begun}
 use Rattle.script_text.specs.declared.steps.ClientStep.{ClientStep}
-use Rattle.dc_talk.specs.Acting.{IsAskBehind}
+use Rattle.dc_talk.specs.Acting.{IsAskBehind, acting}
+use Rattle.run_book.specs.Moves.{Does}
 use Rattle.client_stub.specs.Playing.{StubView, IsLinkBehind, Takes, beside}
 use Rattle.run_book.specs.Parts.{idle_log}
 use Rattle.world_core.specs.declared.table.Table.{Table}
 use Rattle.world_core.specs.Worlds.{Turn, log_at}
-use Rattle.world_core.specs.Tables.{AreHistories, log_in, outside, HasStepped, HasAskedOnce}
+use Rattle.world_core.specs.Tables.{AreHistories, log_in, outside, HasStepped, HasWorked, HasMadeRound, HasAskedOnce}
 
 -- the log that was found at a place is the one of the actor behind it
 pub log_found : (logs : List Logged) (place : ℕ) (log : Logged) → place < length logs → log ≡ get_or logs place log → log_at logs (place + 1) ≡ log
@@ -79,5 +80,21 @@ ask_left actor centre ask say old new door found before log range behind begins 
       };
       stubs = stubs;
       posts = posts;
+      turn_is = record { logs = logs; settings = settings_kept actor old.door.centres door new.door begins same; histories = histories };
+    }
+
+-- a worker's round in its turn
+pub round_left : (actor n section number : ℕ) (does : Does) (old new : Table) (door : KeptView) (found before log : Logged) → (1 ≤ actor) × (actor ≤ length old.logs.items) → n ≡ length old.door.centres → door ≡ begun actor old.door.centres → found ≡ get_or old.logs.items (actor - 1) found → before ≡ record found { section = section; step = number } → place_of new.door ≡ place_of door → HasWorked n number does old.posts new.posts (acting (shown_of door) before) (acting (shown_of new.door) log) → new.stubs ≡ old.stubs → new.logs.items ≡ slice_set old.logs.items (actor - 1) log → AreHistories new.door.centres → HasMadeRound (record { actor = actor; section = section; step = number }) does old new
+round_left actor n section number does old new door found before log range count begins found_is before_is same works stubs logs histories =
+    let turn : Turn = record { actor = actor; section = section; step = number } in
+    let own : actor - 1 + 1 ≡ actor = omega (arith, range.0) in
+    let at : log_at old.logs.items actor ≡ found = subst (λ a. log_at old.logs.items a ≡ found) own (log_found old.logs.items (actor - 1) found (omega (arith, range.0, range.1)) found_is) in
+    let first : before ≡ log_in turn (log_at old.logs.items actor) = before_is ∙ ap (log_in turn) (sym at) in
+    record {
+      log = log;
+      works = subst (λ n. HasWorked n number does old.posts new.posts (acting (shown_of (begun actor old.door.centres)) (log_in turn (log_at old.logs.items actor))) (acting (shown_of new.door) log)) count
+          (subst (λ (first : Logged). HasWorked n number does old.posts new.posts (acting (shown_of (begun actor old.door.centres)) first) (acting (shown_of new.door) log)) first
+          (subst (λ (door : KeptView). HasWorked n number does old.posts new.posts (acting (shown_of door) before) (acting (shown_of new.door) log)) begins works));
+      stubs = stubs;
       turn_is = record { logs = logs; settings = settings_kept actor old.door.centres door new.door begins same; histories = histories };
     }

@@ -13,12 +13,14 @@ use Rattle.run_book.specs.declared.book.Book.{Book}
 use Rattle.run_book.specs.Setups.{setup_of}
 use Rattle.run_book.specs.Parts.{trail_of, log_of}
 use Rattle.run_book.specs.Happenings.{Happened, InRange, IsBookOf}
+use Rattle.run_book.specs.Moves.{moves_of}
 use Rattle.run_book.specs.Played.{HavePlayed}
 use Rattle.run_book.proofs.Happenings.Fits.{fits}
 use Rattle.run_book.proofs.Happenings.Timely.{timely}
 use Rattle.run_book.proofs.Happenings.Playing.{scripted}
 use Rattle.world_core.specs.Worlds.{WorldView, IsWorld, log_at}
-use Rattle.world_core.specs.Runs.{IsInRange, IsSound, IsWorldBook, HasPlayed, IsRunOf}
+use Rattle.script_text.specs.Scripts.{IsInRange}
+use Rattle.world_core.specs.Runs.{IsSound, IsWorldBook, HasPlayed, IsRunOf}
 use Rattle.world_core.proofs.Worlds.{centre_count}
 
 -- a trail by its number, in the book and at its centre
@@ -75,13 +77,13 @@ module _ (w : WorldView) (b : Book) (n : b.n ≡ w.script.n) (k : b.k ≡ w.scri
         timely = timely b w.script.n w.script.k (setup_of w.script) sound.all is sound.world.together;
       }
 
--- the book of a world that has played all sections of its script is a run of the script
-pub run_of : {E : Type 0} (script : Script) (w : WorldView) (r : Result Book E) → w.script ≡ script → HasPlayed script.sections w → IfOk r (IsWorldBook w) → IfOk r (IsRunOf script)
+-- the book of a world that has made the moves of its script is a run of the script
+pub run_of : {E : Type 0} (script : Script) (w : WorldView) (r : Result Book E) → w.script ≡ script → HasPlayed (moves_of script) w → IfOk r (IsWorldBook w) → IfOk r (IsRunOf script)
 run_of script w (Err e) same played is = tt
 run_of script w (Ok b) same played is = subst (λ script. IsRunOf script b) same (record {
   n = is.n;
   k = is.k;
   fits = is.fits;
-  steps = scripted w.script b w.script.n w.script.k played.all played.come (book_of w b is.n is.k is.trails is.logs played.all played.world) played.world.together (subst (λ script. HavePlayed w.script.n (setup_of w.script) script.sections played.all played.come) (sym same) played.played);
+  steps = scripted w.script b w.script.n w.script.k played.all played.stage (book_of w b is.n is.k is.trails is.logs played.all played.world) played.world.together (subst (λ script. HavePlayed w.script (moves_of script) played.all played.stage) (sym same) played.played);
   timely = is.timely;
 })

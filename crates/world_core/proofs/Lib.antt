@@ -1,8 +1,12 @@
 pub mod Numbered
 pub mod Acting
+pub mod Mail
 pub mod Worlds
 pub mod Turns
+pub mod Links
+pub mod Rounds
 pub mod Books
-pub mod Lines
+pub mod Making
+pub mod Dealing
 pub mod Naming
 pub mod Outside

@@ -8,7 +8,7 @@ use Rattle.std.proofs.lemmas.Option.{none-some, same_Some}
 use Rattle.std.proofs.Math.Seq.{drop-cons}
 use Rattle.list_core.specs.Choices.{when}
 use Rattle.list_core.specs.Members.{In}
-use Rattle.list_core.proofs.Gets.{get_In, all_get}
+use Rattle.list_core.proofs.Gets.{get_In, In_get, all_get}
 use Rattle.list_core.proofs.Passing.{In_from_filter_map}
 use Rattle.script_text.specs.declared.script.Script.{Script}
 use Rattle.script_text.specs.declared.steps.ClientStep.{ClientStep}
@@ -17,9 +17,9 @@ use Rattle.script_text.specs.declared.steps.Section.{Section}
 use Rattle.script_text.specs.declared.steps.Step.{Step}
 use Rattle.script_text.specs.declared.steps.Step.TheVariants.{Client, Operator}
 use Rattle.script_text.specs.Steps.{IsCount, IsStep, IsOperatorStep, IsStepOf}
-use Rattle.script_text.specs.Rows.{IsLine}
+use Rattle.script_text.specs.Rows.{IsLine, IsInPhase, IsPhase, IsSection}
 use Rattle.script_text.specs.Scripts.{header_of}
-use Rattle.run_book.specs.Scripted.{client_step, operator_step, client_steps, operator_steps}
+use Rattle.run_book.specs.Moves.{client_step, operator_step, client_steps, operator_steps}
 use Rattle.world_core.specs.Events.{numbered, step_named}
 
 -- ---- by number
@@ -83,17 +83,23 @@ comes f (Some x) y is = record { from = x; there = refl; gives = is }
 numbered_in : {X : Type 0} (xs : List X) (number : ℕ) (x : X) → numbered xs number ≡ Some x → In x xs
 numbered_in xs number x is = let from = comes (λ place. slice_get xs place) (when (nat_le 1 number) (number - 1)) x is in get_In xs from.from x from.gives
 
-module _ (script : Script) (lines : All (IsLine (header_of script)) script.sections) where
+module _ (script : Script) (sections : All (IsSection (header_of script)) script.sections) where
   -- a step of a section is one of the script's
   step_is : (number : ℕ) (section : Section) (step : Step) → numbered script.sections number ≡ Some section → In step section.steps → IsStepOf (header_of script) step
   step_is number section step there has =
       let at = comes (λ place. slice_get script.sections place) (when (nat_le 1 number) (number - 1)) section there in
-      let line = all_get (IsLine (header_of script)) script.sections at.from section lines at.gives in
-      let only : In step (line.0 ∷ []) = subst (λ (section : Section). In step section.steps) line.1 has in
-      one line.0 line.2 only
+      ⊎_elim
+      (λ (line : IsLine (header_of script) section).
+          let only : In step (line.0 ∷ []) = subst (λ (section : Section). In step section.steps) line.1 has in
+          one line.0 line.2 only)
+      (λ (phase : IsPhase (header_of script) section). (each (λ step. IsStepOf (header_of script) step × IsInPhase step) section.steps step phase.steps has).0)
+      (all_get (IsSection (header_of script)) script.sections at.from section sections at.gives)
     where
       one : (it : Step) → IsStepOf (header_of script) it → In step (it ∷ []) → IsStepOf (header_of script) step
       one it is has = ⊎_elim (λ same. subst (IsStepOf (header_of script)) (sym same) is) (λ none. absurd none) has
+
+      each : (P : Step → Type 0) (steps : List Step) (step : Step) → All P steps → In step steps → P step
+      each P steps step all has = let at = In_get steps step has in all_get P steps at.0 step all at.1
 
   -- a step of a client that was found
   pub client_named : (client section number : ℕ) (does : ClientStep) → Some does ≡ step_named (client_steps client) script section number → IsCount script.clients client × IsStep script.n does

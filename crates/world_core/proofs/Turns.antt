@@ -54,7 +54,7 @@ allows_does turn s log (deed ∷ deeds) section step allowed =
     )
 
 -- asks of centres behind the door go to centres that there are
-behind_go : (door : DoorView) (n : ℕ) (turn : Turn) (deeds : List Deed) → door.centres ≡ n → All (IsAskBehind door) deeds → All (GoesToOneOf n) (map (λ (note : Note). note.deed) (notes_in turn deeds))
+pub behind_go : (door : DoorView) (n : ℕ) (turn : Turn) (deeds : List Deed) → door.centres ≡ n → All (IsAskBehind door) deeds → All (GoesToOneOf n) (map (λ (note : Note). note.deed) (notes_in turn deeds))
 behind_go door n turn deeds count behind = subst (All (GoesToOneOf n)) (sym (deeds_marked turn.section turn.step deeds)) (All-weaker (IsAskBehind door) (GoesToOneOf n) each deeds behind)
   where
     each : (deed : Deed) → IsAskBehind door deed → GoesToOneOf n deed
@@ -63,7 +63,7 @@ behind_go door n turn deeds count behind = subst (All (GoesToOneOf n)) (sym (dee
     each (Told line) here = tt
 
 -- each trail ends with the entries of what was done through a door that is alone
-trails_made : (actor : ℕ) (old : List CentreTrail) (door : DoorView) (deeds : List Deed) → HasDone (shown_of (begun actor old)) door deeds → (i : ℕ) → door.seen i ≡ trail_at old i ++ entries_made actor i deeds
+pub trails_made : (actor : ℕ) (old : List CentreTrail) (door : DoorView) (deeds : List Deed) → HasDone (shown_of (begun actor old)) door deeds → (i : ℕ) → door.seen i ≡ trail_at old i ++ entries_made actor i deeds
 trails_made actor old door deeds done i = done.seen i ∙ ap (λ es. trail_at old i ++ es) (done.alone refl i)
 
 -- a client after deeds is the one of its notes

@@ -1,5 +1,5 @@
 // The parts of a world, and the steps that change them.
-ghost use Rattle.std.specs.Prelude.{◌≡◌, ◌≤◌, ◌<◌, ℕ, ◌+◌, ◌-◌, ◌*◌, length, Some, IfOk, OnOk, slice_get};
+ghost use Rattle.std.specs.Prelude.{◌≡◌, ◌≤◌, ◌<◌, ℕ, ◌+◌, ◌-◌, ◌*◌, List, length, Some, IfOk, OnOk, slice_get};
 ghost use Rattle.ids_core.specs.declared.limits.TheConstants.{MOST_CENTRES, MOST_CLIENTS};
 ghost use Rattle.script_text.specs.Steps.{IsStep, IsOperatorStep};
 ghost use Rattle.client_stub.specs.Playing.{StubView, IsLinkBehind};
@@ -7,7 +7,9 @@ ghost use Rattle.dc_host.specs.KeptDoors.{shown_of};
 ghost use Rattle.script_text.specs.Scripts.{IsInRange};
 ghost use Rattle.world_core.specs.Tables.{new_stubs, new_logs, IsNew, HasStepped, HasOperated, HasMadeRound, HasAskedOnce};
 ghost use Rattle.world_core.specs.Works.{work_of};
-ghost use Rattle.run_book.specs.Moves.{actor_of};
+ghost use Rattle.run_book.specs.Moves.{actor_of, operator_does};
+ghost use Rattle.dc_talk.specs.declared.log.Deed.{Deed as DeedOf};
+ghost use Rattle.world_core.specs.Worlds.{HasPosts};
 
 use crate::works::{Work, make_round};
 use client_session::Session;
@@ -41,6 +43,17 @@ fn stubs_of(alloc: Global, n: u8, cache: usize, clients: u32) -> Result<Vec<Stub
         stubs.push(Stub::new(session))?;
     }
     Ok(stubs)
+}
+
+// Sets the fault of a link between `n` centres, where the operator's step does.
+fn set_link(posts: &mut Posts, n: u8, step: &OperatorStep)
+    requires few { n ≤ MOST_CENTRES }
+    requires fits { IsOperatorStep n step.now }
+    ensures { (deeds : List DeedOf) → HasPosts n (operator_does step.now) deeds posts.old posts.new }
+{
+    if let OperatorStep::Link { from, to, fault } = step {
+        posts.set(*from, *to, *fault);
+    }
 }
 
 // So many empty logs.
@@ -117,9 +130,7 @@ impl Table {
         let log = &mut self.logs[0];
         log.set(section, number);
         operate(&mut self.door, n, step, log)?;
-        if let OperatorStep::Link { from, to, fault } = step {
-            self.posts.set(*from, *to, *fault);
-        }
+        set_link(&mut self.posts, n, step);
         self.door.histories();
         Ok(())
     }

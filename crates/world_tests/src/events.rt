@@ -1,5 +1,5 @@
 // Two hundred lists of events, each played in a world, with its book looked at slowly.
-ghost use Rattle.world_core.specs.Runs.{IsInRange};
+ghost use Rattle.script_text.specs.Scripts.{IsInRange};
 
 use crate::checker::{Verdict, verdict_on};
 use crate::dice::{Dice, Order, Plan};

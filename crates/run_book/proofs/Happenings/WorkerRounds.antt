@@ -39,7 +39,7 @@ worker_carries n clients i Pruner range = record { who = inr (omega arith, omega
 
 module _ (n : ℕ) where
   -- the others are centres that there are
-  others_within : (i j : ℕ) → In j (others n i) → IsCount n j
+  pub others_within : (i j : ℕ) → In j (others n i) → IsCount n j
   others_within i j there =
       let low = In_from_range 1 n j (In_from_filter (λ j. not (j == i)) (centres n) j there).0 in
       (low.0, omega (arith, low.1))

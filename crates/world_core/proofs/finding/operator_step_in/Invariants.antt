@@ -1,6 +1,6 @@
 use Rattle.std.proofs.Common.{◌≡◌, drop}
 use Rattle.std.specs.List.{filter_map}
-use Rattle.run_book.specs.Scripted.{operator_step}
+use Rattle.run_book.specs.Moves.{operator_step}
 use Rattle.world_core.specs.Events.{numbered}
 use Rattle.world_core.proofs.finding.operator_step_in.Given as goal
 
