@@ -7,6 +7,6 @@ pub mod Links
 pub mod Rounds
 pub mod Books
 pub mod Making
-pub mod Dealing
+pub mod Dealt
 pub mod Naming
 pub mod Outside
