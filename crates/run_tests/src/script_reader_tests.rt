@@ -2,7 +2,7 @@
 // of the language, and were not taken from the reader.
 use dc_talk::{Change, LinkFault};
 use ids_core::Sort;
-use script_reader::{Cause, ScriptFault, parse};
+use script_reader::{Cause, ScriptFault, law_script_in_range, parse};
 use script_text::{AskFault, ClientStep, OperatorStep, Section, Step};
 use std::alloc::Global;
 use std::test::Fail;
@@ -278,6 +278,7 @@ fn puts_at(sections: &[Section], place: usize, name: &[u8], key: &[u8], word: &[
 
 #[test]
 fn a_script_has_its_settings_and_steps(rt: HostRuntime) -> Result<(), Fail> {
+    law_script_in_range();
     let text =
         b"centres 1 k 1\nclients 1024\nlimit 7\ncache 100000\nc1024 connect 1\nc1 put m.m k w_1\nc1 inc c.a_9 -5";
     let script = parse(rt.alloc(), text)?;

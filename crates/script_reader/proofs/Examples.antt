@@ -1,6 +1,16 @@
--- Scripts that are refused, by the definitions alone: the line and the cause.
-use Rattle.std.proofs.Common.{◌≡◌, ℕ, List, ◌++◌, refl}
-use Rattle.std.specs.Prelude.{codes, Err}
+-- Scripts that are refused, by the definitions alone, with the line and the cause, and scripts that are taken, with their
+-- sections.
+use Rattle.std.proofs.Common.{◌≡◌, ℕ, List, [], ◌∷◌, ◌++◌, refl}
+use Rattle.std.specs.Prelude.{codes, Ok, Err}
+use Rattle.ids_core.specs.declared.limits.TheConstants.{MOST_RECORDS}
+use Rattle.dc_talk.specs.declared.links.LinkFault.TheVariants as fault
+use Rattle.script_text.specs.declared.script.Script.{Script}
+use Rattle.script_text.specs.declared.script.TheConstants.{DEFAULT_CACHE, DEFAULT_THREADS, DEFAULT_ROUNDS}
+use Rattle.script_text.specs.declared.steps.Section.{Section}
+use Rattle.script_text.specs.declared.steps.ClientStep.TheVariants.{Begin}
+use Rattle.script_text.specs.declared.steps.OperatorStep.TheVariants.{Down, Up, Link, Settle}
+use Rattle.script_text.specs.declared.steps.Step.TheVariants.{Client, Operator}
+use Rattle.script_text.specs.Rows.{phase_of, section_of}
 use Rattle.script_reader.specs.declared.fault.Cause.{Cause}
 use Rattle.script_reader.specs.declared.fault.Cause.TheVariants as cause
 use Rattle.script_reader.specs.declared.fault.ScriptFault.TheVariants.{Refused}
@@ -152,3 +162,29 @@ a_fault_of_too_many_items = refl
 a_link_to_the_same_centre : RefusedAt 3 (codes "link 2 2 twice 1\n") cause.Range
 unfolding script_read words_of number_in delta_in object_named form_among said_word row_of row_in_text row_in may_stand read_more
 a_link_to_the_same_centre = refl
+
+-- ---- scripts that are taken
+
+-- the script with these sections, of two centres, with one client and no settings
+abbrev plain_script : List Section → Script
+plain_script sections = record { n = 2; k = 1; clients = 1; cache = DEFAULT_CACHE; limit = MOST_RECORDS; threads = DEFAULT_THREADS; rounds = DEFAULT_ROUNDS; sections = sections }
+
+-- these lines behind the header of such a script are these sections
+abbrev Reads : List ℕ → List Section → Type 0
+Reads lines sections = script_read (codes "centres 2 k 1\nclients 1\n" ++ lines) ≡ Ok (plain_script sections)
+
+an_empty_phase : Reads (codes "phase\nend\n") (phase_of [] ∷ [])
+unfolding script_read words_of number_in delta_in object_named form_among said_word row_of row_in_text row_in may_stand read_more
+an_empty_phase = refl
+
+steps_around_a_phase : Reads (codes "settle\nphase\nc1 begin\n# a\ndown 1\nend\nup 1\n") (section_of (Operator Settle) ∷ phase_of (Client 1 Begin ∷ Operator (Down 1) ∷ []) ∷ section_of (Operator (Up 1)) ∷ [])
+unfolding script_read words_of number_in delta_in object_named form_among said_word row_of row_in_text row_in may_stand read_more
+steps_around_a_phase = refl
+
+two_phases : Reads (codes "phase\nup 1\nend\nphase\ndown 2\nend\n") (phase_of (Operator (Up 1) ∷ []) ∷ phase_of (Operator (Down 2) ∷ []) ∷ [])
+unfolding script_read words_of number_in delta_in object_named form_among said_word row_of row_in_text row_in may_stand read_more
+two_phases = refl
+
+faults_of_links : Reads (codes "link 1 2 hold 3\nlink 2 1 drop 1\nlink 1 2 twice 2\nlink 1 2 clean\n") (section_of (Operator (Link 1 2 (fault.Hold 3))) ∷ section_of (Operator (Link 2 1 (fault.Drop 1))) ∷ section_of (Operator (Link 1 2 (fault.Twice 2))) ∷ section_of (Operator (Link 1 2 fault.Clean)) ∷ [])
+unfolding script_read words_of number_in delta_in object_named form_among said_word row_of row_in_text row_in may_stand read_more
+faults_of_links = refl

@@ -5,6 +5,7 @@
 mod fault;
 mod fit;
 mod form;
+mod laws;
 mod lines;
 mod names;
 mod numbers;
@@ -15,4 +16,5 @@ mod scripts;
 mod words;
 
 pub use fault::{Cause, ScriptFault};
+pub use laws::law_script_in_range;
 pub use scripts::parse;
