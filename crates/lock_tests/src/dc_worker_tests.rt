@@ -1,0 +1,249 @@
+// Rounds of workers, over a door that answers from a list, and over links on one thread.
+ghost use Rattle.std.specs.Prelude.{◌≡◌, IfSome, IfOk};
+ghost use Rattle.dc_worker.specs.Inlets.{HasCount};
+
+use dc_talk::{Ask, LinkFault, ListDoor, Log, Records, Say};
+use dc_worker::{
+    Inlet, bring, bring_rest, drain_round, mail_for, prune_round, report_round, send_round,
+    take_round,
+};
+use ids_core::Dot;
+use mail_link::{Giver, Link};
+use samples::{counter, inc_tx, pair};
+use std::alloc::Global;
+use std::sync::Wait;
+use std::test::Fail;
+use tx_core::Record;
+use vv_core::Stamp;
+
+// The record of centre 1 with this number.
+fn record(alloc: Global, seq: u64) -> Result<Record, Fail> {
+    let (stamp, dot) = (
+        Stamp { centre: 1, seq },
+        Dot {
+            client: 1,
+            number: seq,
+        },
+    );
+    let deps = pair(0, 0);
+    let tx = inc_tx(alloc, dot, seq, deps, &counter("a")?, &[5])?;
+    Ok(Record { stamp, deps, tx })
+}
+
+// The records of centre 1 behind the first so many, up to this number.
+fn records(alloc: Global, after: u64, last: u64) -> Result<Vec<Record>, Fail> {
+    let mut list = Vec::new(alloc);
+    for seq in 1..=last {
+        if seq > after {
+            list.push(record(alloc, seq)?)?;
+        }
+    }
+    Ok(list)
+}
+
+// A door that gives two answers, and behind them those of stopped centres.
+fn door_of(alloc: Global, first: Say, second: Say) -> Result<ListDoor, Fail> {
+    let mut says = Vec::new(alloc);
+    says.push(first)?;
+    says.push(second)?;
+    Ok(ListDoor::new(alloc, says))
+}
+
+// An answer that tells what a centre has: no record of centre 1.
+fn has_none() -> Say {
+    Say::Vector { vector: pair(0, 0) }
+}
+
+// An answer with the first records of centre 1, up to this number.
+fn sends(alloc: Global, last: u64) -> Result<Say, Fail> {
+    let list = Records::from_vec(records(alloc, 0, last)?);
+    Ok(Say::Records { list })
+}
+
+// A number for an ask: that of a record that it delivers, or a hundred and more.
+fn number_of(ask: &Ask) -> u64 {
+    match ask {
+        Ask::Report => 101,
+        Ask::Send { after: 0, most } => 1000 + u64::from(*most),
+        Ask::Deliver { item } => item.stamp.seq,
+        Ask::Learn { .. } => 102,
+        Ask::Prune => 103,
+        _ => 104,
+    }
+}
+
+// The asks that went to a centre, in order.
+fn asks(alloc: Global, door: &ListDoor, centre: u8) -> Result<Vec<u64>, Fail> {
+    let mut numbers = Vec::new(alloc);
+    for (at, entry) in door.entries() {
+        if *at == centre {
+            numbers.push(number_of(&entry.ask))?;
+        }
+    }
+    Ok(numbers)
+}
+
+// What is delivered to a centre that is stopped of so many records in one round, and of more in a closing one, where a
+// second fault may be set between them.
+fn came(
+    alloc: Global,
+    first: LinkFault,
+    most: u64,
+    second: Option<LinkFault>,
+    last: u64,
+) -> Result<Vec<u64>, Fail>
+    requires first { HasCount first }
+    requires second { IfSome second HasCount }
+{
+    let mut door = ListDoor::new(alloc, Vec::new(alloc));
+    let mut log = Log::new(alloc, 1);
+    let mut inlet = Inlet::new();
+    inlet.set(first);
+    bring(&mut door, 2, &mut inlet, records(alloc, 0, most)?, &mut log)?;
+    if let Some(fault) = second {
+        inlet.set(fault);
+    }
+    bring_rest(
+        &mut door,
+        2,
+        &mut inlet,
+        records(alloc, most, last)?,
+        &mut log,
+    )?;
+    asks(alloc, &door, 2)
+}
+
+#[test]
+fn a_fault_acts_on_each_so_many_th_record(rt: HostRuntime) -> Result<(), Fail> {
+    let alloc = rt.alloc();
+    let (drop, twice) = (LinkFault::Drop { every: 2 }, LinkFault::Twice { every: 2 });
+    let clean = came(alloc, LinkFault::Clean, 2, None, 3)?;
+    assert!(rt; clean.as_slice() == [1, 2, 3].as_slice());
+    let dropped = came(alloc, drop, 3, None, 5)?;
+    assert!(rt; dropped.as_slice() == [1, 3, 5].as_slice());
+    let doubled = came(alloc, twice, 1, None, 4)?;
+    assert!(rt; doubled.as_slice() == [1, 2, 2, 3, 4, 4].as_slice());
+    Ok(())
+}
+
+#[test]
+fn a_fault_of_each_one_acts_on_all(rt: HostRuntime) -> Result<(), Fail> {
+    let alloc = rt.alloc();
+    let dropped = came(alloc, LinkFault::Drop { every: 1 }, 1, None, 3)?;
+    assert!(rt; dropped.is_empty());
+    let doubled = came(alloc, LinkFault::Twice { every: 1 }, 1, None, 2)?;
+    assert!(rt; doubled.as_slice() == [1, 1, 2, 2].as_slice());
+    let held = came(alloc, LinkFault::Hold { every: 1 }, 2, None, 3)?;
+    assert!(rt; held.as_slice() == [1, 2, 3].as_slice());
+    Ok(())
+}
+
+#[test]
+fn a_record_is_held_until_the_next_one_or_the_end(rt: HostRuntime) -> Result<(), Fail> {
+    let alloc = rt.alloc();
+    let hold = LinkFault::Hold { every: 2 };
+    let open = came(alloc, hold, 1, None, 3)?;
+    assert!(rt; open.as_slice() == [1, 3, 2].as_slice());
+    let end = came(alloc, hold, 2, None, 4)?;
+    assert!(rt; end.as_slice() == [1, 3, 2, 4].as_slice());
+    let third = came(alloc, LinkFault::Hold { every: 3 }, 3, None, 5)?;
+    assert!(rt; third.as_slice() == [1, 2, 4, 3, 5].as_slice());
+    Ok(())
+}
+
+#[test]
+fn a_fault_is_set_while_a_record_is_held(rt: HostRuntime) -> Result<(), Fail> {
+    let alloc = rt.alloc();
+    let hold = LinkFault::Hold { every: 2 };
+    let clean = came(alloc, hold, 2, Some(LinkFault::Clean), 3)?;
+    assert!(rt; clean.as_slice() == [1, 3, 2].as_slice());
+    let dropped = came(alloc, hold, 2, Some(LinkFault::Drop { every: 1 }), 4)?;
+    assert!(rt; dropped.as_slice() == [1, 2].as_slice());
+    let doubled = came(alloc, hold, 2, Some(LinkFault::Twice { every: 1 }), 3)?;
+    assert!(rt; doubled.as_slice() == [1, 3, 3, 2].as_slice());
+    let held = came(alloc, hold, 2, Some(LinkFault::Hold { every: 3 }), 5)?;
+    assert!(rt; held.as_slice() == [1, 3, 2, 4, 5].as_slice());
+    Ok(())
+}
+
+#[test]
+fn a_sender_asks_for_what_the_other_centre_lacks(rt: HostRuntime) -> Result<(), Fail> {
+    let alloc = rt.alloc();
+    let mut door = door_of(alloc, has_none(), sends(alloc, 3)?)?;
+    let mut log = Log::new(alloc, 1);
+    let items = mail_for(alloc, &mut door, 1, 2, &mut log)?;
+    assert_eq!(rt; items.len(), 3);
+    assert!(rt; asks(alloc, &door, 1)?.as_slice() == [1064].as_slice());
+    assert!(rt; asks(alloc, &door, 2)?.as_slice() == [101].as_slice());
+    let none = mail_for(alloc, &mut door, 1, 2, &mut log)?;
+    assert!(rt; none.is_empty());
+    Ok(())
+}
+
+#[test]
+fn a_reporter_tells_and_a_pruner_prunes(rt: HostRuntime) -> Result<(), Fail> {
+    let alloc = rt.alloc();
+    let mut door = door_of(alloc, has_none(), Say::Learned { fresh: true })?;
+    let mut log = Log::new(alloc, 1);
+    report_round(&mut door, 1, 2, &mut log)?;
+    prune_round(&mut door, 1, &mut log)?;
+    assert!(rt; asks(alloc, &door, 1)?.as_slice() == [101, 103].as_slice());
+    assert!(rt; asks(alloc, &door, 2)?.as_slice() == [102].as_slice());
+    Ok(())
+}
+
+// A link on which so many records of centre 1 were put by a round of its sender.
+fn sent<R: Wait>(
+    rt: &R,
+    alloc: Global,
+    link: &Link<Record>,
+    giver: Giver<Record>,
+    last: u64,
+) -> Result<(u32, Giver<Record>), Fail>
+    requires { giver.link ≡ link.now }
+    ensures { IfOk result (λ r. r.1.link ≡ link.now) }
+{
+    let mut giver = giver;
+    let mut door = door_of(alloc, has_none(), sends(alloc, last)?)?;
+    let mut log = Log::new(alloc, 1);
+    let number = send_round(rt, &mut door, 1, 2, link, &mut giver, &mut log)?;
+    Ok((number, giver))
+}
+
+#[test]
+fn rounds_over_a_link_take_64_and_then_the_rest(rt: HostRuntime) -> Result<(), Fail> {
+    let alloc = rt.alloc();
+    let (link, giver, taker) = Link::new(alloc)?;
+    let (number, giver) = sent(&rt, alloc, &link, giver, 70)?;
+    assert_eq!(rt; number, 70);
+    let mut taker = taker;
+    let mut door = ListDoor::new(alloc, Vec::new(alloc));
+    let mut log = Log::new(alloc, 1);
+    let mut inlet = Inlet::new();
+    let full = take_round(&rt, &mut door, 2, &mut inlet, &link, &mut taker, &mut log)?;
+    assert_eq!(rt; (full, taker.misses()), (64, 0));
+    let rest = take_round(&rt, &mut door, 2, &mut inlet, &link, &mut taker, &mut log)?;
+    assert_eq!(rt; (rest, taker.misses()), (6, 1));
+    assert_eq!(rt; asks(alloc, &door, 2)?.len(), 70);
+    assert_eq!(rt; link.close(&rt, giver, taker), 0);
+    Ok(())
+}
+
+#[test]
+fn a_closing_round_takes_all_and_what_is_held(rt: HostRuntime) -> Result<(), Fail> {
+    let alloc = rt.alloc();
+    let (link, giver, taker) = Link::new(alloc)?;
+    let (_, giver) = sent(&rt, alloc, &link, giver, 70)?;
+    let mut taker = taker;
+    let mut door = ListDoor::new(alloc, Vec::new(alloc));
+    let mut log = Log::new(alloc, 1);
+    let mut inlet = Inlet::new();
+    inlet.set(LinkFault::Hold { every: 70 });
+    let all = drain_round(
+        &rt, &mut door, 2, &mut inlet, &link, &giver, &mut taker, &mut log,
+    )?;
+    assert_eq!(rt; (all, taker.misses()), (70, 0));
+    assert_eq!(rt; asks(alloc, &door, 2)?.len(), 70);
+    assert_eq!(rt; link.close(&rt, giver, taker), 0);
+    Ok(())
+}
