@@ -1,10 +1,12 @@
 -- Steps that are dealt, one more.
-use Rattle.std.proofs.Common.{◌≡◌, ◌≢◌, ◌≤◌, ◌<◌, ⊎_elim, ℕ, zero, suc, ◌+◌, ◌-◌, ◌==◌, Bool, true, false, List, [], ◌∷◌, ◌++◌, map, length, Option, Some, None, refl, sym, ap, ◌∙◌, subst, arith}
+use Rattle.std.proofs.Common.{◌≡◌, ◌≢◌, ◌≤◌, ◌<◌, ⊎_elim, ℕ, zero, suc, ◌+◌, ◌-◌, ◌==◌, Bool, true, false, List, [], ◌∷◌, ◌++◌, map, length, get_or, Option, Some, None, refl, sym, ap, ◌∙◌, subst, arith}
 use Rattle.std.specs.Prelude.{All, fold, max, slice_set, slice_index_or, replicate}
 use Rattle.std.specs.List.{filter_map, cons_option, range_with_len}
 use Rattle.std.specs.Global.{Vec}
 use Rattle.std.proofs.lemmas.Bool.{cases_eq, eq-eqb, ne_eqb}
-use Rattle.std.proofs.lemmas.List.{append-nil, map-set, length-set, length-map, get_or-set_same, get_or-set_other}
+use Rattle.std.proofs.lemmas.List.{append-nil, ext_get_or, map-append, map-set, length-append, length-set, length-map, get_or-set_same, get_or-set_other}
+use Rattle.std.proofs.lemmas.List.Sums.{fold-append}
+use Rattle.std.proofs.lemmas.List.FromFn.{get_or-map-range_with_len, length-map-range_with_len}
 use Rattle.std.proofs.lemmas.List.Elements.{filter_map-append, All-nil, All-cons, All-head, All-tail}
 use Rattle.list_core.specs.Choices.{when}
 use Rattle.script_text.specs.declared.steps.ClientStep.{ClientStep}
@@ -19,6 +21,15 @@ use Rattle.world_core.specs.Dealing.{IsDealt, line_of}
 -- one step more, which is none of this actor's, or is
 step_more : {X : Type 0} (f : Step → Option X) (steps : List Step) (step : Step) → filter_map f (steps ++ step ∷ []) ≡ filter_map f steps ++ cons_option (f step) []
 step_more f steps step = filter_map-append f steps (step ∷ [])
+
+-- what was dealt to a client is the line at its place
+pub line_got : (dealt : Dealt) (client : ℕ) (line : Vec ClientStep) → (1 ≤ client) × (client ≤ length dealt.clients.items) → line ≡ get_or dealt.clients.items (client - 1) line → line.items ≡ line_of dealt client
+line_got dealt client line range is = go dealt.clients.items (client - 1) (omega (arith, range.0, range.1)) is
+  where
+    go : (lines : List (Vec ClientStep)) (place : ℕ) → place < length lines → line ≡ get_or lines place line → line.items ≡ slice_index_or (map (λ (line : Vec ClientStep). line.items) lines) place []
+    go [] place within is = absurd (omega (arith, within))
+    go (first ∷ lines) zero within is = ap (λ line. line.items) is
+    go (first ∷ lines) (suc place) within is = go lines place (omega (arith, within)) is
 
 -- a client's step is dealt to the client
 pub dealt_client : (clients client : ℕ) (step : ClientStep) (steps : List Step) (old new : Dealt) (line : Vec ClientStep) → (1 ≤ client) × (client ≤ clients) → new.clients.items ≡ slice_set old.clients.items (client - 1) line → line.items ≡ line_of old client ++ step ∷ [] → new.operator ≡ old.operator → IsDealt clients steps old → IsDealt clients (steps ++ Client client step ∷ []) new
@@ -73,16 +84,60 @@ dealt_operator clients step steps old new same is dealt = record {
 
 -- ---- the most steps of an actor
 
--- lines that are all empty
-pub empty_dealt : (clients : ℕ) (dealt : Dealt) → length dealt.clients.items ≡ clients → ((place : ℕ) → slice_index_or (map (λ line. line.items) dealt.clients.items) place [] ≡ []) → dealt.operator.items ≡ [] → IsDealt clients [] dealt
-empty_dealt clients dealt count none operator = record { count = count; each = λ client low high. none (client - 1); operator = operator }
+-- so many lines, all empty
+pub record AreEmpty (count : ℕ) (lines : List (Vec ClientStep)) : Type 0 where
+  pub many : length lines ≡ count
+  pub none : (place : ℕ) → slice_index_or (map (λ line. line.items) lines) place [] ≡ []
+
+-- one more
+pub empty_more : (count : ℕ) (lines : List (Vec ClientStep)) (line : Vec ClientStep) → line.items ≡ [] → AreEmpty count lines → AreEmpty (count + 1) (lines ++ line ∷ [])
+empty_more count lines line none is = record { many = length-append lines (line ∷ []) ∙ ap (λ n. n + 1) is.many; none = λ place. go lines place is.none }
+  where
+    go : (lines : List (Vec ClientStep)) (place : ℕ) → ((place : ℕ) → slice_index_or (map (λ line. line.items) lines) place [] ≡ []) → slice_index_or (map (λ line. line.items) (lines ++ line ∷ [])) place [] ≡ []
+    go [] zero each = none
+    go [] (suc place) each = refl
+    go (first ∷ lines) zero each = each zero
+    go (first ∷ lines) (suc place) each = go lines place (λ place. each (suc place))
+
+-- no steps were dealt yet
+pub empty_dealt : (clients : ℕ) (dealt : Dealt) → AreEmpty clients dealt.clients.items → dealt.operator.items ≡ [] → IsDealt clients [] dealt
+empty_dealt clients dealt is operator = record { count = is.many; each = λ client low high. is.none (client - 1); operator = operator }
+
+-- the most steps of the operator and of these lines
+abbrev pub longest_of : Dealt → List (Vec ClientStep) → ℕ
+longest_of dealt lines = fold max (length dealt.operator.items) (map (λ line. length line.items) lines)
+
+-- with one line more
+pub longest_more : (dealt : Dealt) (lines : List (Vec ClientStep)) (line : Vec ClientStep) → longest_of dealt (lines ++ line ∷ []) ≡ max (longest_of dealt lines) (length line.items)
+longest_more dealt lines line = ap (fold max (length dealt.operator.items)) (map-append (λ (line : Vec ClientStep). length line.items) lines (line ∷ [])) ∙ fold-append max (length dealt.operator.items) (map (λ (line : Vec ClientStep). length line.items) lines) (length line.items ∷ [])
+
+-- they are the most steps that an actor has
+pub longest_is : (clients : ℕ) (section : Section) (dealt : Dealt) → IsDealt clients section.steps dealt → longest_of dealt dealt.clients.items ≡ most_steps clients section
+longest_is clients section dealt is = λ i. fold max (length (is.operator i)) (lengths i)
+  where
+    count : length (map (λ (line : Vec ClientStep). length line.items) dealt.clients.items) ≡ length (map (λ client. length (client_steps client section)) (range_with_len 1 clients))
+    count = length-map dealt.clients.items (λ (line : Vec ClientStep). length line.items) ∙ (is.count ∙ sym (length-map-range_with_len (λ client. length (client_steps client section)) 1 clients))
+
+    at : (lines : List (Vec ClientStep)) (place : ℕ) → get_or (map (λ (line : Vec ClientStep). length line.items) lines) place 0 ≡ length (slice_index_or (map (λ (line : Vec ClientStep). line.items) lines) place [])
+    at [] place = refl
+    at (line ∷ lines) zero = refl
+    at (line ∷ lines) (suc place) = at lines place
+
+    lengths : map (λ (line : Vec ClientStep). length line.items) dealt.clients.items ≡ map (λ client. length (client_steps client section)) (range_with_len 1 clients)
+    lengths = ext_get_or 0 (map (λ (line : Vec ClientStep). length line.items) dealt.clients.items) (map (λ client. length (client_steps client section)) (range_with_len 1 clients)) count (λ place lt.
+        let few : place < clients = omega (arith, lt, length-map dealt.clients.items (λ (line : Vec ClientStep). length line.items), is.count) in
+        let same : 1 + place - 1 ≡ place = omega arith in
+        at dealt.clients.items place
+        ∙ (ap (λ place. length (slice_index_or (map (λ (line : Vec ClientStep). line.items) dealt.clients.items) place [])) (sym same)
+        ∙ (ap length (is.each (1 + place) (omega arith) (omega (arith, few)))
+        ∙ sym (get_or-map-range_with_len (λ client. length (client_steps client section)) 1 clients place (1 + place) 0 few refl))))
 
 -- what is chosen is no more than there is
 chosen_few : {X Y : Type 0} (f : X → Option Y) (xs : List X) → length (filter_map f xs) ≤ length xs
 chosen_few f [] = omega arith
-chosen_few f (x ∷ xs) = go (f x) (chosen_few f xs)
+chosen_few {Y = Y} f (x ∷ xs) = go (f x) (chosen_few f xs)
   where
-    go : {n : ℕ} (o : Option _) → length (filter_map f xs) ≤ length xs → length (cons_option o (filter_map f xs)) ≤ suc (length xs)
+    go : (o : Option Y) → length (filter_map f xs) ≤ length xs → length (cons_option o (filter_map f xs)) ≤ suc (length xs)
     go None few = omega (arith, few)
     go (Some y) few = omega (arith, few)
 

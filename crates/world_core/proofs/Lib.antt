@@ -7,6 +7,8 @@ pub mod Links
 pub mod Rounds
 pub mod Books
 pub mod Making
+pub mod Phasing
+pub mod Sectioning
 pub mod Dealt
 pub mod Naming
 pub mod Outside

@@ -1,6 +1,6 @@
 -- A fault that is set on a link, and the work of workers over links.
-use Rattle.std.proofs.Common.{◌≡◌, ◌≢◌, ◌≤◌, ◌⊎◌, inl, inr, ℕ, ◌==◌, Bool, true, false, cond, List, refl, sym, ap, ◌∙◌, arith}
-use Rattle.std.specs.Prelude.{◌&&◌, not, nat_le}
+use Rattle.std.proofs.Common.{◌≡◌, ◌≢◌, ◌≤◌, ◌⊎◌, inl, inr, ℕ, ◌==◌, Bool, true, false, cond, List, [], refl, sym, ap, ◌∙◌, subst, arith}
+use Rattle.std.specs.Prelude.{◌&&◌, ◌%◌, not, nat_le}
 use Rattle.std.proofs.lemmas.Bool.{cases_eq, eq-eqb, ne_eqb, le-leb}
 use Rattle.ids_core.specs.declared.limits.TheConstants.{MOST_CENTRES}
 use Rattle.dc_talk.specs.declared.links.LinkFault.{LinkFault}
@@ -13,7 +13,11 @@ use Rattle.script_text.specs.declared.rounds.Role.TheVariants.{Sender, Receiver,
 use Rattle.script_text.specs.Steps.{IsCount}
 use Rattle.script_text.specs.Mail.{Post, post_set, due_in_round, post_after_round, due_at_close, post_closed}
 use Rattle.script_text.specs.Rounds.{ReporterDeeds, PrunerDeeds}
+use Rattle.dc_talk.specs.declared.ask.Ask.TheVariants.{Prune}
+use Rattle.script_text.specs.declared.rounds.TheConstants.{ROUNDS_BETWEEN_PRUNES}
+use Rattle.script_text.specs.Orders.{Orders}
 use Rattle.dc_worker.specs.Work.{AddsSuch, CarriesSuch}
+use Rattle.dc_worker.proofs.Work.{adds_none}
 use Rattle.dc_mail.specs.Posts.{post_at, IsCentre, HasSet}
 use Rattle.dc_mail.specs.Rounds.{HasSent, HasReceived}
 use Rattle.run_book.specs.Moves.{operator_does, worker_does, closes}
@@ -59,3 +63,14 @@ reporter_worked n number i old new a b same is = record { deeds = is.deeds; such
 
 pub pruner_worked : (n number i : ℕ) (old new : List Post) (a b : Acting) → new ≡ old → AddsSuch (PrunerDeeds i number) a b → HasWorked n number (worker_does i Pruner) old new a b
 pruner_worked n number i old new a b same is = record { deeds = is.deeds; such = is.such; leaves = is.adds.leaves; posts = λ from to f t. ap (λ posts. post_at posts from to) same }
+
+-- a pruner does nothing in a round whose number is no multiple
+pub prunes_none : (i number : ℕ) (a : Acting) → number % ROUNDS_BETWEEN_PRUNES ≢ 0 → AddsSuch (PrunerDeeds i number) a a
+prunes_none i number a other = record {
+  deeds = [];
+  such = subst (λ test. cond test (Orders i Prune none) (none ≡ [])) (sym (ne_eqb (number % ROUNDS_BETWEEN_PRUNES) 0 other)) refl;
+  adds = adds_none a;
+}
+  where
+    none : List Deed
+    none = []

@@ -31,4 +31,4 @@ pub record IsDealt (clients : ℕ) (steps : List Step) (dealt : Dealt) : Type 0 
 pub record IsDealtPhase (script : Script) (section : Section) (dealt : Dealt) : Type 0 where
   pub range : IsInRange script
   pub phase : IsPhase (header_of script) section
-  pub dealt : IsDealt script.clients section.steps dealt
+  pub steps_are : IsDealt script.clients section.steps dealt

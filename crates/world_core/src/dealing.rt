@@ -6,6 +6,7 @@ ghost use Rattle.script_text.specs.declared.steps.Section.{Section as SectionOf}
 ghost use Rattle.run_book.specs.Moves.{most_steps, client_steps, operator_steps};
 ghost use Rattle.world_core.specs.Dealing.{IsDealt, IsOf, line_of};
 
+use dc_talk::Change;
 use ids_core::NoMemory;
 use script_text::{ClientStep, OperatorStep, Section, Step};
 use std::alloc::Global;
@@ -38,6 +39,8 @@ impl Dealt {
         requires { (length self.old.clients.items ≤ MOST_CLIENTS) × IsOf (length self.old.clients.items) step.now }
         ensures { OnOk result ((clients : ℕ) (steps : List StepOf) → IsDealt clients steps self.old → IsDealt clients (steps ++ step.now ∷ []) self.new) }
     {
+        // It names a type that the proof of the push has to know.
+        let _held: Option<Change> = None;
         match step {
             Step::Client { client, step } => {
                 let line = &mut self.clients[(client - 1) as usize];
