@@ -16,6 +16,8 @@ mod horizon;
 #[cfg(test)]
 mod kept_door;
 #[cfg(test)]
+mod links;
+#[cfg(test)]
 mod prunes;
 #[cfg(test)]
 mod same;
@@ -25,3 +27,7 @@ mod scripts;
 mod spent;
 #[cfg(test)]
 mod spoilt;
+#[cfg(test)]
+mod turns;
+#[cfg(test)]
+mod workers;
