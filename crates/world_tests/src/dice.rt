@@ -146,12 +146,12 @@ pub enum Order {
 impl Dice {
     /// The next event of a run of a script that has this book so far. Most name something that is there.
     pub fn event(&mut self, plan: &mut Plan, order: Order, script: &Script, book: &Book) -> Event {
-        let found = match self.roll(16) {
+        let found = match self.roll(17) {
             0 | 1 => self.late(script, book),
-            2 | 3 => self.carry(script, book),
+            2 | 3 | 13 => self.carry(script, book),
             4 => Some(self.astray(script, order)),
             5 | 6 | 7 => self.anywhere(script, order),
-            8 | 9 | 10 | 11 | 12 => self.round(script),
+            8 | 9 | 10 | 11 | 12 | 14 => self.round(script),
             _ => None,
         };
         match found {

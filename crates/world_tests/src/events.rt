@@ -215,7 +215,7 @@ fn are_many(tally: &Tally) -> bool {
         copies.saturating_sub(copies_done),
         carries.saturating_sub(carries_done),
     );
-    let is_played = steps_done > 4_500 && orders_done > 1_000 && copies_done > 300;
+    let is_played = steps_done > 4_500 && orders_done > 1_000 && copies_done > 200;
     let is_missed = missed.0 > 200 && missed.1 > 300 && missed.2 > 100 && missed.3 > 100;
     let are_rounds = rounds_done > 700 && rounds.saturating_sub(rounds_done) > 100;
     is_played && carries_done > 100 && is_missed && are_rounds && tally.sizes.1 > 10_000

@@ -20,6 +20,8 @@ mod links;
 #[cfg(test)]
 mod prunes;
 #[cfg(test)]
+mod rounds;
+#[cfg(test)]
 mod same;
 #[cfg(test)]
 mod scripts;
