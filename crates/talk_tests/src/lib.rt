@@ -17,6 +17,8 @@ mod dc_centre_tests;
 #[cfg(test)]
 mod dc_host_tests;
 #[cfg(test)]
+mod dc_mail_tests;
+#[cfg(test)]
 mod dc_talk_tests;
 #[cfg(test)]
 mod dc_worker_tests;

@@ -1,8 +1,12 @@
 // Whether a book fits, looked at slowly: by a new centre for each trail, by what each prune has to fold and let go, by
-// pairs of entries and notes, by where records and vectors come from, and by the conduct of each client.
+// pairs of entries and notes, by where records and vectors come from, by the conduct of each client, and by the rounds of
+// each worker.
 use crate::conduct::follows;
 use crate::horizon::{Seat, tells_prunes};
+use crate::links::all_bring;
 use crate::same::{is_same_ask, is_same_record, is_same_say, records_in, vector_in};
+use crate::turns::are_in_turn;
+use crate::workers::{all_work, was_mailed};
 use dc_centre::Centre;
 use dc_talk::{Ask, Deed, Fate, Log, Note, Say};
 use hist_lock::{Entry, Trail};
@@ -28,6 +32,12 @@ pub enum Verdict {
     Origins,
     /// A client did what the rule of a session does not allow.
     Conduct,
+    /// A worker did what is no round of it.
+    Workers,
+    /// Some link of a script that was played in order brought what it should not, or a round was not made.
+    Links,
+    /// A trail is not in the order of the script.
+    Turns,
 }
 
 /// What is wrong with the book of a script. Where sections were played in order, those of each log are looked at too.
@@ -48,24 +58,38 @@ pub fn verdict_on(
     if !are_paired(alloc, trails, logs)? {
         return Ok(Verdict::Pairs);
     }
-    if !have_origins(logs) {
+    if !have_origins(script, logs) {
         return Ok(Verdict::Origins);
     }
     if !all_follow(script, logs, in_order) {
         return Ok(Verdict::Conduct);
     }
+    if !all_work(script, logs) {
+        return Ok(Verdict::Workers);
+    }
     Ok(Verdict::Fits)
 }
 
-// Whether there is a trail for each centre and a log for each actor, the callers are actors, and no worker has a
-// note.
+/// What is wrong with the book of a script that was played from end to end.
+pub fn verdict_on_run(alloc: Global, script: &Script, book: &Book) -> Result<Verdict, NoMemory> {
+    let verdict = verdict_on(alloc, script, book, true)?;
+    let (trails, logs) = (book.trails.as_slice(), book.logs.as_slice());
+    if verdict != Verdict::Fits {
+        Ok(verdict)
+    } else if !all_bring(alloc, script, logs)? {
+        Ok(Verdict::Links)
+    } else if !are_in_turn(alloc, script, trails, logs)? {
+        Ok(Verdict::Turns)
+    } else {
+        Ok(Verdict::Fits)
+    }
+}
+
+// Whether there is a trail for each centre and a log for each actor, and the callers are actors.
 fn is_in_form(script: &Script, trails: &[Trail<Centre>], logs: &[Log]) -> bool {
     let actors = logs.len();
     for (place, log) in logs.iter().enumerate() {
         if log.actor() as usize != place.saturating_add(1) {
-            return false;
-        }
-        if place > script.clients as usize && !log.as_slice().is_empty() {
             return false;
         }
     }
@@ -76,7 +100,12 @@ fn is_in_form(script: &Script, trails: &[Trail<Centre>], logs: &[Log]) -> bool {
             }
         }
     }
+    let workers = usize::from(script.n).saturating_mul(4);
     trails.len() == usize::from(script.n)
+        && actors
+            == workers
+                .saturating_add(script.clients as usize)
+                .saturating_add(1)
 }
 
 // Whether each answer of each trail is the one that is due.
@@ -183,8 +212,8 @@ fn is_paired(
     Ok(entry_from(trail, caller, next) >= trail.len())
 }
 
-// The ask and the answer of a deed, where the ask reached the centre at a place.
-fn exchanged(place: usize, deed: &Deed) -> Option<(&Ask, &Say)> {
+/// The ask and the answer of a deed, where the ask reached the centre at a place.
+pub fn exchanged(place: usize, deed: &Deed) -> Option<(&Ask, &Say)> {
     match deed {
         Deed::Asked { centre, ask, fate } if usize::from(*centre) == place.saturating_add(1) => {
             match answer_in(fate) {
@@ -219,14 +248,14 @@ fn is_entry(
     }
 }
 
-// Whether all that the operator carried stands in an earlier answer of the centre that it came from. By the pairs
-// that answer stands in the centre's trail.
-fn have_origins(logs: &[Log]) -> bool {
+// Whether all that the operator carried stands in an earlier answer of the centre that it came from, or in one that the
+// sender of that centre got. By the pairs that answer stands in the centre's trail.
+fn have_origins(script: &Script, logs: &[Log]) -> bool {
     match logs.first() {
         Some(log) => {
             let notes = log.as_slice();
             for (place, note) in notes.iter().enumerate() {
-                if !has_origin(notes, place, &note.deed) {
+                if !has_origin(notes, place, &note.deed) && !is_carried(script, logs, &note.deed) {
                     return false;
                 }
             }
@@ -247,6 +276,17 @@ fn has_origin(notes: &[Note], place: usize, deed: &Deed) -> bool {
             Ask::Send { .. } | Ask::Report | Ask::Prune | Ask::Stop | Ask::Start => true,
             _ => false,
         },
+    }
+}
+
+// Whether a deed delivers a record that a sender got.
+fn is_carried(script: &Script, logs: &[Log], deed: &Deed) -> bool {
+    match deed {
+        Deed::Asked {
+            ask: Ask::Deliver { item },
+            ..
+        } => was_mailed(script, logs, item, None),
+        _ => false,
     }
 }
 
@@ -284,15 +324,15 @@ fn answer_of(deed: &Deed, from: u8) -> Option<&Say> {
     }
 }
 
-// Whether each client's log follows the rule of a session. Where sections were played in order, those of no log
-// go down.
+// Whether each client's log follows the rule of a session. Where sections were played in order, those of no log go
+// down, but of workers.
 fn all_follow(script: &Script, logs: &[Log], in_order: bool) -> bool {
     for log in logs {
         let actor = log.actor();
         if 2 <= actor && actor - 2 < script.clients && !follows(script.n, log) {
             return false;
         }
-        if in_order && !ascends(log.as_slice()) {
+        if in_order && actor <= script.clients.saturating_add(1) && !ascends(log.as_slice()) {
             return false;
         }
     }

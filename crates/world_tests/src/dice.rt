@@ -43,49 +43,82 @@ impl Dice {
     }
 }
 
-/// How far the operator and the clients are in a script: the last section of which each took its step. An actor
-/// beyond these has none.
+/// How far the operator and the clients are in a script: the section and the number of the step that each took last. An
+/// actor beyond these has none.
 #[derive(Drop)]
 pub struct Plan {
-    last: [u32; 5],
+    last: [(u32, u32); 5],
 }
 
 impl Plan {
     /// Nobody took a step.
     pub fn new() -> Plan {
-        Plan { last: [0; 5] }
+        Plan { last: [(0, 0); 5] }
     }
 
-    // The next section of an actor, which it then has taken; a number past the sections where there is none.
-    fn next(&mut self, script: &Script, actor: u32) -> u32 {
+    // The next step of an actor, which it then has taken; one past the sections where there is none.
+    fn next(&mut self, script: &Script, actor: u32) -> (u32, u32) {
         match self.last.get_mut(actor.saturating_sub(1) as usize) {
             Some(last) => {
-                *last = section_behind(script.sections.as_slice(), actor, *last);
+                *last = step_behind(script.sections.as_slice(), actor, *last);
                 *last
             }
-            None => 0,
+            None => (0, 0),
         }
     }
 }
 
-// The actor of a section's step.
-fn actor_of(section: &Section) -> u32 {
-    match section.steps.as_slice() {
-        [Step::Client { client, .. }] => client.saturating_add(1),
-        _ => 1,
+// The actor of a step.
+fn actor_of(step: &Step) -> u32 {
+    match step {
+        Step::Client { client, .. } => client.saturating_add(1),
+        Step::Operator { .. } => 1,
     }
 }
 
-// The first section of an actor behind a section.
-fn section_behind(sections: &[Section], actor: u32, last: u32) -> u32 {
+// How many of these steps are an actor's.
+fn steps_of(steps: &[Step], actor: u32) -> u32 {
+    let mut count: u32 = 0;
+    for step in steps {
+        if actor_of(step) == actor {
+            count = count.saturating_add(1);
+        }
+    }
+    count
+}
+
+// The first step of an actor behind one: the section, and the number among the actor's steps there.
+fn step_behind(sections: &[Section], actor: u32, last: (u32, u32)) -> (u32, u32) {
+    let (section, step) = last;
     let mut number: u32 = 0;
-    for section in sections {
+    for found in sections {
         number = number.saturating_add(1);
-        if number > last && actor_of(section) == actor {
-            return number;
+        let count = steps_of(found.steps.as_slice(), actor);
+        if number == section && step < count {
+            return (section, step.saturating_add(1));
+        }
+        if number > section && count > 0 {
+            return (number, 1);
         }
     }
-    number.saturating_add(1)
+    (number.saturating_add(1), 1)
+}
+
+/// The step of an actor with a number in a section.
+pub fn step_named(script: &Script, actor: u32, section: u32, number: u32) -> Option<Step> {
+    let place = section.saturating_sub(1) as usize;
+    let mut count: u32 = 0;
+    if let Some(found) = script.sections.as_slice().get(place) {
+        for step in found.steps.as_slice() {
+            if actor_of(step) == actor {
+                count = count.saturating_add(1);
+                if count == number {
+                    return Some(*step);
+                }
+            }
+        }
+    }
+    None
 }
 
 // The event by which an actor takes the step of a section.
@@ -113,11 +146,12 @@ pub enum Order {
 impl Dice {
     /// The next event of a run of a script that has this book so far. Most name something that is there.
     pub fn event(&mut self, plan: &mut Plan, order: Order, script: &Script, book: &Book) -> Event {
-        let found = match self.roll(12) {
+        let found = match self.roll(17) {
             0 | 1 => self.late(script, book),
-            2 | 3 => self.carry(script, book),
+            2 | 3 | 13 => self.carry(script, book),
             4 => Some(self.astray(script, order)),
             5 | 6 | 7 => self.anywhere(script, order),
+            8 | 9 | 10 | 11 | 12 | 14 => self.round(script),
             _ => None,
         };
         match found {
@@ -131,19 +165,50 @@ impl Dice {
         let actor = self
             .pick(script.clients.saturating_add(1))
             .saturating_add(1);
-        taking(actor, plan.next(script, actor), 1)
+        let (section, step) = plan.next(script, actor);
+        taking(actor, section, step)
     }
 
-    // The step of some section is taken by its actor, where the order is free.
+    // A step of some section is taken by its actor, where the order is free.
     fn anywhere(&mut self, script: &Script, order: Order) -> Option<Event> {
         let sections = script.sections.as_slice();
         let place = self.pick(count_of(sections));
         match (order, sections.get(place as usize)) {
             (Order::Free, Some(section)) => {
-                Some(taking(actor_of(section), place.saturating_add(1), 1))
+                let steps = section.steps.as_slice();
+                let at = self.roll(steps.len() as u64) as usize;
+                match steps.get(at) {
+                    Some(step) => {
+                        let actor = actor_of(step);
+                        let before = steps_of(steps.get(..at).unwrap_or(&[]), actor);
+                        let number = before.saturating_add(1);
+                        Some(taking(actor, place.saturating_add(1), number))
+                    }
+                    None => None,
+                }
             }
             _ => None,
         }
+    }
+
+    // A worker makes a round of some phase, where the script has one. A few name no round that is there.
+    fn round(&mut self, script: &Script) -> Option<Event> {
+        let sections = script.sections.as_slice();
+        let from = self.pick(count_of(sections));
+        let section = match self.pick(20) {
+            0 => from,
+            _ => phase_from(sections, from)?,
+        };
+        let (centre, role) = match self.pick(12) {
+            0 => (self.near(script.n.saturating_add(1)), self.near(5)),
+            _ => (self.centre(script.n), self.centre(4)),
+        };
+        Some(Event::Round {
+            section,
+            round: self.pick(script.rounds.saturating_add(3)),
+            centre,
+            role,
+        })
     }
 
     // An event that seldom names something that is there. Where the order is kept, no step does.
@@ -164,7 +229,7 @@ impl Dice {
                 index: self.pick(2),
                 to: centre,
             },
-            (_, Order::Kept) => taking(actor, section, self.pick(2).saturating_mul(2)),
+            (_, Order::Kept) => taking(actor, section, self.pick(2).saturating_mul(100)),
             (_, Order::Free) => taking(actor, section, self.pick(3)),
         }
     }
@@ -217,6 +282,22 @@ impl Dice {
 // How many sections there are.
 fn count_of(sections: &[Section]) -> u32 {
     u32::try_from(sections.len()).unwrap_or(0)
+}
+
+// The number of a phase: the first from a place on, or the last before it.
+fn phase_from(sections: &[Section], from: u32) -> Option<u32> {
+    let mut found = None;
+    let mut number: u32 = 0;
+    for section in sections {
+        number = number.saturating_add(1);
+        if section.phase {
+            found = Some(number);
+            if number > from {
+                return found;
+            }
+        }
+    }
+    found
 }
 
 // The place of a commit ask of a log: the first from a place on, or the last before it.

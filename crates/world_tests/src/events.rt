@@ -1,17 +1,17 @@
-// Two hundred lists of events, each played in a world, with its book looked at slowly.
+// Three hundred lists of events, each played in a world, with its book looked at slowly.
 ghost use Rattle.script_text.specs.Scripts.{IsInRange};
 
-use crate::checker::{Verdict, verdict_on};
-use crate::dice::{Dice, Order, Plan};
+use crate::checker::{Verdict, verdict_on, verdict_on_run};
+use crate::dice::{Dice, Order, Plan, step_named};
 use crate::scripts::SCRIPTS;
 use ids_core::NoMemory;
 use run_book::Book;
 use script_reader::parse;
-use script_text::{ClientStep, Script, Step};
+use script_text::{ClientStep, OperatorStep, Script, Step};
 use std::alloc::Global;
 use std::process::Abort;
 use std::test::Fail;
-use world_core::{Event, Played, World};
+use world_core::{Event, Played, World, serial};
 
 // How many events a list has, and after how many of them what one adds is looked at.
 const EVENTS: usize = 40;
@@ -55,44 +55,54 @@ fn sizes(book: &Book) -> (u64, u64) {
     (notes, entries)
 }
 
-// Whether a step only arms a fault.
-fn is_arming(step: &Step) -> bool {
+// Whether a step leaves no note: it arms a fault, or sets one of a link.
+fn is_silent(step: &Step) -> bool {
     matches!(
         step,
         Step::Client {
             step: ClientStep::Arm { .. },
             ..
+        } | Step::Operator {
+            step: OperatorStep::Link { .. },
         }
     )
 }
 
-// Whether an event is a step that only arms a fault.
-fn is_armed_by(script: &Script, event: &Event) -> bool {
-    match event {
-        Event::Client { section, .. } => {
-            match script
-                .sections
-                .as_slice()
-                .get(section.saturating_sub(1) as usize)
-            {
-                Some(section) => matches!(section.steps.as_slice(), [step] if is_arming(step)),
-                None => false,
-            }
-        }
-        _ => false,
+// Whether an event is a step that leaves no note.
+fn names_silent(script: &Script, event: &Event) -> bool {
+    let step = match event {
+        Event::Client {
+            client,
+            section,
+            step,
+        } => step_named(script, client.saturating_add(1), *section, *step),
+        Event::Operator { section, step } => step_named(script, 1, *section, *step),
+        _ => None,
+    };
+    match step {
+        Some(step) => is_silent(&step),
+        None => false,
     }
 }
 
 // Whether a run has as many notes and entries more than the one before an event as the event makes: none where it
-// names nothing or arms a fault, one of each where it is an ask outside of the script, and else a note or more.
+// names nothing or leaves no note, one of each where it is an ask outside of the script, as many of both where it is a
+// round, and else a note or more.
 fn is_grown(script: &Script, event: &Event, old: &Run, new: &Run) -> bool {
     let (before, after) = (sizes(&old.book), sizes(&new.book));
-    if new.done.len() == old.done.len() || is_armed_by(script, event) {
+    if new.done.len() == old.done.len() || names_silent(script, event) {
         return after == before;
     }
     match event {
         Event::Again { .. } | Event::Carry { .. } => {
             after == (before.0.saturating_add(1), before.1.saturating_add(1))
+        }
+        Event::Round { .. } => {
+            let (notes, entries) = (
+                after.0.saturating_sub(before.0),
+                after.1.saturating_sub(before.1),
+            );
+            before.0 <= after.0 && notes == entries
         }
         _ => after.0 > before.0 && after.1 >= before.1,
     }
@@ -130,22 +140,23 @@ fn list_of(
 }
 
 // How many events of each kind there were, and how many of these were played: of clients, of the operator, late
-// copies and carries. And how many notes and entries the books had.
+// copies, carries and rounds. And how many notes and entries the books had.
 #[derive(Clone, Copy, Debug)]
 struct Tally {
-    all: [u64; 4],
-    done: [u64; 4],
+    all: [u64; 5],
+    done: [u64; 5],
     sizes: (u64, u64),
 }
 
 // Counts events by their kinds.
-fn count(counts: &mut [u64; 4], events: &[Event]) {
+fn count(counts: &mut [u64; 5], events: &[Event]) {
     for event in events {
         let place = match event {
             Event::Client { .. } => 0,
             Event::Operator { .. } => 1,
             Event::Again { .. } => 2,
             Event::Carry { .. } => 3,
+            Event::Round { .. } => 4,
         };
         if let Some(number) = counts.get_mut(place) {
             *number = number.saturating_add(1);
@@ -190,24 +201,31 @@ fn look_at(
 
 // Whether hundreds of steps and copies were played, and as many named nothing, with carries of both sorts.
 fn are_many(tally: &Tally) -> bool {
-    let [steps, orders, copies, carries] = tally.all;
-    let [steps_done, orders_done, copies_done, carries_done] = tally.done;
+    let [steps, orders, copies, carries, rounds] = tally.all;
+    let [
+        steps_done,
+        orders_done,
+        copies_done,
+        carries_done,
+        rounds_done,
+    ] = tally.done;
     let missed = (
         steps.saturating_sub(steps_done),
         orders.saturating_sub(orders_done),
         copies.saturating_sub(copies_done),
         carries.saturating_sub(carries_done),
     );
-    let is_played = steps_done > 4_500 && orders_done > 1_000 && copies_done > 300;
+    let is_played = steps_done > 4_500 && orders_done > 1_000 && copies_done > 200;
     let is_missed = missed.0 > 200 && missed.1 > 300 && missed.2 > 100 && missed.3 > 100;
-    is_played && carries_done > 100 && is_missed && tally.sizes.1 > 10_000
+    let are_rounds = rounds_done > 700 && rounds.saturating_sub(rounds_done) > 100;
+    is_played && carries_done > 100 && is_missed && are_rounds && tally.sizes.1 > 10_000
 }
 
 #[test]
-fn the_books_of_two_hundred_lists_of_events_fit(rt: HostRuntime) -> Result<(), Fail> {
+fn the_books_of_three_hundred_lists_of_events_fit(rt: HostRuntime) -> Result<(), Fail> {
     let mut tally = Tally {
-        all: [0; 4],
-        done: [0; 4],
+        all: [0; 5],
+        done: [0; 5],
         sizes: (0, 0),
     };
     for text in SCRIPTS {
@@ -217,5 +235,15 @@ fn the_books_of_two_hundred_lists_of_events_fit(rt: HostRuntime) -> Result<(), F
         }
     }
     assert!(rt; are_many(&tally), "{tally:?}");
+    Ok(())
+}
+
+#[test]
+fn the_books_of_runs_fit(rt: HostRuntime) -> Result<(), Fail> {
+    for text in SCRIPTS {
+        let script = parse(rt.alloc(), text)?;
+        let book = serial(rt.alloc(), &script)?;
+        assert_eq!(rt; verdict_on_run(rt.alloc(), &script, &book)?, Verdict::Fits);
+    }
     Ok(())
 }

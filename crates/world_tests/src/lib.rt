@@ -16,7 +16,11 @@ mod horizon;
 #[cfg(test)]
 mod kept_door;
 #[cfg(test)]
+mod links;
+#[cfg(test)]
 mod prunes;
+#[cfg(test)]
+mod rounds;
 #[cfg(test)]
 mod same;
 #[cfg(test)]
@@ -25,3 +29,7 @@ mod scripts;
 mod spent;
 #[cfg(test)]
 mod spoilt;
+#[cfg(test)]
+mod turns;
+#[cfg(test)]
+mod workers;

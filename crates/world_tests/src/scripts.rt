@@ -217,5 +217,129 @@ c2 push
 c3 push
 ";
 
+// Three clients among three centres with phases, over links that drop, double and hold records; a centre is stopped for
+// a while in the second one, and there are steps behind the last round.
+const PHASES: &[u8] = b"\
+centres 3 k 2
+clients 3
+rounds 9
+link 1 2 hold 2
+link 2 3 drop 3
+phase
+c1 connect 1
+c2 connect 2
+c3 connect 3
+c1 begin
+c1 inc c.a 1
+c1 commit
+c1 push
+c2 begin
+c2 add s.a x
+c2 commit
+c2 push
+c3 begin
+c3 set r.a y
+c3 commit
+c1 begin
+c1 inc c.a 2
+c1 commit
+c1 push
+c3 flush
+end
+link 1 3 twice 1
+link 1 2 hold 1
+c1 refresh
+phase
+prune 1
+down 2
+c1 begin
+c1 put m.a k x
+c1 commit
+c1 push
+c2 refresh
+c2 begin
+up 2
+ship 1 3
+c3 refresh
+c3 begin
+c3 del s.a x
+c3 commit
+c3 lose reply
+c3 push
+c3 push
+c2 inc c.a 4
+c2 commit
+c2 flush
+c1 refresh
+c1 read c.a
+c1 read s.a
+c1 read r.a
+c1 begin
+c1 inc c.a 8
+c1 commit
+c1 push
+end
+link 2 3 clean
+phase
+end
+settle
+c1 refresh
+c2 refresh
+c3 refresh
+c3 read m.a
+";
+
+// Four clients of two centres with short phases, in which a link is never whole, and more steps than rounds.
+const TURNS: &[u8] = b"\
+centres 2 k 1
+clients 4
+rounds 2
+c1 connect 1
+c2 connect 2
+link 2 1 drop 2
+phase
+c4 connect 2
+c3 connect 1
+c2 begin
+c1 begin
+c1 inc c.a 1
+c2 inc c.a 2
+c1 commit
+c2 commit
+c1 push
+c2 push
+tell 1 2
+c3 begin
+c3 add s.a x
+c3 commit
+c4 twice
+c4 refresh
+prune 2
+c3 push
+end
+link 1 2 twice 2
+phase
+c4 refresh
+c4 begin
+c4 del s.a x
+c4 commit
+c4 push
+c1 connect 2
+c1 connect 1
+c1 again 1 2
+end
+c1 begin
+c1 inc c.a 4
+c1 commit
+c1 flush
+phase
+down 1
+c2 refresh
+up 1
+c3 refresh
+c3 read c.a
+end
+";
+
 /// The scripts.
-pub const SCRIPTS: [&[u8]; 4] = [MOVES, LOSSES, STOPS, COPIES];
+pub const SCRIPTS: [&[u8]; 6] = [MOVES, LOSSES, STOPS, COPIES, PHASES, TURNS];

@@ -1,7 +1,7 @@
 // Copies of a book in which one thing is changed: the slow look has to find it.
-use crate::checker::{Verdict, verdict_on};
+use crate::checker::{Verdict, verdict_on, verdict_on_run};
 use dc_centre::Centre;
-use dc_talk::{Ask, Call, Deed, Fate, Log, Outcome, Say};
+use dc_talk::{Ask, Call, Deed, Fate, Log, Note, Outcome, Say};
 use hist_lock::{Entry, Trail};
 use ids_core::{Dot, NoMemory};
 use run_book::Book;
@@ -28,6 +28,21 @@ c1 refresh
 c1 read c.a
 ";
 
+// A commit that is pushed, and that the workers of a phase carry to another centre.
+const PHASE: &[u8] = b"\
+centres 2 k 1
+clients 1
+rounds 1
+c1 connect 1
+c1 begin
+c1 inc c.a 5
+c1 commit
+c1 push
+phase
+c1 refresh
+end
+";
+
 // What is changed in a copy.
 #[derive(Clone, Copy)]
 enum Change {
@@ -41,6 +56,12 @@ enum Change {
     Note,
     // The operator delivers to centre 2 a record that nobody sent, and that is taken.
     Record,
+    // The sender of centre 1 works in a section that is no phase.
+    Section,
+    // The receiver of centre 2 delivers what it takes in a round behind it.
+    Late,
+    // The reporter of centre 1 and the sender of centre 2 come to centre 1 in each other's turn.
+    Turn,
 }
 
 // The next record of centre 1, which it did not stamp.
@@ -62,6 +83,24 @@ fn forged(alloc: Global) -> Result<Ask, Fail> {
 // Puts an entry at the end of a trail.
 fn put(trail: &mut Trail<Centre>, caller: u32, ask: Ask, say: Say) -> Result<(), NoMemory> {
     trail.push(caller, ask, say)
+}
+
+// The caller of an entry with the change.
+fn caller_of(centre: usize, caller: u32, change: Change) -> u32 {
+    match (change, centre, caller) {
+        (Change::Turn, 1, 5) => 7,
+        (Change::Turn, 1, 7) => 5,
+        _ => caller,
+    }
+}
+
+// The section and the step of a note of an actor with the change.
+fn key_of(actor: u32, note: &Note, change: Change) -> (u32, u32) {
+    match (change, actor) {
+        (Change::Section, 3) => (1, 1),
+        (Change::Late, 8) => (note.section, note.step.saturating_add(1)),
+        _ => (note.section, note.step),
+    }
 }
 
 // The trail of a centre with the change.
@@ -86,7 +125,7 @@ fn trail_of(
             }
             _ => put(
                 &mut trail,
-                entry.caller,
+                caller_of(centre, entry.caller, change),
                 entry.ask.copy()?,
                 entry.say.copy()?,
             )?,
@@ -154,7 +193,8 @@ fn log_of(alloc: Global, log: &Log, change: Change) -> Result<Log, Fail> {
     let mut copy = Log::new(alloc, log.actor());
     for note in log.as_slice() {
         if !is_left_out(&note.deed, change) {
-            copy.set(note.section, note.step);
+            let (section, step) = key_of(log.actor(), note, change);
+            copy.set(section, step);
             if let Some(deed) = copied_deed(&note.deed)? {
                 copy.push(deed)?;
             }
@@ -200,6 +240,23 @@ fn each_change_of_a_book_is_found(rt: HostRuntime) -> Result<(), Fail> {
     ] {
         let copy = spoilt(alloc, &book, change)?;
         assert_eq!(rt; verdict_on(alloc, &script, &copy, true)?, want);
+    }
+    Ok(())
+}
+
+#[test]
+fn each_change_of_the_book_of_a_phase_is_found(rt: HostRuntime) -> Result<(), Fail> {
+    let alloc = rt.alloc();
+    let script = parse(alloc, PHASE)?;
+    let book = serial(alloc, &script)?;
+    for (change, want) in [
+        (Change::Nothing, Verdict::Fits),
+        (Change::Section, Verdict::Workers),
+        (Change::Late, Verdict::Links),
+        (Change::Turn, Verdict::Turns),
+    ] {
+        let copy = spoilt(alloc, &book, change)?;
+        assert_eq!(rt; verdict_on_run(alloc, &script, &copy)?, want);
     }
     Ok(())
 }
