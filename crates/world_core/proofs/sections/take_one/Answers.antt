@@ -1,4 +1,4 @@
-use Rattle.std.proofs.Common.{◌×◌, ◌+◌, ◌∷◌, [], sym, subst}
+use Rattle.std.proofs.Common.{◌+◌, ◌∷◌, [], sym, subst}
 use Rattle.script_text.specs.Scripts.{header_of}
 use Rattle.script_text.specs.Steps.{IsCount, IsStep, IsOperatorStep, IsStepOf}
 use Rattle.dc_worker.proofs.Work.{on_turn}
