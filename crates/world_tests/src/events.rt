@@ -1,4 +1,4 @@
-// Three hundred lists of events, each played in a world, with its book looked at slowly.
+// Some two hundred lists of events, each played in a world, with its book looked at slowly.
 ghost use Rattle.script_text.specs.Scripts.{IsInRange};
 
 use crate::checker::{Verdict, verdict_on, verdict_on_run};
@@ -215,14 +215,14 @@ fn are_many(tally: &Tally) -> bool {
         copies.saturating_sub(copies_done),
         carries.saturating_sub(carries_done),
     );
-    let is_played = steps_done > 4_500 && orders_done > 1_000 && copies_done > 200;
-    let is_missed = missed.0 > 200 && missed.1 > 300 && missed.2 > 100 && missed.3 > 100;
-    let are_rounds = rounds_done > 700 && rounds.saturating_sub(rounds_done) > 100;
-    is_played && carries_done > 100 && is_missed && are_rounds && tally.sizes.1 > 10_000
+    let is_played = steps_done > 3_000 && orders_done > 600 && copies_done > 120;
+    let is_missed = missed.0 > 120 && missed.1 > 200 && missed.2 > 60 && missed.3 > 60;
+    let are_rounds = rounds_done > 450 && rounds.saturating_sub(rounds_done) > 60;
+    is_played && carries_done > 60 && is_missed && are_rounds && tally.sizes.1 > 6_500
 }
 
 #[test]
-fn the_books_of_three_hundred_lists_of_events_fit(rt: HostRuntime) -> Result<(), Fail> {
+fn the_books_of_two_hundred_lists_of_events_fit(rt: HostRuntime) -> Result<(), Fail> {
     let mut tally = Tally {
         all: [0; 5],
         done: [0; 5],
@@ -230,7 +230,7 @@ fn the_books_of_three_hundred_lists_of_events_fit(rt: HostRuntime) -> Result<(),
     };
     for text in SCRIPTS {
         let script = parse(rt.alloc(), text)?;
-        for seed in 1..51 {
+        for seed in 1..35 {
             look_at(&rt, rt.alloc(), &script, seed, &mut tally)?;
         }
     }

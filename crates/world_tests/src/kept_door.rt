@@ -2,7 +2,7 @@
 ghost use Rattle.std.specs.Prelude.{◌≡◌, ◌≤◌, IsTrue, All, IfOk, IfSome, length};
 ghost use Rattle.ids_core.specs.declared.limits.TheConstants.{MOST_CENTRES, MOST_CLIENTS};
 ghost use Rattle.script_text.specs.Steps.{IsStep, IsOperatorStep, IsStepOf};
-ghost use Rattle.script_text.specs.Rows.{IsLine};
+ghost use Rattle.script_text.specs.Rows.{IsLine, IsSection};
 ghost use Rattle.script_text.specs.Scripts.{header_of};
 
 use crate::examples::{
@@ -138,6 +138,27 @@ fn take_line(
     }
 }
 
+// Has the actor of a section that is no phase take its step. No example here has a phase.
+#[tactic(auto, using(world_core::proofs::Sectioning::is_line))]
+fn take_section(
+    rt: &impl Abort,
+    alloc: Global,
+    door: &mut KeptDoor,
+    desk: &mut Desk,
+    script: &Script,
+    section: &Section,
+) -> Result<(), NoMemory>
+    requires centres { length door.old.centres ≡ script.now.n }
+    requires section { IsSection (header_of script.now) section.now }
+    ensures { length door.new.centres ≡ script.now.n }
+{
+    if section.phase {
+        Ok(())
+    } else {
+        take_line(rt, alloc, door, desk, script, section)
+    }
+}
+
 // Has the actors of sections take their steps, in order.
 fn take_lines(
     rt: &impl Abort,
@@ -148,10 +169,10 @@ fn take_lines(
     sections: &[Section],
 ) -> Result<(), NoMemory>
     requires centres { length door.old.centres ≡ script.now.n }
-    requires lines { All (IsLine (header_of script.now)) sections.now }
+    requires lines { All (IsSection (header_of script.now)) sections.now }
 {
     'lines: for section in sections {
-        take_line(rt, alloc, door, desk, script, section)?;
+        take_section(rt, alloc, door, desk, script, section)?;
     }
     Ok(())
 }

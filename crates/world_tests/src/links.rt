@@ -133,7 +133,8 @@ impl Way {
             }
         }
         let mut due = Vec::new(alloc);
-        self.take(self.put.len(), &mut due)?;
+        let most = self.put.len();
+        self.take(most, &mut due)?;
         if let Some(held) = self.held.take() {
             due.push(held)?;
         }
