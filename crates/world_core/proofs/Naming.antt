@@ -90,8 +90,8 @@ module _ (script : Script) (sections : All (IsSection (header_of script)) script
       let at = comes (λ place. slice_get script.sections place) (when (nat_le 1 number) (number - 1)) section there in
       ⊎_elim
       (λ (line : IsLine (header_of script) section).
-          let only : In step (line.0 ∷ []) = subst (λ (section : Section). In step section.steps) line.1 has in
-          one line.0 line.2 only)
+      let only : In step (line.0 ∷ []) = subst (λ (section : Section). In step section.steps) line.1 has in
+      one line.0 line.2 only)
       (λ (phase : IsPhase (header_of script) section). (each (λ step. IsStepOf (header_of script) step × IsInPhase step) section.steps step phase.steps has).0)
       (all_get (IsSection (header_of script)) script.sections at.from section sections at.gives)
     where

@@ -41,7 +41,7 @@ module _ (script : Script) (w : WorldView) (sections : List Section) (place : �
       let taken : take (place + 1) sections ≡ take place sections ++ section ∷ [] = take_more sections place section within ∙ ap (λ section. take place sections ++ section ∷ []) (sym here) in
       let front : number + 1 ≡ 1 + length (take place sections) = omega (arith, count, length-take-le place sections (omega (arith, within))) in
       let moves : moves_from script 1 (take (place + 1) sections) ≡ moves_from script 1 (take place sections) ++ section_moves script (number + 1) section =
-          ap (moves_from script 1) taken ∙ (section_more script 1 (take place sections) section ∙ ap (λ n. moves_from script 1 (take place sections) ++ section_moves script n section) (sym front)) in
+      ap (moves_from script 1) taken ∙ (section_more script 1 (take place sections) section ∙ ap (λ n. moves_from script 1 (take place sections) ++ section_moves script n section) (sym front)) in
       subst (λ moves. HasPlayed moves new) (sym moves)
       (subst (λ script'. HasPlayed (moves_from script 1 (take place sections) ++ section_moves script' (number + 1) section) new) same
       (makes.goes_on (moves_from script 1 (take place sections)) played))

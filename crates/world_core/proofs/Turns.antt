@@ -220,10 +220,10 @@ module _ (script : Script) (section number : ℕ) (step : OperatorStep) (old new
           trails = operator_acted.trails;
           goes_on = λ all w.
               let together : AreTogether script.n script.k (setup_of script) (more its ordered script spent old new operator_acted all w) =
-                  carrier_then script.n script.k (setup_of script) 1 all (notes_in its ordered) (operator_carries script.n script.clients) w.together
-                  (histories_then its ordered script spent old new operator_acted all w)
-                  (behind_go (shown_of (begun 1 old.door.centres)) script.n its ordered (centre_count (seen_of script spent old) all w) h.operates.leaves.behind)
-                  (order_does script.n script.k (setup_of script) all step section number ordered w.together (histories_then its ordered script spent old new operator_acted all w) fits such) in
+              carrier_then script.n script.k (setup_of script) 1 all (notes_in its ordered) (operator_carries script.n script.clients) w.together
+              (histories_then its ordered script spent old new operator_acted all w)
+              (behind_go (shown_of (begun 1 old.door.centres)) script.n its ordered (centre_count (seen_of script spent old) all w) h.operates.leaves.behind)
+              (order_does script.n script.k (setup_of script) all step section number ordered w.together (histories_then its ordered script spent old new operator_acted all w) fits such) in
               world_then its ordered script spent old new operator_acted all w false
               (λ client stub is. w.stubs client stub (subst (λ stubs. stub_at stubs client ≡ Some stub) (ap (λ stubs. stubs.items) h.stubs) is)
               ∙ ap (client_after script.n client script.cache) (sym (other_then 1 (client + 1) all (notes_in its ordered) (λ same. omega (arith, same, (stub_got new.stubs.items client stub is).0)))))
