@@ -1,0 +1,116 @@
+// The workers of a centre in a phase, each in a thread of its own.
+ghost use Rattle.std.specs.Prelude.{IfOk};
+ghost use Rattle.script_text.specs.Steps.{IsCount};
+ghost use Rattle.phase_play.specs.Scenes.{IsScene};
+ghost use Rattle.phase_play.specs.Casts.{IsCallerOf, IsSenderOf, HasSent, IsReceiverOf, HasReceived, HasReported, HasPruned, IsCrewOf, HasCrewPlayed};
+
+use crate::callers::Caller;
+use crate::receivers::{ReceiverEnd, receive_through};
+use crate::reporters::{prune_through, report_through};
+use crate::scene::Scene;
+use crate::senders::{SenderEnd, send_through};
+use ids_core::NoMemory;
+use io_edge::Gate;
+use std::sync::Wait;
+use std::thread::{Threads, join};
+
+/// The four workers of a centre, counted from 1.
+#[derive(Drop)]
+pub struct Crew {
+    pub centre: u8,
+    pub sender: SenderEnd,
+    pub receiver: ReceiverEnd,
+    pub reporter: Caller,
+    pub pruner: Caller,
+}
+
+// The rounds of the workers that carry records.
+fn carry<R: Threads + Wait + Sync, G: Gate>(
+    rt: &R,
+    scene: Scene<'_>,
+    gate: &G,
+    centre: u8,
+    sender: SenderEnd,
+    receiver: ReceiverEnd,
+) -> (Result<SenderEnd, NoMemory>, Result<ReceiverEnd, NoMemory>)
+    requires scene { IsScene scene }
+    requires centre { IsCount scene.script.now.n centre }
+    requires sender { IsSenderOf scene centre sender }
+    requires receiver { IsReceiverOf scene centre receiver }
+    ensures sender { IfOk result.0 (HasSent scene centre sender) }
+    ensures receiver { IfOk result.1 (HasReceived scene centre receiver) }
+{
+    let sends = move || -> Result<SenderEnd, NoMemory>
+        requires { IsScene scene × IsCount scene.script.now.n centre × IsSenderOf scene centre sender }
+        ensures { IfOk result (HasSent scene centre sender) }
+    { send_through(rt, scene, gate, centre, sender) };
+    let receives = move || -> Result<ReceiverEnd, NoMemory>
+        requires { IsScene scene × IsCount scene.script.now.n centre × IsReceiverOf scene centre receiver }
+        ensures { IfOk result (HasReceived scene centre receiver) }
+    { receive_through(rt, scene, gate, centre, receiver) };
+    join(rt, sends, receives)
+}
+
+// The rounds of the others.
+fn tend<R: Threads + Wait + Sync, G: Gate>(
+    rt: &R,
+    scene: Scene<'_>,
+    gate: &G,
+    centre: u8,
+    reporter: Caller,
+    pruner: Caller,
+) -> (Result<Caller, NoMemory>, Result<Caller, NoMemory>)
+    requires scene { IsScene scene }
+    requires centre { IsCount scene.script.now.n centre }
+    requires reporter { IsCallerOf scene reporter }
+    requires pruner { IsCallerOf scene pruner }
+    ensures reporter { IfOk result.0 (HasReported scene centre reporter) }
+    ensures pruner { IfOk result.1 (HasPruned scene centre pruner) }
+{
+    let reports = move || -> Result<Caller, NoMemory>
+        requires { IsScene scene × IsCount scene.script.now.n centre × IsCallerOf scene reporter }
+        ensures { IfOk result (HasReported scene centre reporter) }
+    { report_through(rt, scene, gate, centre, reporter) };
+    let prunes = move || -> Result<Caller, NoMemory>
+        requires { IsScene scene × IsCount scene.script.now.n centre × IsCallerOf scene pruner }
+        ensures { IfOk result (HasPruned scene centre pruner) }
+    { prune_through(rt, scene, gate, centre, pruner) };
+    join(rt, reports, prunes)
+}
+
+/// The rounds of the workers of a centre, each in a thread of its own where one can be made. After an `Err`, want of
+/// memory, their passes and ends are gone.
+pub(crate) fn play_crew<R: Threads + Wait + Sync, G: Gate>(
+    rt: &R,
+    scene: Scene<'_>,
+    gate: &G,
+    crew: Crew,
+) -> Result<Crew, NoMemory>
+    requires scene { IsScene scene }
+    requires crew { IsCrewOf scene crew }
+    ensures { IfOk result (HasCrewPlayed scene crew) }
+{
+    let Crew {
+        centre,
+        sender,
+        receiver,
+        reporter,
+        pruner,
+    } = crew;
+    let carries = move || -> (Result<SenderEnd, NoMemory>, Result<ReceiverEnd, NoMemory>)
+        requires { IsScene scene × IsCount scene.script.now.n centre × IsSenderOf scene centre sender × IsReceiverOf scene centre receiver }
+        ensures { IfOk result.0 (HasSent scene centre sender) × IfOk result.1 (HasReceived scene centre receiver) }
+    { carry(rt, scene, gate, centre, sender, receiver) };
+    let tends = move || -> (Result<Caller, NoMemory>, Result<Caller, NoMemory>)
+        requires { IsScene scene × IsCount scene.script.now.n centre × IsCallerOf scene reporter × IsCallerOf scene pruner }
+        ensures { IfOk result.0 (HasReported scene centre reporter) × IfOk result.1 (HasPruned scene centre pruner) }
+    { tend(rt, scene, gate, centre, reporter, pruner) };
+    let ((sender, receiver), (reporter, pruner)) = join(rt, carries, tends);
+    Ok(Crew {
+        centre,
+        sender: sender?,
+        receiver: receiver?,
+        reporter: reporter?,
+        pruner: pruner?,
+    })
+}

@@ -1,0 +1,119 @@
+// All actors of a phase in threads.
+ghost use Rattle.std.specs.Prelude.{◌≡◌, ◌≤◌, All, IfOk};
+ghost use Rattle.std.specs.List.{AllZip};
+ghost use Rattle.phase_play.specs.Scenes.{IsScene};
+ghost use Rattle.phase_play.specs.Casts.{IsCallerOf, HasOperated, IsPlayerOf, HasTakenSteps, IsCrewOf, HasCrewPlayed, IsCast, HaveAllPlayed};
+
+use crate::blocks::{cut, join_blocks};
+use crate::callers::Caller;
+use crate::clients::{Player, play_clients};
+use crate::crews::{Crew, play_crew};
+use crate::operators::operate_through;
+use crate::scene::Scene;
+use ids_core::NoMemory;
+use io_edge::Gate;
+use std::alloc::Global;
+use std::sync::Wait;
+use std::thread::{Threads, join, map_vec};
+
+/// The actors of a phase: the operator, the clients in order, and the workers of each centre.
+#[derive(Drop)]
+pub struct Cast {
+    pub operator: Caller,
+    pub clients: Vec<Player>,
+    pub crews: Vec<Crew>,
+}
+
+// What all threads gave, where none of them wants memory.
+fn all_of<X: Drop>(alloc: Global, results: Vec<Result<X, NoMemory>>) -> Result<Vec<X>, NoMemory>
+    ensures { IfOk result (λ all. map Ok all.items ≡ results.items) }
+{
+    let mut all = Vec::with_capacity(alloc, results.len())?;
+    'results: for result in results {
+        all.push(result?)?;
+    }
+    Ok(all)
+}
+
+// The clients, in so many threads.
+fn play_players<R: Threads + Wait + Sync, G: Gate>(
+    rt: &R,
+    alloc: Global,
+    scene: Scene<'_>,
+    gate: &G,
+    players: Vec<Player>,
+) -> Result<Vec<Player>, NoMemory>
+    requires scene { IsScene scene }
+    requires players { All (IsPlayerOf scene) players.items }
+    ensures { IfOk result (λ played. AllZip (HasTakenSteps scene) players.items played.items) }
+{
+    let blocks = cut(alloc, players, scene.script.threads)?;
+    let each = |block: Vec<Player>| -> Result<Vec<Player>, NoMemory>
+        requires { IsScene scene × All (IsPlayerOf scene) block.items }
+        ensures { IfOk result (λ played. AllZip (HasTakenSteps scene) block.items played.items) }
+    { play_clients(rt, alloc, scene, gate, block) };
+    let results = map_vec(rt, blocks, &each)?;
+    join_blocks(alloc, all_of(alloc, results)?)
+}
+
+// The workers of all centres.
+fn play_crews<R: Threads + Wait + Sync, G: Gate>(
+    rt: &R,
+    alloc: Global,
+    scene: Scene<'_>,
+    gate: &G,
+    crews: Vec<Crew>,
+) -> Result<Vec<Crew>, NoMemory>
+    requires scene { IsScene scene }
+    requires crews { All (IsCrewOf scene) crews.items }
+    ensures { IfOk result (λ played. AllZip (HasCrewPlayed scene) crews.items played.items) }
+{
+    let each = |crew: Crew| -> Result<Crew, NoMemory>
+        requires { IsScene scene × IsCrewOf scene crew }
+        ensures { IfOk result (HasCrewPlayed scene crew) }
+    { play_crew(rt, scene, gate, crew) };
+    let results = map_vec(rt, crews, &each)?;
+    all_of(alloc, results)
+}
+
+/// What all actors of a phase do in its rounds and turns, at once: some threads for the clients, one for the operator, and
+/// four for each centre, as many of them as can be made. After an `Err`, want of memory, their passes and ends are gone.
+pub fn play_in_threads<R: Threads + Wait + Sync, G: Gate>(
+    rt: &R,
+    alloc: Global,
+    scene: Scene<'_>,
+    gate: &G,
+    cast: Cast,
+) -> Result<Cast, NoMemory>
+    requires scene { IsScene scene }
+    requires cast { IsCast scene cast }
+    ensures { IfOk result (HaveAllPlayed scene cast) }
+{
+    let Cast {
+        operator,
+        clients,
+        crews,
+    } = cast;
+    let players = move || -> Result<Vec<Player>, NoMemory>
+        requires { IsScene scene × All (IsPlayerOf scene) clients.items }
+        ensures { IfOk result (λ played. AllZip (HasTakenSteps scene) clients.items played.items) }
+    { play_players(rt, alloc, scene, gate, clients) };
+    let orders = move || -> Result<Caller, NoMemory>
+        requires { IsScene scene × IsCallerOf scene operator }
+        ensures { IfOk result (HasOperated scene operator) }
+    { operate_through(rt, scene, gate, operator) };
+    let workers = move || -> Result<Vec<Crew>, NoMemory>
+        requires { IsScene scene × All (IsCrewOf scene) crews.items }
+        ensures { IfOk result (λ played. AllZip (HasCrewPlayed scene) crews.items played.items) }
+    { play_crews(rt, alloc, scene, gate, crews) };
+    let others = move || -> (Result<Caller, NoMemory>, Result<Vec<Crew>, NoMemory>)
+        requires { IsScene scene × IsCallerOf scene operator × All (IsCrewOf scene) crews.items }
+        ensures { IfOk result.0 (HasOperated scene operator) × IfOk result.1 (λ played. AllZip (HasCrewPlayed scene) crews.items played.items) }
+    { join(rt, orders, workers) };
+    let (clients, (operator, crews)) = join(rt, players, others);
+    Ok(Cast {
+        operator: operator?,
+        clients: clients?,
+        crews: crews?,
+    })
+}

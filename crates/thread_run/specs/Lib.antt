@@ -1,0 +1,5 @@
+pub mod Casts
+pub mod Closing
+pub mod Lending
+pub mod Tables
+pub mod Played

@@ -1,0 +1,85 @@
+// A phase, played with threads.
+ghost use Rattle.std.specs.Prelude.{IfOk};
+ghost use Rattle.script_text.specs.Rows.{IsPhase};
+ghost use Rattle.script_text.specs.Scripts.{header_of, IsInRange};
+ghost use Rattle.thread_run.specs.Tables.{IsTableOf, HasPlayed};
+ghost use Rattle.run_sections.specs.Apart.{StandsAt};
+
+use crate::casting::cast_of;
+use crate::closing::close_and_part;
+use crate::lending::{give_all, lend_all};
+use crate::parts::Parts;
+use dc_host::{Hosts, KeptDoor};
+use dc_links::{Laid, Links};
+use ids_core::NoMemory;
+use io_edge::Gate;
+use phase_play::{Scene, play_in_threads};
+use run_table::{Table, deal};
+use script_text::{Script, Section};
+use std::alloc::Global;
+use std::sync::Wait;
+use std::thread::Threads;
+
+/// Plays a phase, as the section of a number, with threads: the centres are put under locks, each actor plays its part in
+/// a thread, all are joined, the receivers make their closing rounds, and the centres come out with longer trails. An
+/// `Err` is want of memory: all parts are gone.
+pub(crate) fn play_phase<R: Threads + Wait + Sync, G: Gate>(
+    rt: &R,
+    alloc: Global,
+    gate: &G,
+    script: &Script,
+    number: u32,
+    section: &Section,
+    table: Table,
+) -> Result<Table, NoMemory>
+    requires range { IsInRange script.now }
+    requires phase { IsPhase (header_of script.now) section.now }
+    requires table { IsTableOf script.now table }
+    requires linked { AreLinked script.now table }
+    ensures { IfOk result (HasPlayed script.now number section.now table) }
+{
+    let Table {
+        door,
+        stubs,
+        logs,
+        mut posts,
+    } = table;
+    let n = script.n;
+    let actors = 1 + script.clients + 4 * u32::from(n);
+    let dealt = deal(alloc, script.clients, section)?;
+    let (hosts, rows) = Hosts::new(alloc, door.part(), actors)?;
+    let Laid {
+        links,
+        givers,
+        takers,
+    } = Links::new(alloc, n)?;
+    let inlets = lend_all(alloc, &mut posts, n)?;
+    let parts = Parts {
+        rows,
+        logs,
+        stubs,
+        givers,
+        takers,
+        inlets,
+    };
+    let cast = cast_of(alloc, n, script.clients, parts)?;
+    let scene = Scene {
+        script,
+        section,
+        number,
+        dealt: &dealt,
+        hosts: &hosts,
+        links: &links,
+    };
+    let cast = play_in_threads(rt, alloc, scene, gate, cast)?;
+    let parts = close_and_part(rt, alloc, scene, gate, cast)?;
+    links.close(rt, parts.givers, parts.takers);
+    let kept = hosts.close(alloc, parts.rows)?;
+    give_all(&mut posts, n, parts.inlets);
+    Ok(Table {
+        door: KeptDoor::new(kept, 1),
+        stubs: parts.stubs,
+        logs: parts.logs,
+        posts,
+    })
+}

@@ -1,0 +1,98 @@
+// A script, section by section.
+ghost use Rattle.std.specs.Prelude.{◌≡◌, [], IfOk, length};
+ghost use Rattle.script_text.specs.Rows.{IsLine, IsSection};
+ghost use Rattle.script_text.specs.Scripts.{header_of, IsInRange};
+ghost use Rattle.run_sections.specs.Runs.{IsSectionRunOf};
+ghost use Rattle.thread_run.specs.Tables.{IsTableOf, AreLinked, HasPlayed};
+ghost use Rattle.thread_run.specs.Played.{HasRun};
+
+use crate::phases::play_phase;
+use ids_core::NoMemory;
+use io_edge::Gate;
+use run_book::Book;
+use run_table::Table;
+use script_text::{Script, Section, Step};
+use std::alloc::Global;
+use std::sync::Wait;
+use std::thread::Threads;
+
+// Has the step's actor take it, as the only one of the section of a number.
+fn play_line(
+    alloc: Global,
+    script: &Script,
+    number: u32,
+    section: &Section,
+    table: &mut Table,
+) -> Result<(), NoMemory>
+    requires range { IsInRange script.now }
+    requires line { IsLine (header_of script.now) section.now }
+    requires table { IsTableOf script.now table.old }
+    requires linked { AreLinked script.now table.old }
+    ensures { OnOk result (HasPlayed script.now number section.now table.old table.new) }
+{
+    match section.steps.as_slice() {
+        [Step::Client { client, step }] => table.step(alloc, *client, number, 1, step),
+        [Step::Operator { step }] => table.order(script.n, number, 1, step),
+        _ => unreachable!(),
+    }
+}
+
+// Plays a section, as the section of a number.
+fn play_section<R: Threads + Wait + Sync, G: Gate>(
+    rt: &R,
+    alloc: Global,
+    gate: &G,
+    script: &Script,
+    number: u32,
+    section: &Section,
+    table: Table,
+) -> Result<Table, NoMemory>
+    requires range { IsInRange script.now }
+    requires section { IsSection (header_of script.now) section.now }
+    requires table { IsTableOf script.now table }
+    requires linked { AreLinked script.now table }
+    ensures { IfOk result (HasPlayed script.now number section.now table) }
+{
+    if section.phase {
+        return play_phase(rt, alloc, gate, script, number, section, table);
+    }
+    let mut table = table;
+    play_line(alloc, script, number, section, &mut table)?;
+    Ok(table)
+}
+
+// All sections, one after another.
+fn play_all<R: Threads + Wait + Sync, G: Gate>(
+    rt: &R,
+    alloc: Global,
+    gate: &G,
+    script: &Script,
+) -> Result<Table, NoMemory>
+    requires { IsInRange script.now }
+    ensures { IfOk result (HasRun script.now script.now.sections) }
+{
+    let mut table = Table::new(alloc, script)?;
+    let mut number = 0;
+    let sections = script.sections.as_slice();
+    'sections: for section in sections {
+        number += 1;
+        table = play_section(rt, alloc, gate, script, number, section, table)?;
+    }
+    Ok(table)
+}
+
+/// Plays a script whose numbers are in range, section by section, and each phase with threads: some for the clients, one
+/// for the operator, and four for each centre. Each call of a host passes through the gate. An `Err` is want of memory.
+/// It may wait for ever, as each wait of a thread may.
+pub fn run<R: Threads + Wait + Sync, G: Gate>(
+    rt: &R,
+    alloc: Global,
+    gate: &G,
+    script: &Script,
+) -> Result<Book, NoMemory>
+    requires { IsInRange script.now }
+    ensures { IfOk result (IsSectionRunOf script.now) }
+{
+    let table = play_all(rt, alloc, gate, script)?;
+    table.into_book(alloc, script.n, script.k)
+}
