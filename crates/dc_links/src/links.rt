@@ -1,7 +1,7 @@
 // The links between the centres of a system.
-ghost use Rattle.std.specs.Prelude.{◌≡◌, ◌≤◌, [], ℕ, Some, length, slice_get, IfOk};
+ghost use Rattle.std.specs.Prelude.{◌≡◌, ◌≤◌, ◌-◌, [], ℕ, Some, length, slice_get, IfOk};
 ghost use Rattle.dc_worker.specs.Links.{IsMore};
-ghost use Rattle.dc_links.specs.Links.{IsAmong, rows_of, row_of, AreGiverRows, AreTakerRows, put_between, taken_between};
+ghost use Rattle.dc_links.specs.Links.{IsAmong, rows_of, row_of, column_of, AreGiverRows, AreTakerRows, put_between, taken_between};
 
 use crate::rows::{close_row, lay_row, no_rows};
 use ids_core::NoMemory;
@@ -67,7 +67,8 @@ impl Links {
     pub(crate) fn between(&self, from: u8, to: u8) -> &Link<Record>
         requires from { IsAmong (length self.now) from }
         requires to { IsAmong (length self.now) to }
-        ensures { slice_get (row_of self.now from) (to - 1) ≡ Some result.now }
+        ensures row { slice_get (row_of self.now from) (to - 1) ≡ Some result.now }
+        ensures column { slice_get (column_of self.now to) (from - 1) ≡ Some result.now }
     {
         &self.rows[usize::from(from) - 1][usize::from(to) - 1]
     }

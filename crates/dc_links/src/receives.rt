@@ -3,7 +3,7 @@ ghost use Rattle.std.specs.Prelude.{◌≡◌, ◌≤◌, length, OnOk, OnErr};
 ghost use Rattle.dc_talk.specs.Acting.{acting, IsCutShort};
 ghost use Rattle.dc_talk.specs.Doors.{IsBehind};
 ghost use Rattle.dc_links.specs.Links.{IsAmong, AreTakers};
-ghost use Rattle.dc_links.specs.Rounds.{inward, ReceivesOver};
+ghost use Rattle.dc_links.specs.Rounds.{inward, ReceivesOver, ReceivesFrom};
 
 use crate::links::Links;
 use dc_talk::{Door, Log};
@@ -66,6 +66,7 @@ fn receive_over<R: Wait, D: Door>(
     ensures place { D.place door.new ≡ D.place door.old }
     ensures ends { AreTakers links.now to takers.new.items }
     ensures inlets { length inlets.new.items ≡ length inlets.old.items }
+    ensures receives { OnOk result (ReceivesFrom from to (inward takers.old.items inlets.old.items) (inward takers.new.items inlets.new.items) (acting (D.shown door.old) log.old) (acting (D.shown door.new) log.new)) }
     ensures short { OnErr result (IsCutShort (acting (D.shown door.old) log.old) (acting (D.shown door.new) log.new)) }
 {
     let link = links.between(from, to);

@@ -3,7 +3,7 @@ ghost use Rattle.std.specs.Prelude.{◌≡◌, ◌≤◌, length, OnOk, OnErr};
 ghost use Rattle.dc_talk.specs.Acting.{acting, IsCutShort};
 ghost use Rattle.dc_talk.specs.Doors.{IsBehind};
 ghost use Rattle.dc_links.specs.Links.{IsAmong, AreGivers};
-ghost use Rattle.dc_links.specs.Rounds.{SendsOver};
+ghost use Rattle.dc_links.specs.Rounds.{SendsOver, SendsTo};
 
 use crate::links::Links;
 use dc_talk::{Door, Log};
@@ -60,6 +60,7 @@ fn send_over<R: Wait, D: Door>(
     requires ends { AreGivers links.now from givers.old.items }
     ensures place { D.place door.new ≡ D.place door.old }
     ensures ends { AreGivers links.now from givers.new.items }
+    ensures sends { OnOk result (SendsTo from to givers.old.items givers.new.items (acting (D.shown door.old) log.old) (acting (D.shown door.new) log.new)) }
     ensures short { OnErr result (IsCutShort (acting (D.shown door.old) log.old) (acting (D.shown door.new) log.new)) }
 {
     let link = links.between(from, to);
