@@ -1,0 +1,89 @@
+-- What a round of a sender or a receiver leaves in its log and at its ends of the links.
+use Rattle.std.specs.Prelude.{◌≡◌, ◌≢◌, ◌≤◌, ◌<◌, ◌⊎◌, ℕ, List, [], ◌++◌, length}
+use Rattle.tx_core.specs.declared.tx.Record.{Record}
+use Rattle.dc_talk.specs.declared.log.Deed.{Deed}
+use Rattle.dc_talk.specs.Acting.{Acting}
+use Rattle.mail_link.specs.Ends.{GiverView, TakerView}
+use Rattle.script_text.specs.declared.rounds.TheConstants.{MOST_MAILED}
+use Rattle.script_text.specs.Carrying.{route}
+use Rattle.script_text.specs.Provenance.{CarriesAll}
+use Rattle.script_text.specs.Links.{Inlet, arrivals, arrived, inlet_after, inlet_closed}
+use Rattle.script_text.specs.Rounds.{SenderDeeds, Mails, mailed, Brings, ReceiverDeeds}
+use Rattle.dc_worker.specs.Work.{Adds, AddsSuch, CarriesSuch}
+use Rattle.dc_links.specs.Links.{IsOther, put_to, put_between, taken_from, inlet_from}
+
+-- what a link makes due of records that are taken, and how its inlet is then
+abbrev pub Due : Type 0
+Due = Inlet Record → List Record → List Record
+
+abbrev pub Later : Type 0
+Later = Inlet Record → List Record → Inlet Record
+
+-- ---- a sender
+
+-- the sender of a centre made a round over the links to the others of the first n: a log and what a door shows grow by
+-- its deeds, and it put what they mailed
+pub record SendsOver (n i : ℕ) (old new : List (GiverView Record)) (a b : Acting) : Type 0 where
+  pub deeds : List Deed
+  pub such : SenderDeeds n i deeds
+  pub adds : Adds a b deeds
+  pub carries : CarriesAll [] deeds
+  pub put : (to : ℕ) → 1 ≤ to → put_to new to ≡ put_to old to ++ mailed to deeds
+
+-- it asked for what one centre lacks, and put the records of the answer on the link to that one
+pub record SendsTo (i to : ℕ) (old new : List (GiverView Record)) (a b : Acting) : Type 0 where
+  pub items : List Record
+  pub mails : CarriesSuch (λ deeds. Mails (route i to) deeds items) a b
+  pub put : put_to new to ≡ put_to old to ++ items
+  pub rest : (j : ℕ) → 1 ≤ j → j ≢ to → put_to new j ≡ put_to old j
+
+-- ---- a receiver
+
+-- the ends of a receiver: those that take, and the fault of each link with what it holds
+pub record Inward : Type 0 where
+  pub takers : List (TakerView Record)
+  pub inlets : List (Inlet Record)
+
+-- a receiver by these
+abbrev pub inward : List (TakerView Record) → List (Inlet Record) → Inward
+inward takers inlets = record { takers = takers; inlets = inlets }
+
+-- the receiver of a centre made a round over the links from the others of the first n: of each it took some records and
+-- delivered what was due of them; of no other link it took any
+pub record TakesOver (due : Due) (later : Later) (n j : ℕ) (old new : Inward) (a b : Acting) : Type 0 where
+  pub items : ℕ → List Record
+  pub deeds : List Deed
+  pub such : ReceiverDeeds n j (λ from. due (inlet_from old.inlets from) (items from)) deeds
+  pub adds : Adds a b deeds
+  pub taken : (from : ℕ) → 1 ≤ from → taken_from new.takers from ≡ taken_from old.takers from ++ items from
+  pub inlets : (from : ℕ) → IsOther n j from → inlet_from new.inlets from ≡ later (inlet_from old.inlets from) (items from)
+  pub none : (from : ℕ) → 1 ≤ from → (from ≡ j) ⊎ (n < from) → items from ≡ []
+  pub same : (from : ℕ) → 1 ≤ from → (from ≡ j) ⊎ (n < from) → inlet_from new.inlets from ≡ inlet_from old.inlets from
+
+-- it took some records of one link and delivered what was due of them
+pub record TakesFrom (due : Due) (later : Later) (from j : ℕ) (old new : Inward) (a b : Acting) : Type 0 where
+  pub items : List Record
+  pub brings : AddsSuch (Brings j (due (inlet_from old.inlets from) items)) a b
+  pub taken : taken_from new.takers from ≡ taken_from old.takers from ++ items
+  pub inlet : inlet_from new.inlets from ≡ later (inlet_from old.inlets from) items
+  pub rest : (i : ℕ) → 1 ≤ i → i ≢ from → (taken_from new.takers i ≡ taken_from old.takers i) × (inlet_from new.inlets i ≡ inlet_from old.inlets i)
+
+-- a round while more may come: it took at most so many records of each link
+pub record ReceivesOver (n j : ℕ) (old new : Inward) (a b : Acting) : Type 0 where
+  pub takes : TakesOver arrived inlet_after n j old new a b
+  pub few : (from : ℕ) → length (takes.items from) ≤ MOST_MAILED
+
+-- the same of one link
+pub record ReceivesFrom (from j : ℕ) (old new : Inward) (a b : Acting) : Type 0 where
+  pub takes : TakesFrom arrived inlet_after from j old new a b
+  pub few : length takes.items ≤ MOST_MAILED
+
+-- a closing round, where no more come: all that was put was taken then
+pub record DrainsOver (n j : ℕ) (givers : List (List (GiverView Record))) (old new : Inward) (a b : Acting) : Type 0 where
+  pub takes : TakesOver arrivals inlet_closed n j old new a b
+  pub all : (from : ℕ) → IsOther n j from → length (taken_from new.takers from) ≡ length (put_between givers from j)
+
+-- the same of one link
+pub record DrainsFrom (from j : ℕ) (givers : List (List (GiverView Record))) (old new : Inward) (a b : Acting) : Type 0 where
+  pub takes : TakesFrom arrivals inlet_closed from j old new a b
+  pub all : length (taken_from new.takers from) ≡ length (put_between givers from j)

@@ -1,0 +1,84 @@
+// A round of a receiver.
+ghost use Rattle.std.specs.Prelude.{◌≡◌, ◌≤◌, length, OnOk, OnErr};
+ghost use Rattle.dc_talk.specs.Acting.{acting, IsCutShort};
+ghost use Rattle.dc_talk.specs.Doors.{IsBehind};
+ghost use Rattle.dc_links.specs.Links.{IsAmong, AreTakers};
+ghost use Rattle.dc_links.specs.Rounds.{inward, ReceivesOver, ReceivesFrom};
+
+use crate::links::Links;
+use dc_talk::{Door, Log};
+use dc_worker::{Inlet, take_round};
+use ids_core::NoMemory;
+use mail_link::Taker;
+use std::sync::Wait;
+use tx_core::Record;
+
+/// Takes from the link from each other centre of the `n` behind the door at most 64 records, and delivers to this one
+/// what comes of them. An `Err` is want of memory, or that 2^64 - 1 records were taken from a link since its fault was
+/// set: a part of the round may have been made.
+pub fn receive_all<R: Wait, D: Door>(
+    rt: &R,
+    door: &mut D,
+    n: u8,
+    to: u8,
+    links: &Links,
+    takers: &mut Vec<Taker<Record>>,
+    inlets: &mut Vec<Inlet>,
+    log: &mut Log,
+) -> Result<(), NoMemory>
+    requires centres { (D.shown door.old).centres ≡ n }
+    requires links { length links.now ≡ n }
+    requires to { IsBehind (D.shown door.old) to }
+    requires ends { AreTakers links.now to takers.old.items }
+    requires inlets { length inlets.old.items ≡ n }
+    ensures place { D.place door.new ≡ D.place door.old }
+    ensures ends { AreTakers links.now to takers.new.items }
+    ensures inlets { length inlets.new.items ≡ n }
+    ensures receives { OnOk result (ReceivesOver n to (inward takers.old.items inlets.old.items) (inward takers.new.items inlets.new.items) (acting (D.shown door.old) log.old) (acting (D.shown door.new) log.new)) }
+    ensures short { OnErr result (IsCutShort (acting (D.shown door.old) log.old) (acting (D.shown door.new) log.new)) }
+{
+    'others: for before in 0..n {
+        let from = before + 1;
+        if from == to {
+            continue 'others;
+        }
+        receive_over(rt, door, from, to, links, takers, inlets, log)?;
+    }
+    Ok(())
+}
+
+// The same over the link from one centre.
+fn receive_over<R: Wait, D: Door>(
+    rt: &R,
+    door: &mut D,
+    from: u8,
+    to: u8,
+    links: &Links,
+    takers: &mut Vec<Taker<Record>>,
+    inlets: &mut Vec<Inlet>,
+    log: &mut Log,
+) -> Result<(), NoMemory>
+    requires to { IsBehind (D.shown door.old) to }
+    requires row { IsAmong (length links.now) from }
+    requires column { IsAmong (length links.now) to }
+    requires ends { AreTakers links.now to takers.old.items }
+    requires inlets { length inlets.old.items ≡ length links.now }
+    ensures place { D.place door.new ≡ D.place door.old }
+    ensures ends { AreTakers links.now to takers.new.items }
+    ensures inlets { length inlets.new.items ≡ length inlets.old.items }
+    ensures receives { OnOk result (ReceivesFrom from to (inward takers.old.items inlets.old.items) (inward takers.new.items inlets.new.items) (acting (D.shown door.old) log.old) (acting (D.shown door.new) log.new)) }
+    ensures short { OnErr result (IsCutShort (acting (D.shown door.old) log.old) (acting (D.shown door.new) log.new)) }
+{
+    let link = links.between(from, to);
+    let place = usize::from(from) - 1;
+    take_round(
+        rt,
+        door,
+        to,
+        &mut inlets[place],
+        link,
+        &mut takers[place],
+        log,
+    )?;
+    Ok(())
+}

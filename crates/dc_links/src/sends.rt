@@ -1,0 +1,77 @@
+// A round of a sender.
+ghost use Rattle.std.specs.Prelude.{◌≡◌, ◌≤◌, length, OnOk, OnErr};
+ghost use Rattle.dc_talk.specs.Acting.{acting, IsCutShort};
+ghost use Rattle.dc_talk.specs.Doors.{IsBehind};
+ghost use Rattle.dc_links.specs.Links.{IsAmong, AreGivers};
+ghost use Rattle.dc_links.specs.Rounds.{SendsOver, SendsTo};
+
+use crate::links::Links;
+use dc_talk::{Door, Log};
+use dc_worker::send_round;
+use ids_core::NoMemory;
+use mail_link::Giver;
+use std::sync::Wait;
+use tx_core::Record;
+
+/// Puts on the link from a centre to each other one of the `n` behind the door what that one lacks of this centre's
+/// records, at most 64 each. An `Err` is want of memory: a part of the round may have been made.
+pub fn send_all<R: Wait, D: Door>(
+    rt: &R,
+    door: &mut D,
+    n: u8,
+    from: u8,
+    links: &Links,
+    givers: &mut Vec<Giver<Record>>,
+    log: &mut Log,
+) -> Result<(), NoMemory>
+    requires centres { (D.shown door.old).centres ≡ n }
+    requires links { length links.now ≡ n }
+    requires from { IsBehind (D.shown door.old) from }
+    requires ends { AreGivers links.now from givers.old.items }
+    ensures place { D.place door.new ≡ D.place door.old }
+    ensures ends { AreGivers links.now from givers.new.items }
+    ensures sends { OnOk result (SendsOver n from givers.old.items givers.new.items (acting (D.shown door.old) log.old) (acting (D.shown door.new) log.new)) }
+    ensures short { OnErr result (IsCutShort (acting (D.shown door.old) log.old) (acting (D.shown door.new) log.new)) }
+{
+    'others: for before in 0..n {
+        let to = before + 1;
+        if to == from {
+            continue 'others;
+        }
+        send_over(rt, door, from, to, links, givers, log)?;
+    }
+    Ok(())
+}
+
+// The same over the link to one centre.
+fn send_over<R: Wait, D: Door>(
+    rt: &R,
+    door: &mut D,
+    from: u8,
+    to: u8,
+    links: &Links,
+    givers: &mut Vec<Giver<Record>>,
+    log: &mut Log,
+) -> Result<(), NoMemory>
+    requires from { IsBehind (D.shown door.old) from }
+    requires to { IsBehind (D.shown door.old) to }
+    requires row { IsAmong (length links.now) from }
+    requires column { IsAmong (length links.now) to }
+    requires ends { AreGivers links.now from givers.old.items }
+    ensures place { D.place door.new ≡ D.place door.old }
+    ensures ends { AreGivers links.now from givers.new.items }
+    ensures sends { OnOk result (SendsTo from to givers.old.items givers.new.items (acting (D.shown door.old) log.old) (acting (D.shown door.new) log.new)) }
+    ensures short { OnErr result (IsCutShort (acting (D.shown door.old) log.old) (acting (D.shown door.new) log.new)) }
+{
+    let link = links.between(from, to);
+    send_round(
+        rt,
+        door,
+        from,
+        to,
+        link,
+        &mut givers[usize::from(to) - 1],
+        log,
+    )?;
+    Ok(())
+}
