@@ -6,7 +6,11 @@ use ids_core::NoMemory;
 use std::alloc::Global;
 
 /// Cuts clients into so many blocks at most that are not empty, in order.
-pub(crate) fn cut(alloc: Global, players: Vec<Player>, threads: u32) -> Result<Vec<Vec<Player>>, NoMemory>
+pub(crate) fn cut(
+    alloc: Global,
+    players: Vec<Player>,
+    threads: u32,
+) -> Result<Vec<Vec<Player>>, NoMemory>
     requires { 1 ≤ threads }
     ensures { IfOk result (λ blocks. flat_map (λ block. block.items) blocks.items ≡ players.items) }
 {

@@ -90,9 +90,7 @@ fn turn_one<'a, R: Wait, G: Gate>(
         mut door,
         mut log,
     } = seat;
-    take_turn(
-        alloc, scene, turn, client, &mut stub, &mut door, &mut log,
-    )?;
+    take_turn(alloc, scene, turn, client, &mut stub, &mut door, &mut log)?;
     Ok(Seat {
         client,
         stub,

@@ -17,6 +17,6 @@ pub use callers::Caller;
 pub use clients::Player;
 pub use crews::Crew;
 pub use receivers::{ReceiverEnd, close_over};
-pub use senders::SenderEnd;
 pub use scene::Scene;
+pub use senders::SenderEnd;
 pub use threads::{Cast, play_in_threads};

@@ -15,7 +15,7 @@ use dc_mail::report_all;
 use dc_talk::{Door, Log};
 use ids_core::NoMemory;
 use io_edge::Gate;
-use run_table::prune_in_round;
+use run_table::prune;
 use std::sync::Wait;
 
 // The rounds of the reporter of a centre through a door.
@@ -54,7 +54,7 @@ fn prune_rounds<D: Door>(
 {
     'rounds: for before in 0..rounds {
         log.set(section, before + 1);
-        prune_in_round(door, before + 1, centre, log)?;
+        prune(door, before + 1, centre, log)?;
     }
     Ok(())
 }
