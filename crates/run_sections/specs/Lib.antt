@@ -1,0 +1,4 @@
+pub mod Orders
+pub mod Sections
+pub mod Runs
+pub mod Apart
