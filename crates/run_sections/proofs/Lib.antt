@@ -7,3 +7,4 @@ pub mod Receiving
 pub mod Carried
 pub mod Reaching
 pub mod Sectioning
+pub mod Running
