@@ -1,0 +1,10 @@
+pub mod Orders
+pub mod Actors
+pub mod Exchanges
+pub mod Fits
+pub mod InTurn
+pub mod Receiving
+pub mod Carried
+pub mod Reaching
+pub mod Sectioning
+pub mod Running

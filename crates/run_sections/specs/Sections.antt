@@ -1,6 +1,6 @@
 -- What a section of a script leaves where its actors act at once. No order is said between two actors, nor between two
 -- centres.
-use Rattle.std.specs.Prelude.{◌≡◌, ◌≢◌, ◌≤◌, ℕ, ◌+◌, ◌*◌, ◌==◌, ◌&&◌, true, cond, replicate, List, [], ◌∷◌, ◌++◌}
+use Rattle.std.specs.Prelude.{◌≡◌, ◌≢◌, ℕ, ◌+◌, ◌*◌, ◌==◌, ◌&&◌, true, cond, replicate, List, [], ◌∷◌, ◌++◌}
 use Rattle.std.specs.List.{range_with_len}
 use Rattle.list_core.specs.Members.{In}
 use Rattle.tx_core.specs.declared.tx.Record.{Record}
