@@ -4,12 +4,14 @@ use Rattle.std.specs.Prelude.{slice_get, All, ◌==◌, filter}
 use Rattle.std.specs.List.{AllZip, cons_option, range_with_len}
 use Rattle.std.specs.Global.{Vec}
 use Rattle.std.specs.Option.{option_map}
+use Rattle.std.proofs.Math.Seq.{take-length}
 use Rattle.std.proofs.lemmas.Bool.{cases_lt, eq-eqb}
 use Rattle.std.proofs.lemmas.List.{length-map}
+use Rattle.std.proofs.lemmas.List.Elements.{All-map, All-weaker}
 use Rattle.std.proofs.lemmas.List.FromFn.{length-map-range_with_len}
 use Rattle.std.proofs.lemmas.Option.{same_Some, slice_get_within}
 use Rattle.list_core.specs.Members.{In}
-use Rattle.list_core.proofs.Gets.{get_within, get_In, In_get}
+use Rattle.list_core.proofs.Gets.{get_within, get_In, In_get, is_front}
 use Rattle.list_core.proofs.Members.{In-All, In_filter}
 use Rattle.list_core.proofs.Passing.{In_filter_map}
 use Rattle.host_lock.specs.Law.{calls_of}
@@ -17,6 +19,8 @@ use Rattle.host_lock.specs.Hosts.{fresh, Stood, AllStood}
 use Rattle.dc_talk.specs.declared.ask.Ask.{Ask}
 use Rattle.dc_talk.specs.declared.say.Say.{Say}
 use Rattle.dc_talk.specs.declared.log.Note.{Note}
+use Rattle.dc_talk.specs.declared.settings.Settings.{Settings}
+use Rattle.dc_talk.specs.Answers.{History}
 use Rattle.dc_talk.specs.Entries.{Entry}
 use Rattle.dc_talk.specs.Logs.{exchanged_in, entry_for, entries_made}
 use Rattle.dc_host.specs.Centres.{CentreTrail, KeptCentre, seen_of, all_seen, IsKeptCentre}
@@ -28,6 +32,7 @@ use Rattle.dc_host.proofs.Passes.{zip_long}
 use Rattle.dc_host.proofs.Trails.{trail_found}
 use Rattle.script_text.specs.Steps.{IsCount}
 use Rattle.run_book.specs.Parts.{exchanged, entries_by}
+use Rattle.run_table.specs.Tables.{AreHistories}
 use Rattle.run_table.proofs.Numbered.{get_below}
 use Rattle.run_sections.specs.Orders.{deeds_of}
 use Rattle.phase_play.specs.declared.callers.Caller.{Caller}
@@ -132,6 +137,10 @@ module _ (hosts : List CentreHost) (count : ℕ) (callers acted : List Caller) (
 
 -- ---- the centres
 
+-- lists of one length with the same at each place
+lists_same : {X : Type 0} (xs ys : List X) → length xs ≡ length ys → ((p : ℕ) (x : X) → slice_get xs p ≡ Some x → slice_get ys p ≡ Some x) → xs ≡ ys
+lists_same xs ys long same = is_front xs ys same ∙ (ap (λ k. take k ys) long ∙ take-length ys)
+
 -- a centre with its host, and what came out of it
 pub record HasGrown (old : List CentreTrail) (hosts : List CentreHost) (rows : List (List CentrePass)) (kept : List KeptCentre) (k : ℕ) : Type 0 where
   pub centre : CentreTrail
@@ -168,3 +177,22 @@ module _ (old : List CentreTrail) (hosts : List CentreHost) (rows : List (List C
       let at = In_get kept one there in
       let g = grown at.0 (omega (arith, slice_get_within kept at.0 one at.1, as_many)) in
       subst IsKeptCentre (same_Some g.one one (sym g.is ∙ at.1)) g.closed.kept_at)
+
+  -- each trail is a history
+  pub all_histories : AreHistories (all_seen kept)
+  all_histories = All-map (λ (centre : CentreTrail). History centre.settings centre.entries) seen_of kept (All-weaker IsKeptCentre (λ one. History (seen_of one).settings (seen_of one).entries) (λ one is. is.history) kept all_kept)
+
+  -- with the settings that its centre had
+  pub same_settings : settings_of (all_seen kept) ≡ settings_of old
+  same_settings = lists_same (settings_of (all_seen kept)) (settings_of old)
+      (length-map (all_seen kept) (λ (centre : CentreTrail). centre.settings) ∙ (length-map kept seen_of ∙ (as_many ∙ sym (length-map old (λ (centre : CentreTrail). centre.settings)))))
+      same
+    where
+      same : (p : ℕ) (s : Settings) → slice_get (settings_of (all_seen kept)) p ≡ Some s → slice_get (settings_of old) p ≡ Some s
+      same p s there =
+          let later = get_source (λ (centre : CentreTrail). centre.settings) (all_seen kept) p s there in
+          let one = get_source seen_of kept p later.source later.there in
+          let g = grown p (omega (arith, slice_get_within kept p one.source one.there, as_many)) in
+          let own : g.one ≡ one.source = same_Some g.one one.source (sym g.is ∙ one.there) in
+          let settings : g.centre.settings ≡ s = same_Some g.centre.settings g.one.machine.settings (sym g.opened.settings ∙ g.closed.settings) ∙ (ap (λ (kept : KeptCentre). kept.machine.settings) own ∙ (ap (λ (centre : CentreTrail). centre.settings) one.gives ∙ later.gives)) in
+          get_image (λ (centre : CentreTrail). centre.settings) old p g.centre g.was ∙ ap Some settings
