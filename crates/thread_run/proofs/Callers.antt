@@ -115,7 +115,7 @@ module _ (scene : Scene) (givers : List (List (GiverView Record))) where
   }
 
   -- the worker of a role acted
-  pub worker_acted : (role : Role) (old new : Crew) → HasCrewDone old new → HasActed (caller_as role old) (caller_as role new)
+  abbrev pub worker_acted : (role : Role) (old new : Crew) → HasCrewDone old new → HasActed (caller_as role old) (caller_as role new)
   worker_acted Sender old new done = record { mine = done.sender.plays.plays.mine; same = done.sender.same; acted = done.sender.plays.plays.acted }
   worker_acted Receiver old new done = record {
     mine = done.receiver.plays.plays.mine ++ done.closed.closes.mine;
@@ -130,8 +130,12 @@ module _ (scene : Scene) (givers : List (List (GiverView Record))) where
   crew_acted old new done = (worker_acted Sender old new done, (worker_acted Receiver old new done, (worker_acted Reporter old new done, (worker_acted Pruner old new done, tt))))
 
 -- a client acted
-pub player_acted : (scene : Scene) (old new : Player) → HasTakenSteps scene old new → HasActed old.caller new.caller
+abbrev pub player_acted : (scene : Scene) (old new : Player) → HasTakenSteps scene old new → HasActed old.caller new.caller
 player_acted scene old new taken = record { mine = taken.plays.plays.mine; same = taken.same; acted = taken.plays.plays.acted }
+
+-- the operator acted
+abbrev pub operator_acted : (scene : Scene) (old new : Caller) → HasOperated scene old new → HasActed old new
+operator_acted scene old new operated = record { mine = operated.plays.mine; same = operated.same; acted = operated.plays.acted }
 
 -- the workers of all centres acted
 pub crews_done : (scene : Scene) (givers : List (List (GiverView Record))) (before played closed : List Crew) → AllZip (HasCrewPlayed scene) before played → AllZip (HasCrewClosed scene givers) played closed → AllZip (HasCrewDone scene givers) before closed
@@ -140,7 +144,7 @@ crews_done scene givers before played closed first later = zip_then (HasCrewPlay
 -- so did all
 pub all_acted : (scene : Scene) (givers : List (List (GiverView Record))) (operator : Caller) (players : List Player) (crews : List Crew) (operator' : Caller) (players' : List Player) (crews' : List Crew) → HasOperated scene operator operator' → AllZip (HasTakenSteps scene) players players' → AllZip (HasCrewDone scene givers) crews crews' → AllZip HasActed (callers_among operator players crews) (callers_among operator' players' crews')
 all_acted scene givers operator players crews operator' players' crews' operated taken done = (
-  record { mine = operated.plays.mine; same = operated.same; acted = operated.plays.acted },
+  operator_acted scene operator operator' operated,
   zip_append HasActed (map (λ (p : Player). p.caller) players) (flat_map crew_callers crews) (map (λ (p : Player). p.caller) players') (flat_map crew_callers crews')
   (zip_map (HasTakenSteps scene) HasActed (λ (p : Player). p.caller) (λ (p : Player). p.caller) players players' (player_acted scene) taken)
   (zip_flat (HasCrewDone scene givers) HasActed crew_callers crew_callers crews crews' (crew_acted scene givers) done),

@@ -1,3 +1,6 @@
 pub mod Zips
 pub mod Callers
 pub mod Redeeming
+pub mod Carrying
+pub mod Playing
+pub mod Sectioning

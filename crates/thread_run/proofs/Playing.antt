@@ -1,0 +1,200 @@
+-- A phase that was played with threads, as a section.
+use Rattle.std.proofs.Common.{◌≡◌, ◌≢◌, ℕ, suc, ◌+◌, ◌-◌, ◌*◌, ◌≤◌, ◌<◌, Bool, cond, List, [], ◌∷◌, ◌++◌, map, length, drop, Some, refl, sym, ap, ◌∙◌, subst, arith}
+use Rattle.std.specs.Prelude.{slice_get, slice_index_or, flat_map}
+use Rattle.std.specs.List.{AllZip, range_with_len}
+use Rattle.std.specs.Global.{Vec}
+use Rattle.std.proofs.lemmas.List.{length-map, length-append}
+use Rattle.std.proofs.lemmas.List.FromFn.{length-range_with_len, length-map-range_with_len, get_or-range_with_len}
+use Rattle.std.proofs.lemmas.Option.{same_Some, slice_get_within, slice_get-get_or, get_or_from_slice_get}
+use Rattle.list_core.proofs.Gets.{get_within}
+use Rattle.vv_core.specs.Vectors.{centres}
+use Rattle.tx_core.specs.declared.tx.Record.{Record}
+use Rattle.dc_talk.specs.declared.log.Note.{Note}
+use Rattle.dc_talk.specs.Logs.{Logged}
+use Rattle.dc_talk.specs.Entries.{Entry}
+use Rattle.dc_host.specs.Centres.{KeptCentre, all_seen}
+use Rattle.dc_host.specs.Hosts.{AreFor, rows_of, new_rows, IsHostOf, AreClosed}
+use Rattle.dc_host.specs.KeptDoors.{trail_at}
+use Rattle.mail_link.specs.Ends.{GiverView}
+use Rattle.script_text.specs.declared.script.Script.{Script}
+use Rattle.script_text.specs.declared.rounds.Role.{Role}
+use Rattle.script_text.specs.declared.rounds.Role.TheVariants.{Sender, Receiver, Reporter, Pruner}
+use Rattle.script_text.specs.Steps.{IsCount}
+use Rattle.script_text.specs.Rows.{IsPhase}
+use Rattle.script_text.specs.Rounds.{worker_of}
+use Rattle.script_text.specs.Scripts.{header_of, IsInRange}
+use Rattle.dc_links.specs.Links.{IsAmong, rows_of as ends_of, put_between, taken_between}
+use Rattle.run_book.specs.Parts.{idle_log}
+use Rattle.run_table.specs.declared.table.Table.{Table}
+use Rattle.run_table.specs.Tables.{log_at}
+use Rattle.run_sections.specs.Sections.{Left, actors_of}
+use Rattle.phase_play.specs.declared.callers.Caller.{Caller}
+use Rattle.phase_play.specs.declared.crews.Crew.{Crew}
+use Rattle.phase_play.specs.declared.clients.Player.{Player}
+use Rattle.phase_play.specs.declared.scene.Scene.{Scene}
+use Rattle.phase_play.specs.declared.threads.Cast.{Cast}
+use Rattle.phase_play.specs.Casts.{HasTakenSteps, HaveAllPlayed}
+use Rattle.thread_run.specs.declared.parts.Parts.{Parts}
+use Rattle.thread_run.specs.Casts.{callers_among, IsCastOf, HaveParted}
+use Rattle.thread_run.specs.Lending.{AreInlets, HaveInlets}
+use Rattle.thread_run.specs.Tables.{notes_at, IsTableOf}
+use Rattle.thread_run.proofs.Zips.{HasPartner, zip_get, get_image, drop_front}
+use Rattle.thread_run.proofs.Callers.{Stands, caller_as, player_stands, worker_stands, HasActed, HasCrewDone, worker_acted, player_acted, operator_acted, crews_done, all_acted}
+
+-- what the calls of a phase leave, from the table before it to the one behind it
+pub record IsPhasePlayed (scene : Scene) (old new : Table) : Type 0 where
+  pub range : IsInRange scene.script.now
+  pub phase : IsPhase (header_of scene.script.now) scene.section.now
+  pub table : IsTableOf scene.script.now old
+  pub opened : AllZip IsHostOf old.door.centres scene.hosts.now.hosts
+  pub each : AreFor (actors_of scene.script.now) scene.hosts.now.hosts
+  pub links : length scene.links.now ≡ scene.script.now.n
+  pub parts : Parts
+  pub rows_new : rows_of parts.rows.items ≡ new_rows scene.hosts.now.hosts 1 (actors_of scene.script.now)
+  pub logs_are : parts.logs.items ≡ old.logs.items
+  pub stubs_are : parts.stubs.items ≡ old.stubs.items
+  pub none_put : (from to : ℕ) → put_between (ends_of parts.givers.items) from to ≡ []
+  pub none_taken : (from to : ℕ) → taken_between (ends_of parts.takers.items) from to ≡ []
+  pub lent : AreInlets old.posts scene.script.now.n parts.inlets.items
+  pub cast : Cast
+  pub cast_is : IsCastOf scene.script.now.n scene.script.now.clients parts cast
+  pub acted : Cast
+  pub played : HaveAllPlayed scene cast acted
+  pub later : Parts
+  pub parted : HaveParted scene scene.script.now.n scene.script.now.clients acted later
+  pub drained : (from to : ℕ) → IsAmong (length scene.links.now) from → IsAmong (length scene.links.now) to → length (taken_between (ends_of later.takers.items) from to) ≡ length (put_between (ends_of later.givers.items) from to) → put_between (ends_of later.givers.items) from to ≡ taken_between (ends_of later.takers.items) from to
+  pub kept : List KeptCentre
+  pub closed : AreClosed scene.hosts.now.hosts (rows_of later.rows.items) kept
+  pub given : HaveInlets scene.script.now.n later.inlets.items new.posts
+  pub door_is : new.door.centres ≡ all_seen kept
+  pub stubs_new : new.stubs.items ≡ later.stubs.items
+  pub logs_new : new.logs.items ≡ later.logs.items
+
+-- what stands in one table behind what stood in the other
+unfoldable pub left_between : Table → Table → Left
+left_between old new = record {
+  notes = λ a. drop (length (notes_at old a)) (notes_at new a);
+  entries = λ i. drop (length (trail_at old.door.centres i)) (trail_at new.door.centres i);
+}
+
+-- the log at an actor's place is the actor's
+log_there : (logs : List Logged) (a : ℕ) (log : Logged) → 1 ≤ a → slice_get logs (a - 1) ≡ Some log → log_at logs a ≡ log
+log_there logs a log low there =
+    let same : suc (a - 1) ≡ a = omega (arith, low) in
+    subst (λ k. log_at logs k ≡ log) same (get_or_from_slice_get logs (a - 1) log (idle_log 0) there)
+
+-- the element of a number among elements that are numbered from 1
+numbered : {X : Type 0} (f : X → ℕ) (xs : List X) (count i : ℕ) (x : X) → map f xs ≡ range_with_len 1 count → IsCount count i → slice_get xs (i - 1) ≡ Some x → f x ≡ i
+numbered f xs count i x are range there =
+    let place : 1 + (i - 1) ≡ i = omega (arith, range.0) in
+    let within : i - 1 < length (range_with_len 1 count) = omega (arith, range.0, range.1, length-range_with_len 1 count) in
+    same_Some (f x) i
+    (sym (get_image f xs (i - 1) x there)
+    ∙ (ap (λ l. slice_get l (i - 1)) are
+    ∙ (slice_get-get_or (range_with_len 1 count) (i - 1) 0 within
+    ∙ ap Some (get_or-range_with_len 1 count (i - 1) 0 (omega (arith, range.0, range.1)) ∙ place))))
+
+-- how many there are
+pub count_of : {X : Type 0} (f : X → ℕ) (xs : List X) (count : ℕ) → map f xs ≡ range_with_len 1 count → length xs ≡ count
+count_of f xs count are = sym (length-map xs f) ∙ (ap length are ∙ length-range_with_len 1 count)
+
+module _ (scene : Scene) (old new : Table) (h : IsPhasePlayed scene old new) where
+  -- the ends of all senders behind the phase
+  abbrev pub put_then : List (List (GiverView Record))
+  put_then = ends_of h.later.givers.items
+
+  -- all actors before the phase and behind it, as callers
+  abbrev pub before : List Caller
+  before = callers_among h.cast.operator h.cast.clients.items h.cast.crews.items
+
+  abbrev pub behind : List Caller
+  behind = callers_among h.acted.operator h.acted.clients.items h.parted.closed
+
+  pub done : AllZip (HasCrewDone scene put_then) h.cast.crews.items h.parted.closed
+  done = crews_done scene put_then h.cast.crews.items h.acted.crews.items h.parted.closed h.played.crews h.parted.crews
+
+  pub did : AllZip HasActed before behind
+  did = all_acted scene put_then h.cast.operator h.cast.clients.items h.cast.crews.items h.acted.operator h.acted.clients.items h.parted.closed h.played.operator h.played.clients done
+
+  -- the workers of a centre
+  pub record HasCrew (i : ℕ) : Type 0 where
+    pub crew : Crew
+    pub there : slice_get h.cast.crews.items (i - 1) ≡ Some crew
+    pub number : crew.centre ≡ i
+    pub later : Crew
+    pub is : slice_get h.parted.closed (i - 1) ≡ Some later
+    pub done : HasCrewDone scene put_then crew later
+
+  pub crew_of : (i : ℕ) → IsCount scene.script.now.n i → HasCrew i
+  crew_of i range =
+      let count = count_of (λ (c : Crew). c.centre) h.cast.crews.items scene.script.now.n h.cast_is.crews_are.numbers in
+      let crew = get_within h.cast.crews.items (i - 1) (omega (arith, range.0, range.1, count)) in
+      let pair = zip_get (HasCrewDone scene put_then) h.cast.crews.items h.parted.closed (i - 1) crew.0 done crew.1 in
+      record {
+        crew = crew.0;
+        there = crew.1;
+        number = numbered (λ (c : Crew). c.centre) h.cast.crews.items scene.script.now.n i crew.0 h.cast_is.crews_are.numbers range crew.1;
+        later = pair.partner;
+        is = pair.there;
+        done = pair.related;
+      }
+
+  -- a client
+  pub record HasPlayer (client : ℕ) : Type 0 where
+    pub player : Player
+    pub there : slice_get h.cast.clients.items (client - 1) ≡ Some player
+    pub number : player.client ≡ client
+    pub later : Player
+    pub is : slice_get h.acted.clients.items (client - 1) ≡ Some later
+    pub taken : HasTakenSteps scene player later
+
+  pub player_of : (client : ℕ) → IsCount scene.script.now.clients client → HasPlayer client
+  player_of client range =
+      let count = count_of (λ (p : Player). p.client) h.cast.clients.items scene.script.now.clients h.cast_is.numbers in
+      let player = get_within h.cast.clients.items (client - 1) (omega (arith, range.0, range.1, count)) in
+      let pair = zip_get (HasTakenSteps scene) h.cast.clients.items h.acted.clients.items (client - 1) player.0 h.played.clients player.1 in
+      record {
+        player = player.0;
+        there = player.1;
+        number = numbered (λ (p : Player). p.client) h.cast.clients.items scene.script.now.clients client player.0 h.cast_is.numbers range player.1;
+        later = pair.partner;
+        is = pair.there;
+        taken = pair.related;
+      }
+
+  -- ---- the notes
+
+  -- an actor's log before the phase and behind it
+  pub log_before : (a : ℕ) (c : Caller) → 1 ≤ a → Stands before a c → log_at old.logs.items a ≡ c.log
+  log_before a c low there = log_there old.logs.items a c.log low (ap (λ logs. slice_get logs (a - 1)) (sym h.logs_are ∙ sym h.cast_is.callers.logs_are) ∙ get_image (λ (c : Caller). c.log) before (a - 1) c there)
+
+  pub log_behind : (a : ℕ) (c : Caller) → 1 ≤ a → Stands behind a c → log_at new.logs.items a ≡ c.log
+  log_behind a c low there = log_there new.logs.items a c.log low (ap (λ logs. slice_get logs (a - 1)) (h.logs_new ∙ sym h.parted.parted.callers.logs_are) ∙ get_image (λ (c : Caller). c.log) behind (a - 1) c there)
+
+  -- what it noted stands behind its notes
+  pub notes_grown : (a : ℕ) (c d : Caller) (r : HasActed c d) → 1 ≤ a → Stands before a c → Stands behind a d → notes_at new a ≡ notes_at old a ++ r.mine
+  notes_grown a c d r low was is =
+      ap (λ (log : Logged). log.notes) (log_behind a d low is)
+      ∙ (r.acted.log ∙ ap (λ (log : Logged). log.notes ++ r.mine) (sym (log_before a c low was)))
+
+  pub left_is : (a : ℕ) (c d : Caller) (r : HasActed c d) → 1 ≤ a → Stands before a c → Stands behind a d → (left_between old new).notes a ≡ r.mine
+  unfolding left_between
+  left_is a c d r low was is = drop_front (notes_at old a) r.mine (notes_at new a) (notes_grown a c d r low was is)
+
+  -- so it is of the operator, of each client and of each worker
+  pub operator_left : (left_between old new).notes 1 ≡ h.played.operator.plays.mine
+  operator_left = left_is 1 h.cast.operator h.acted.operator (operator_acted scene h.cast.operator h.acted.operator h.played.operator) (omega arith) refl refl
+
+  pub player_left : (client : ℕ) → (range : IsCount scene.script.now.clients client) → (left_between old new).notes (client + 1) ≡ (player_of client range).taken.plays.plays.mine
+  player_left client range =
+      let p = player_of client range in
+      left_is (client + 1) p.player.caller p.later.caller (player_acted scene p.player p.later p.taken) (omega arith)
+      (player_stands h.cast.operator h.cast.clients.items h.cast.crews.items client p.player range.0 p.there)
+      (player_stands h.acted.operator h.acted.clients.items h.parted.closed client p.later range.0 p.is)
+
+  pub worker_left : (i : ℕ) (role : Role) → (range : IsCount scene.script.now.n i) → (left_between old new).notes (worker_of scene.script.now.clients i role) ≡ (worker_acted scene put_then role (crew_of i range).crew (crew_of i range).later (crew_of i range).done).mine
+  worker_left i role range =
+      let w = crew_of i range in
+      left_is (worker_of scene.script.now.clients i role) (caller_as role w.crew) (caller_as role w.later) (worker_acted scene put_then role w.crew w.later w.done) (omega arith)
+      (worker_stands h.cast.operator h.cast.clients.items h.cast.crews.items scene.script.now.clients i role w.crew (count_of (λ (p : Player). p.client) h.cast.clients.items scene.script.now.clients h.cast_is.numbers) w.there)
+      (worker_stands h.acted.operator h.acted.clients.items h.parted.closed scene.script.now.clients i role w.later (count_of (λ (p : Player). p.client) h.acted.clients.items scene.script.now.clients h.parted.parted.numbers) w.is)
