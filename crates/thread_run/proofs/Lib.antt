@@ -4,3 +4,4 @@ pub mod Redeeming
 pub mod Carrying
 pub mod Playing
 pub mod Sectioning
+pub mod PlayedPhases
