@@ -41,8 +41,8 @@ use Rattle.thread_run.specs.Tables.{notes_at, IsTableOf}
 use Rattle.thread_run.proofs.Zips.{HasPartner, zip_get, get_image, drop_front}
 use Rattle.thread_run.proofs.Callers.{Stands, caller_as, player_stands, worker_stands, HasActed, HasCrewDone, worker_acted, player_acted, operator_acted, crews_done, all_acted}
 
--- what the calls of a phase leave, from the table before it to the one behind it
-pub record IsPhasePlayed (scene : Scene) (old new : Table) : Type 0 where
+-- what the calls of a phase leave, up to where its actors are taken apart
+pub record IsPhaseRun (scene : Scene) (old : Table) : Type 0 where
   pub range : IsInRange scene.script.now
   pub phase : IsPhase (header_of scene.script.now) scene.section.now
   pub table : IsTableOf scene.script.now old
@@ -62,13 +62,17 @@ pub record IsPhasePlayed (scene : Scene) (old new : Table) : Type 0 where
   pub played : HaveAllPlayed scene cast acted
   pub later : Parts
   pub parted : HaveParted scene scene.script.now.n scene.script.now.clients acted later
-  pub drained : (from to : ℕ) → IsAmong (length scene.links.now) from → IsAmong (length scene.links.now) to → length (taken_between (ends_of later.takers.items) from to) ≡ length (put_between (ends_of later.givers.items) from to) → put_between (ends_of later.givers.items) from to ≡ taken_between (ends_of later.takers.items) from to
+
+-- what they leave from the table before it to the one behind it
+pub record IsPhasePlayed (scene : Scene) (old new : Table) : Type 0 where
+  pub run : IsPhaseRun scene old
+  pub drained : (from to : ℕ) → IsAmong (length scene.links.now) from → IsAmong (length scene.links.now) to → length (taken_between (ends_of run.later.takers.items) from to) ≡ length (put_between (ends_of run.later.givers.items) from to) → put_between (ends_of run.later.givers.items) from to ≡ taken_between (ends_of run.later.takers.items) from to
   pub kept : List KeptCentre
-  pub closed : AreClosed scene.hosts.now.hosts (rows_of later.rows.items) kept
-  pub given : HaveInlets scene.script.now.n later.inlets.items new.posts
+  pub closed : AreClosed scene.hosts.now.hosts (rows_of run.later.rows.items) kept
+  pub given : HaveInlets scene.script.now.n run.later.inlets.items new.posts
   pub door_is : new.door.centres ≡ all_seen kept
-  pub stubs_new : new.stubs.items ≡ later.stubs.items
-  pub logs_new : new.logs.items ≡ later.logs.items
+  pub stubs_new : new.stubs.items ≡ run.later.stubs.items
+  pub logs_new : new.logs.items ≡ run.later.logs.items
 
 -- what stands in one table behind what stood in the other
 unfoldable pub left_between : Table → Table → Left
@@ -98,42 +102,42 @@ numbered f xs count i x are range there =
 pub count_of : {X : Type 0} (f : X → ℕ) (xs : List X) (count : ℕ) → map f xs ≡ range_with_len 1 count → length xs ≡ count
 count_of f xs count are = sym (length-map xs f) ∙ (ap length are ∙ length-range_with_len 1 count)
 
-module _ (scene : Scene) (old new : Table) (h : IsPhasePlayed scene old new) where
+module _ (scene : Scene) (old : Table) (run : IsPhaseRun scene old) where
   -- the ends of all senders behind the phase
   abbrev pub put_then : List (List (GiverView Record))
-  put_then = ends_of h.later.givers.items
+  put_then = ends_of run.later.givers.items
 
   -- all actors before the phase and behind it, as callers
   abbrev pub before : List Caller
-  before = callers_among h.cast.operator h.cast.clients.items h.cast.crews.items
+  before = callers_among run.cast.operator run.cast.clients.items run.cast.crews.items
 
   abbrev pub behind : List Caller
-  behind = callers_among h.acted.operator h.acted.clients.items h.parted.closed
+  behind = callers_among run.acted.operator run.acted.clients.items run.parted.closed
 
-  pub done : AllZip (HasCrewDone scene put_then) h.cast.crews.items h.parted.closed
-  done = crews_done scene put_then h.cast.crews.items h.acted.crews.items h.parted.closed h.played.crews h.parted.crews
+  pub done : AllZip (HasCrewDone scene put_then) run.cast.crews.items run.parted.closed
+  done = crews_done scene put_then run.cast.crews.items run.acted.crews.items run.parted.closed run.played.crews run.parted.crews
 
   pub did : AllZip HasActed before behind
-  did = all_acted scene put_then h.cast.operator h.cast.clients.items h.cast.crews.items h.acted.operator h.acted.clients.items h.parted.closed h.played.operator h.played.clients done
+  did = all_acted scene put_then run.cast.operator run.cast.clients.items run.cast.crews.items run.acted.operator run.acted.clients.items run.parted.closed run.played.operator run.played.clients done
 
   -- the workers of a centre
   pub record HasCrew (i : ℕ) : Type 0 where
     pub crew : Crew
-    pub there : slice_get h.cast.crews.items (i - 1) ≡ Some crew
+    pub there : slice_get run.cast.crews.items (i - 1) ≡ Some crew
     pub number : crew.centre ≡ i
     pub later : Crew
-    pub is : slice_get h.parted.closed (i - 1) ≡ Some later
+    pub is : slice_get run.parted.closed (i - 1) ≡ Some later
     pub done : HasCrewDone scene put_then crew later
 
   pub crew_of : (i : ℕ) → IsCount scene.script.now.n i → HasCrew i
   crew_of i range =
-      let count = count_of (λ (c : Crew). c.centre) h.cast.crews.items scene.script.now.n h.cast_is.crews_are.numbers in
-      let crew = get_within h.cast.crews.items (i - 1) (omega (arith, range.0, range.1, count)) in
-      let pair = zip_get (HasCrewDone scene put_then) h.cast.crews.items h.parted.closed (i - 1) crew.0 done crew.1 in
+      let count = count_of (λ (c : Crew). c.centre) run.cast.crews.items scene.script.now.n run.cast_is.crews_are.numbers in
+      let crew = get_within run.cast.crews.items (i - 1) (omega (arith, range.0, range.1, count)) in
+      let pair = zip_get (HasCrewDone scene put_then) run.cast.crews.items run.parted.closed (i - 1) crew.0 done crew.1 in
       record {
         crew = crew.0;
         there = crew.1;
-        number = numbered (λ (c : Crew). c.centre) h.cast.crews.items scene.script.now.n i crew.0 h.cast_is.crews_are.numbers range crew.1;
+        number = numbered (λ (c : Crew). c.centre) run.cast.crews.items scene.script.now.n i crew.0 run.cast_is.crews_are.numbers range crew.1;
         later = pair.partner;
         is = pair.there;
         done = pair.related;
@@ -142,59 +146,60 @@ module _ (scene : Scene) (old new : Table) (h : IsPhasePlayed scene old new) whe
   -- a client
   pub record HasPlayer (client : ℕ) : Type 0 where
     pub player : Player
-    pub there : slice_get h.cast.clients.items (client - 1) ≡ Some player
+    pub there : slice_get run.cast.clients.items (client - 1) ≡ Some player
     pub number : player.client ≡ client
     pub later : Player
-    pub is : slice_get h.acted.clients.items (client - 1) ≡ Some later
+    pub is : slice_get run.acted.clients.items (client - 1) ≡ Some later
     pub taken : HasTakenSteps scene player later
 
   pub player_of : (client : ℕ) → IsCount scene.script.now.clients client → HasPlayer client
   player_of client range =
-      let count = count_of (λ (p : Player). p.client) h.cast.clients.items scene.script.now.clients h.cast_is.numbers in
-      let player = get_within h.cast.clients.items (client - 1) (omega (arith, range.0, range.1, count)) in
-      let pair = zip_get (HasTakenSteps scene) h.cast.clients.items h.acted.clients.items (client - 1) player.0 h.played.clients player.1 in
+      let count = count_of (λ (p : Player). p.client) run.cast.clients.items scene.script.now.clients run.cast_is.numbers in
+      let player = get_within run.cast.clients.items (client - 1) (omega (arith, range.0, range.1, count)) in
+      let pair = zip_get (HasTakenSteps scene) run.cast.clients.items run.acted.clients.items (client - 1) player.0 run.played.clients player.1 in
       record {
         player = player.0;
         there = player.1;
-        number = numbered (λ (p : Player). p.client) h.cast.clients.items scene.script.now.clients client player.0 h.cast_is.numbers range player.1;
+        number = numbered (λ (p : Player). p.client) run.cast.clients.items scene.script.now.clients client player.0 run.cast_is.numbers range player.1;
         later = pair.partner;
         is = pair.there;
         taken = pair.related;
       }
 
+module _ (scene : Scene) (old new : Table) (h : IsPhasePlayed scene old new) where
   -- ---- the notes
 
   -- an actor's log before the phase and behind it
-  pub log_before : (a : ℕ) (c : Caller) → 1 ≤ a → Stands before a c → log_at old.logs.items a ≡ c.log
-  log_before a c low there = log_there old.logs.items a c.log low (ap (λ logs. slice_get logs (a - 1)) (sym h.logs_are ∙ sym h.cast_is.callers.logs_are) ∙ get_image (λ (c : Caller). c.log) before (a - 1) c there)
+  pub log_before : (a : ℕ) (c : Caller) → 1 ≤ a → Stands (before scene old h.run) a c → log_at old.logs.items a ≡ c.log
+  log_before a c low there = log_there old.logs.items a c.log low (ap (λ logs. slice_get logs (a - 1)) (sym h.run.logs_are ∙ sym h.run.cast_is.callers.logs_are) ∙ get_image (λ (c : Caller). c.log) (before scene old h.run) (a - 1) c there)
 
-  pub log_behind : (a : ℕ) (c : Caller) → 1 ≤ a → Stands behind a c → log_at new.logs.items a ≡ c.log
-  log_behind a c low there = log_there new.logs.items a c.log low (ap (λ logs. slice_get logs (a - 1)) (h.logs_new ∙ sym h.parted.parted.callers.logs_are) ∙ get_image (λ (c : Caller). c.log) behind (a - 1) c there)
+  pub log_behind : (a : ℕ) (c : Caller) → 1 ≤ a → Stands (behind scene old h.run) a c → log_at new.logs.items a ≡ c.log
+  log_behind a c low there = log_there new.logs.items a c.log low (ap (λ logs. slice_get logs (a - 1)) (h.logs_new ∙ sym h.run.parted.parted.callers.logs_are) ∙ get_image (λ (c : Caller). c.log) (behind scene old h.run) (a - 1) c there)
 
   -- what it noted stands behind its notes
-  pub notes_grown : (a : ℕ) (c d : Caller) (r : HasActed c d) → 1 ≤ a → Stands before a c → Stands behind a d → notes_at new a ≡ notes_at old a ++ r.mine
+  pub notes_grown : (a : ℕ) (c d : Caller) (r : HasActed c d) → 1 ≤ a → Stands (before scene old h.run) a c → Stands (behind scene old h.run) a d → notes_at new a ≡ notes_at old a ++ r.mine
   notes_grown a c d r low was is =
       ap (λ (log : Logged). log.notes) (log_behind a d low is)
       ∙ (r.acted.log ∙ ap (λ (log : Logged). log.notes ++ r.mine) (sym (log_before a c low was)))
 
-  pub left_is : (a : ℕ) (c d : Caller) (r : HasActed c d) → 1 ≤ a → Stands before a c → Stands behind a d → (left_between old new).notes a ≡ r.mine
+  pub left_is : (a : ℕ) (c d : Caller) (r : HasActed c d) → 1 ≤ a → Stands (before scene old h.run) a c → Stands (behind scene old h.run) a d → (left_between old new).notes a ≡ r.mine
   unfolding left_between
   left_is a c d r low was is = drop_front (notes_at old a) r.mine (notes_at new a) (notes_grown a c d r low was is)
 
   -- so it is of the operator, of each client and of each worker
-  pub operator_left : (left_between old new).notes 1 ≡ h.played.operator.plays.mine
-  operator_left = left_is 1 h.cast.operator h.acted.operator (operator_acted scene h.cast.operator h.acted.operator h.played.operator) (omega arith) refl refl
+  pub operator_left : (left_between old new).notes 1 ≡ h.run.played.operator.plays.mine
+  operator_left = left_is 1 h.run.cast.operator h.run.acted.operator (operator_acted scene h.run.cast.operator h.run.acted.operator h.run.played.operator) (omega arith) refl refl
 
-  pub player_left : (client : ℕ) → (range : IsCount scene.script.now.clients client) → (left_between old new).notes (client + 1) ≡ (player_of client range).taken.plays.plays.mine
+  pub player_left : (client : ℕ) → (range : IsCount scene.script.now.clients client) → (left_between old new).notes (client + 1) ≡ (player_of scene old h.run client range).taken.plays.plays.mine
   player_left client range =
-      let p = player_of client range in
+      let p = player_of scene old h.run client range in
       left_is (client + 1) p.player.caller p.later.caller (player_acted scene p.player p.later p.taken) (omega arith)
-      (player_stands h.cast.operator h.cast.clients.items h.cast.crews.items client p.player range.0 p.there)
-      (player_stands h.acted.operator h.acted.clients.items h.parted.closed client p.later range.0 p.is)
+      (player_stands h.run.cast.operator h.run.cast.clients.items h.run.cast.crews.items client p.player range.0 p.there)
+      (player_stands h.run.acted.operator h.run.acted.clients.items h.run.parted.closed client p.later range.0 p.is)
 
-  pub worker_left : (i : ℕ) (role : Role) → (range : IsCount scene.script.now.n i) → (left_between old new).notes (worker_of scene.script.now.clients i role) ≡ (worker_acted scene put_then role (crew_of i range).crew (crew_of i range).later (crew_of i range).done).mine
+  pub worker_left : (i : ℕ) (role : Role) → (range : IsCount scene.script.now.n i) → (left_between old new).notes (worker_of scene.script.now.clients i role) ≡ (worker_acted scene (put_then scene old h.run) role (crew_of scene old h.run i range).crew (crew_of scene old h.run i range).later (crew_of scene old h.run i range).done).mine
   worker_left i role range =
-      let w = crew_of i range in
-      left_is (worker_of scene.script.now.clients i role) (caller_as role w.crew) (caller_as role w.later) (worker_acted scene put_then role w.crew w.later w.done) (omega arith)
-      (worker_stands h.cast.operator h.cast.clients.items h.cast.crews.items scene.script.now.clients i role w.crew (count_of (λ (p : Player). p.client) h.cast.clients.items scene.script.now.clients h.cast_is.numbers) w.there)
-      (worker_stands h.acted.operator h.acted.clients.items h.parted.closed scene.script.now.clients i role w.later (count_of (λ (p : Player). p.client) h.acted.clients.items scene.script.now.clients h.parted.parted.numbers) w.is)
+      let w = crew_of scene old h.run i range in
+      left_is (worker_of scene.script.now.clients i role) (caller_as role w.crew) (caller_as role w.later) (worker_acted scene (put_then scene old h.run) role w.crew w.later w.done) (omega arith)
+      (worker_stands h.run.cast.operator h.run.cast.clients.items h.run.cast.crews.items scene.script.now.clients i role w.crew (count_of (λ (p : Player). p.client) h.run.cast.clients.items scene.script.now.clients h.run.cast_is.numbers) w.there)
+      (worker_stands h.run.acted.operator h.run.acted.clients.items h.run.parted.closed scene.script.now.clients i role w.later (count_of (λ (p : Player). p.client) h.run.acted.clients.items scene.script.now.clients h.run.parted.parted.numbers) w.is)
