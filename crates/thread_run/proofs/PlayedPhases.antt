@@ -3,7 +3,6 @@ use Rattle.std.proofs.Common.{◌≡◌, ℕ, zero, suc, ◌+◌, ◌-◌, ◌*�
 use Rattle.std.specs.Prelude.{slice_get}
 use Rattle.std.proofs.lemmas.Bool.{cases_lt}
 use Rattle.std.proofs.lemmas.List.{length-map}
-use Rattle.std.proofs.lemmas.List.FromFn.{length-map-range_with_len}
 use Rattle.std.proofs.lemmas.Option.{slice_get_past}
 use Rattle.list_core.specs.Members.{In}
 use Rattle.list_core.proofs.Gets.{get_within, all_get}
@@ -18,7 +17,6 @@ use Rattle.dc_host.specs.KeptDoors.{entries_of, trail_at, settings_of}
 use Rattle.dc_host.proofs.Passes.{zip_long}
 use Rattle.script_text.specs.Steps.{IsCount}
 use Rattle.run_book.specs.Parts.{entries_by, exchanged}
-use Rattle.run_book.specs.Setups.{setup_of, settings_among}
 use Rattle.run_sections.specs.Orders.{deeds_of}
 use Rattle.run_sections.specs.Sections.{PlaysSection, actors_of}
 use Rattle.run_table.specs.declared.table.Table.{Table}
@@ -30,7 +28,7 @@ use Rattle.thread_run.specs.Tables.{notes_at, between_of, IsTableOf, HasPlayed}
 use Rattle.thread_run.proofs.Zips.{HasPartner, zip_get, drop_front}
 use Rattle.thread_run.proofs.Callers.{Stands, HasActed}
 use Rattle.thread_run.proofs.Redeeming.{rows_in, calls_noted, calls_paired, called_within, HasGrown, grown, trail_grown, all_histories, same_settings}
-use Rattle.thread_run.proofs.Playing.{IsPhasePlayed, left_between, count_of, before, behind, did, log_before, log_behind, notes_grown, left_is}
+use Rattle.thread_run.proofs.Playing.{IsPhasePlayed, left_between, count_of, centres_count, callers_count, before, behind, did, log_before, log_behind, notes_grown, left_is}
 use Rattle.thread_run.proofs.Sectioning.{operator_plays, senders_play, receivers_play, reporters_play, pruners_play, clients_play, clients_allowed}
 
 -- there are no entries where there is no centre
@@ -44,14 +42,10 @@ trail_past centres (suc k) none = ⊎_elim
 module _ (scene : Scene) (old new : Table) (h : IsPhasePlayed scene old new) where
   -- ---- an actor
 
-  -- there is a caller for each actor
-  pub callers_count : length (before scene old h.run) ≡ actors_of scene.script.now
-  callers_count = sym (length-map (before scene old h.run) (λ (c : Caller). c.log)) ∙ (ap length (h.run.cast_is.callers.logs_are ∙ h.run.logs_are) ∙ h.run.table.logs)
-
   -- an actor, as a caller
   pub record HasCaller (a : ℕ) : Type 0 where
     pub first : Caller
-    pub was : Stands (before scene old h.run) a first
+    pub was : Stands (before scene old h.run.begun) a first
     pub last : Caller
     pub is : Stands (behind scene old h.run) a last
     pub acted : HasActed first last
@@ -59,15 +53,15 @@ module _ (scene : Scene) (old new : Table) (h : IsPhasePlayed scene old new) whe
 
   pub caller_of : (a : ℕ) → IsCount (actors_of scene.script.now) a → HasCaller a
   caller_of a range =
-      let first = get_within (before scene old h.run) (a - 1) (omega (arith, range.0, range.1, callers_count)) in
-      let pair = zip_get HasActed (before scene old h.run) (behind scene old h.run) (a - 1) first.0 (did scene old h.run) first.1 in
+      let first = get_within (before scene old h.run.begun) (a - 1) (omega (arith, range.0, range.1, callers_count scene old h.run.begun)) in
+      let pair = zip_get HasActed (before scene old h.run.begun) (behind scene old h.run) (a - 1) first.0 (did scene old h.run) first.1 in
       record {
         first = first.0;
         was = first.1;
         last = pair.partner;
         is = pair.there;
         acted = pair.related;
-        actor = sym (ap (λ (log : Logged). log.actor) (log_before scene old new h a first.0 range.0 first.1)) ∙ h.run.table.actors a range;
+        actor = sym (ap (λ (log : Logged). log.actor) (log_before scene old h.run.begun a first.0 range.0 first.1)) ∙ h.run.begun.table.actors a range;
       }
 
   -- its notes stand behind those that it had
@@ -79,19 +73,15 @@ module _ (scene : Scene) (old new : Table) (h : IsPhasePlayed scene old new) whe
 
   -- ---- a centre
 
-  -- how many there are
-  pub centres_count : length old.door.centres ≡ scene.script.now.n
-  centres_count = sym (length-map old.door.centres (λ (c : CentreTrail). c.settings)) ∙ (ap length h.run.table.settings ∙ length-map-range_with_len (settings_among scene.script.now.n scene.script.now.k (setup_of scene.script.now)) 1 scene.script.now.n)
-
   -- what came out of its host
   pub grown_at : (i : ℕ) → IsCount scene.script.now.n i → HasGrown old.door.centres scene.hosts.now.hosts (rows_of h.run.later.rows.items) h.kept (i - 1)
-  grown_at i range = grown old.door.centres scene.hosts.now.hosts (rows_of h.run.later.rows.items) h.kept h.run.opened h.closed (i - 1) (omega (arith, range.0, range.1, centres_count))
+  grown_at i range = grown old.door.centres scene.hosts.now.hosts (rows_of h.run.later.rows.items) h.kept h.run.begun.opened h.closed (i - 1) (omega (arith, range.0, range.1, centres_count scene old h.run.begun))
 
   trail_longer : (i : ℕ) → (range : IsCount scene.script.now.n i) → trail_at new.door.centres i ≡ trail_at old.door.centres i ++ (grown_at i range).closed.whole.0
   trail_longer i range =
       let place : suc (i - 1) ≡ i = omega (arith, range.0) in
       ap (λ centres. trail_at centres i) h.door_is
-      ∙ subst (λ k. trail_at (all_seen h.kept) k ≡ trail_at old.door.centres k ++ (grown_at i range).closed.whole.0) place (trail_grown old.door.centres scene.hosts.now.hosts (rows_of h.run.later.rows.items) h.kept h.run.opened h.closed (i - 1) (grown_at i range))
+      ∙ subst (λ k. trail_at (all_seen h.kept) k ≡ trail_at old.door.centres k ++ (grown_at i range).closed.whole.0) place (trail_grown old.door.centres scene.hosts.now.hosts (rows_of h.run.later.rows.items) h.kept h.run.begun.opened h.closed (i - 1) (grown_at i range))
 
   entries_left : (i : ℕ) → (range : IsCount scene.script.now.n i) → (left_between old new).entries i ≡ (grown_at i range).closed.whole.0
   unfolding left_between
@@ -110,7 +100,7 @@ module _ (scene : Scene) (old new : Table) (h : IsPhasePlayed scene old new) whe
       (λ (within : i < scene.script.now.n + 1).
       let range : IsCount scene.script.now.n i = (low, omega (arith, within)) in
       trail_longer i range ∙ ap (λ entries. trail_at old.door.centres i ++ entries) (sym (entries_left i range)))
-      (λ (past : scene.script.now.n + 1 ≤ i). none_before i (trail_past old.door.centres i (λ range. omega (arith, range.1, past, centres_count))))
+      (λ (past : scene.script.now.n + 1 ≤ i). none_before i (trail_past old.door.centres i (λ range. omega (arith, range.1, past, centres_count scene old h.run.begun))))
       (cases_lt i (scene.script.now.n + 1)))
       (cases_lt i 1)
 
@@ -118,7 +108,7 @@ module _ (scene : Scene) (old new : Table) (h : IsPhasePlayed scene old new) whe
   pub callers_left : (i : ℕ) (entry : Entry) → IsCount scene.script.now.n i → In entry ((left_between old new).entries i) → IsCount (actors_of scene.script.now) entry.caller
   callers_left i entry range there =
       let g = grown_at i range in
-      let count : g.host.callers ≡ actors_of scene.script.now = all_get (λ (host : CentreHost). host.callers ≡ actors_of scene.script.now) scene.hosts.now.hosts (i - 1) g.host h.run.each g.at in
+      let count : g.host.callers ≡ actors_of scene.script.now = all_get (λ (host : CentreHost). host.callers ≡ actors_of scene.script.now) scene.hosts.now.hosts (i - 1) g.host h.run.begun.each g.at in
       called_within (actors_of scene.script.now) g.host.callers g.closed.whole.0 count g.closed.whole.3 entry (subst (In entry) (entries_left i range) there)
 
   -- and those of an actor are what its notes exchanged
@@ -128,10 +118,10 @@ module _ (scene : Scene) (old new : Table) (h : IsPhasePlayed scene old new) whe
       let c = caller_of a actor in
       let here : 1 + (a - 1) ≡ a = omega (arith, actor.0) in
       let place : suc (i - 1) ≡ i = omega (arith, centre.0) in
-      let rows : rows_in (before scene old h.run) ≡ new_rows scene.hosts.now.hosts 1 (actors_of scene.script.now) = ap rows_of h.run.cast_is.callers.rows_are ∙ h.run.rows_new in
+      let rows : rows_in (before scene old h.run.begun) ≡ new_rows scene.hosts.now.hosts 1 (actors_of scene.script.now) = ap rows_of h.run.begun.cast_is.callers.rows_are ∙ h.run.begun.rows_new in
       let stood : AllStood g.closed.whole.0 (column (i - 1) (rows_in (behind scene old h.run))) = subst (λ (rows : List (List CentrePass)). AllStood g.closed.whole.0 (column (i - 1) rows)) (sym (ap rows_of h.run.parted.parted.callers.rows_are)) g.closed.whole.2 in
       let calls : calls_of (1 + (a - 1)) g.closed.whole.0 ≡ entries_made (1 + (a - 1)) (suc (i - 1)) (deeds_of c.acted.mine) =
-          calls_noted scene.hosts.now.hosts (actors_of scene.script.now) (before scene old h.run) (behind scene old h.run) rows (i - 1) (a - 1) g.host g.closed.whole.0 c.first c.last g.at c.was c.is c.acted (c.actor ∙ sym here) stood in
+          calls_noted scene.hosts.now.hosts (actors_of scene.script.now) (before scene old h.run.begun) (behind scene old h.run) rows (i - 1) (a - 1) g.host g.closed.whole.0 c.first c.last g.at c.was c.is c.acted (c.actor ∙ sym here) stood in
       let own : calls_of a g.closed.whole.0 ≡ entries_made a i (deeds_of c.acted.mine) = subst (λ k. calls_of a g.closed.whole.0 ≡ entries_made a k (deeds_of c.acted.mine)) place (subst (λ k. calls_of k g.closed.whole.0 ≡ entries_made k (suc (i - 1)) (deeds_of c.acted.mine)) here calls) in
       ap (entries_by a) (entries_left i centre)
       ∙ (calls_paired a i c.acted.mine g.closed.whole.0 own
@@ -153,10 +143,10 @@ module _ (scene : Scene) (old new : Table) (h : IsPhasePlayed scene old new) whe
 
   pub table_then : IsTableOf scene.script.now new
   table_then = record {
-    settings = ap settings_of h.door_is ∙ (same_settings old.door.centres scene.hosts.now.hosts (rows_of h.run.later.rows.items) h.kept h.run.opened h.closed ∙ h.run.table.settings);
-    histories = subst AreHistories (sym h.door_is) (all_histories old.door.centres scene.hosts.now.hosts (rows_of h.run.later.rows.items) h.kept h.run.opened h.closed);
+    settings = ap settings_of h.door_is ∙ (same_settings old.door.centres scene.hosts.now.hosts (rows_of h.run.later.rows.items) h.kept h.run.begun.opened h.closed ∙ h.run.begun.table.settings);
+    histories = subst AreHistories (sym h.door_is) (all_histories old.door.centres scene.hosts.now.hosts (rows_of h.run.later.rows.items) h.kept h.run.begun.opened h.closed);
     stubs = ap length (h.stubs_new ∙ sym h.run.parted.parted.stubs) ∙ (length-map h.run.acted.clients.items (λ (p : Player). p.stub) ∙ count_of (λ (p : Player). p.client) h.run.acted.clients.items scene.script.now.clients h.run.parted.parted.numbers);
-    logs = ap length (h.logs_new ∙ sym h.run.parted.parted.callers.logs_are) ∙ (length-map (behind scene old h.run) (λ (c : Caller). c.log) ∙ (sym (zip_long HasActed (before scene old h.run) (behind scene old h.run) (did scene old h.run)) ∙ callers_count));
+    logs = ap length (h.logs_new ∙ sym h.run.parted.parted.callers.logs_are) ∙ (length-map (behind scene old h.run) (λ (c : Caller). c.log) ∙ (sym (zip_long HasActed (before scene old h.run.begun) (behind scene old h.run) (did scene old h.run)) ∙ callers_count scene old h.run.begun));
     actors = λ a range.
         let c = caller_of a range in
         ap (λ (log : Logged). log.actor) (log_behind scene old new h a c.last range.0 c.is) ∙ (c.acted.same.0 ∙ c.actor);

@@ -12,7 +12,7 @@ use Rattle.tx_core.specs.declared.tx.Record.{Record}
 use Rattle.dc_talk.specs.declared.log.Note.{Note}
 use Rattle.dc_talk.specs.Logs.{Logged}
 use Rattle.dc_talk.specs.Entries.{Entry}
-use Rattle.dc_host.specs.Centres.{KeptCentre, all_seen}
+use Rattle.dc_host.specs.Centres.{CentreTrail, KeptCentre, all_seen}
 use Rattle.dc_host.specs.Hosts.{AreFor, rows_of, new_rows, IsHostOf, AreClosed}
 use Rattle.dc_host.specs.KeptDoors.{trail_at}
 use Rattle.mail_link.specs.Ends.{GiverView}
@@ -23,8 +23,10 @@ use Rattle.script_text.specs.Steps.{IsCount}
 use Rattle.script_text.specs.Rows.{IsPhase}
 use Rattle.script_text.specs.Rounds.{worker_of}
 use Rattle.script_text.specs.Scripts.{header_of, IsInRange}
-use Rattle.dc_links.specs.Links.{IsAmong, rows_of as ends_of, put_between, taken_between}
+use Rattle.dc_links.specs.Links.{IsAmong, rows_of as ends_of, AreGiverRows, AreTakerRows, put_between, taken_between}
 use Rattle.run_book.specs.Parts.{idle_log}
+use Rattle.run_book.specs.Setups.{setup_of, settings_among}
+use Rattle.run_table.specs.Dealing.{IsDealt}
 use Rattle.run_table.specs.declared.table.Table.{Table}
 use Rattle.run_table.specs.Tables.{log_at}
 use Rattle.run_sections.specs.Sections.{Left, actors_of}
@@ -37,29 +39,38 @@ use Rattle.phase_play.specs.Casts.{HasTakenSteps, HaveAllPlayed}
 use Rattle.thread_run.specs.declared.parts.Parts.{Parts}
 use Rattle.thread_run.specs.Casts.{callers_among, IsCastOf, HaveParted}
 use Rattle.thread_run.specs.Lending.{AreInlets, HaveInlets}
-use Rattle.thread_run.specs.Tables.{notes_at, IsTableOf}
+use Rattle.thread_run.specs.Tables.{notes_at, IsTableOf, AreLinked}
 use Rattle.thread_run.proofs.Zips.{HasPartner, zip_get, get_image, drop_front}
 use Rattle.thread_run.proofs.Callers.{Stands, caller_as, player_stands, worker_stands, HasActed, HasCrewDone, worker_acted, player_acted, operator_acted, crews_done, all_acted}
 
--- what the calls of a phase leave, up to where its actors are taken apart
-pub record IsPhaseRun (scene : Scene) (old : Table) : Type 0 where
+-- a phase as its actors begin it: the hosts and the links are new, and the actors have their parts
+pub record IsPhaseBegun (scene : Scene) (old : Table) : Type 0 where
   pub range : IsInRange scene.script.now
   pub phase : IsPhase (header_of scene.script.now) scene.section.now
+  pub dealt : IsDealt scene.script.now.clients scene.section.now.steps scene.dealt.now
   pub table : IsTableOf scene.script.now old
+  pub linked : AreLinked scene.script.now old
   pub opened : AllZip IsHostOf old.door.centres scene.hosts.now.hosts
+  pub callers : scene.hosts.now.callers ≡ actors_of scene.script.now
   pub each : AreFor (actors_of scene.script.now) scene.hosts.now.hosts
   pub links : length scene.links.now ≡ scene.script.now.n
   pub parts : Parts
   pub rows_new : rows_of parts.rows.items ≡ new_rows scene.hosts.now.hosts 1 (actors_of scene.script.now)
   pub logs_are : parts.logs.items ≡ old.logs.items
   pub stubs_are : parts.stubs.items ≡ old.stubs.items
+  pub givers : AreGiverRows scene.links.now (ends_of parts.givers.items)
+  pub takers : AreTakerRows scene.links.now (ends_of parts.takers.items)
   pub none_put : (from to : ℕ) → put_between (ends_of parts.givers.items) from to ≡ []
   pub none_taken : (from to : ℕ) → taken_between (ends_of parts.takers.items) from to ≡ []
   pub lent : AreInlets old.posts scene.script.now.n parts.inlets.items
   pub cast : Cast
   pub cast_is : IsCastOf scene.script.now.n scene.script.now.clients parts cast
+
+-- they did their parts, and were taken apart
+pub record IsPhaseRun (scene : Scene) (old : Table) : Type 0 where
+  pub begun : IsPhaseBegun scene old
   pub acted : Cast
-  pub played : HaveAllPlayed scene cast acted
+  pub played : HaveAllPlayed scene begun.cast acted
   pub later : Parts
   pub parted : HaveParted scene scene.script.now.n scene.script.now.clients acted later
 
@@ -102,28 +113,42 @@ numbered f xs count i x are range there =
 pub count_of : {X : Type 0} (f : X → ℕ) (xs : List X) (count : ℕ) → map f xs ≡ range_with_len 1 count → length xs ≡ count
 count_of f xs count are = sym (length-map xs f) ∙ (ap length are ∙ length-range_with_len 1 count)
 
+module _ (scene : Scene) (old : Table) (begun : IsPhaseBegun scene old) where
+  -- how many centres there are
+  pub centres_count : length old.door.centres ≡ scene.script.now.n
+  centres_count = sym (length-map old.door.centres (λ (c : CentreTrail). c.settings)) ∙ (ap length begun.table.settings ∙ length-map-range_with_len (settings_among scene.script.now.n scene.script.now.k (setup_of scene.script.now)) 1 scene.script.now.n)
+
+  -- all actors before the phase, as callers
+  abbrev pub before : List Caller
+  before = callers_among begun.cast.operator begun.cast.clients.items begun.cast.crews.items
+
+  -- one for each actor
+  pub callers_count : length before ≡ actors_of scene.script.now
+  callers_count = sym (length-map before (λ (c : Caller). c.log)) ∙ (ap length (begun.cast_is.callers.logs_are ∙ begun.logs_are) ∙ begun.table.logs)
+
+  -- the log of an actor
+  pub log_before : (a : ℕ) (c : Caller) → 1 ≤ a → Stands before a c → log_at old.logs.items a ≡ c.log
+  log_before a c low there = log_there old.logs.items a c.log low (ap (λ logs. slice_get logs (a - 1)) (sym begun.logs_are ∙ sym begun.cast_is.callers.logs_are) ∙ get_image (λ (c : Caller). c.log) before (a - 1) c there)
+
 module _ (scene : Scene) (old : Table) (run : IsPhaseRun scene old) where
   -- the ends of all senders behind the phase
   abbrev pub put_then : List (List (GiverView Record))
   put_then = ends_of run.later.givers.items
 
-  -- all actors before the phase and behind it, as callers
-  abbrev pub before : List Caller
-  before = callers_among run.cast.operator run.cast.clients.items run.cast.crews.items
-
+  -- all actors behind the phase, as callers
   abbrev pub behind : List Caller
   behind = callers_among run.acted.operator run.acted.clients.items run.parted.closed
 
-  pub done : AllZip (HasCrewDone scene put_then) run.cast.crews.items run.parted.closed
-  done = crews_done scene put_then run.cast.crews.items run.acted.crews.items run.parted.closed run.played.crews run.parted.crews
+  pub done : AllZip (HasCrewDone scene put_then) run.begun.cast.crews.items run.parted.closed
+  done = crews_done scene put_then run.begun.cast.crews.items run.acted.crews.items run.parted.closed run.played.crews run.parted.crews
 
-  pub did : AllZip HasActed before behind
-  did = all_acted scene put_then run.cast.operator run.cast.clients.items run.cast.crews.items run.acted.operator run.acted.clients.items run.parted.closed run.played.operator run.played.clients done
+  pub did : AllZip HasActed (before scene old run.begun) behind
+  did = all_acted scene put_then run.begun.cast.operator run.begun.cast.clients.items run.begun.cast.crews.items run.acted.operator run.acted.clients.items run.parted.closed run.played.operator run.played.clients done
 
   -- the workers of a centre
   pub record HasCrew (i : ℕ) : Type 0 where
     pub crew : Crew
-    pub there : slice_get run.cast.crews.items (i - 1) ≡ Some crew
+    pub there : slice_get run.begun.cast.crews.items (i - 1) ≡ Some crew
     pub number : crew.centre ≡ i
     pub later : Crew
     pub is : slice_get run.parted.closed (i - 1) ≡ Some later
@@ -131,13 +156,13 @@ module _ (scene : Scene) (old : Table) (run : IsPhaseRun scene old) where
 
   pub crew_of : (i : ℕ) → IsCount scene.script.now.n i → HasCrew i
   crew_of i range =
-      let count = count_of (λ (c : Crew). c.centre) run.cast.crews.items scene.script.now.n run.cast_is.crews_are.numbers in
-      let crew = get_within run.cast.crews.items (i - 1) (omega (arith, range.0, range.1, count)) in
-      let pair = zip_get (HasCrewDone scene put_then) run.cast.crews.items run.parted.closed (i - 1) crew.0 done crew.1 in
+      let count = count_of (λ (c : Crew). c.centre) run.begun.cast.crews.items scene.script.now.n run.begun.cast_is.crews_are.numbers in
+      let crew = get_within run.begun.cast.crews.items (i - 1) (omega (arith, range.0, range.1, count)) in
+      let pair = zip_get (HasCrewDone scene put_then) run.begun.cast.crews.items run.parted.closed (i - 1) crew.0 done crew.1 in
       record {
         crew = crew.0;
         there = crew.1;
-        number = numbered (λ (c : Crew). c.centre) run.cast.crews.items scene.script.now.n i crew.0 run.cast_is.crews_are.numbers range crew.1;
+        number = numbered (λ (c : Crew). c.centre) run.begun.cast.crews.items scene.script.now.n i crew.0 run.begun.cast_is.crews_are.numbers range crew.1;
         later = pair.partner;
         is = pair.there;
         done = pair.related;
@@ -146,7 +171,7 @@ module _ (scene : Scene) (old : Table) (run : IsPhaseRun scene old) where
   -- a client
   pub record HasPlayer (client : ℕ) : Type 0 where
     pub player : Player
-    pub there : slice_get run.cast.clients.items (client - 1) ≡ Some player
+    pub there : slice_get run.begun.cast.clients.items (client - 1) ≡ Some player
     pub number : player.client ≡ client
     pub later : Player
     pub is : slice_get run.acted.clients.items (client - 1) ≡ Some later
@@ -154,13 +179,13 @@ module _ (scene : Scene) (old : Table) (run : IsPhaseRun scene old) where
 
   pub player_of : (client : ℕ) → IsCount scene.script.now.clients client → HasPlayer client
   player_of client range =
-      let count = count_of (λ (p : Player). p.client) run.cast.clients.items scene.script.now.clients run.cast_is.numbers in
-      let player = get_within run.cast.clients.items (client - 1) (omega (arith, range.0, range.1, count)) in
-      let pair = zip_get (HasTakenSteps scene) run.cast.clients.items run.acted.clients.items (client - 1) player.0 run.played.clients player.1 in
+      let count = count_of (λ (p : Player). p.client) run.begun.cast.clients.items scene.script.now.clients run.begun.cast_is.numbers in
+      let player = get_within run.begun.cast.clients.items (client - 1) (omega (arith, range.0, range.1, count)) in
+      let pair = zip_get (HasTakenSteps scene) run.begun.cast.clients.items run.acted.clients.items (client - 1) player.0 run.played.clients player.1 in
       record {
         player = player.0;
         there = player.1;
-        number = numbered (λ (p : Player). p.client) run.cast.clients.items scene.script.now.clients client player.0 run.cast_is.numbers range player.1;
+        number = numbered (λ (p : Player). p.client) run.begun.cast.clients.items scene.script.now.clients client player.0 run.begun.cast_is.numbers range player.1;
         later = pair.partner;
         is = pair.there;
         taken = pair.related;
@@ -169,37 +194,34 @@ module _ (scene : Scene) (old : Table) (run : IsPhaseRun scene old) where
 module _ (scene : Scene) (old new : Table) (h : IsPhasePlayed scene old new) where
   -- ---- the notes
 
-  -- an actor's log before the phase and behind it
-  pub log_before : (a : ℕ) (c : Caller) → 1 ≤ a → Stands (before scene old h.run) a c → log_at old.logs.items a ≡ c.log
-  log_before a c low there = log_there old.logs.items a c.log low (ap (λ logs. slice_get logs (a - 1)) (sym h.run.logs_are ∙ sym h.run.cast_is.callers.logs_are) ∙ get_image (λ (c : Caller). c.log) (before scene old h.run) (a - 1) c there)
-
+  -- an actor's log behind the phase
   pub log_behind : (a : ℕ) (c : Caller) → 1 ≤ a → Stands (behind scene old h.run) a c → log_at new.logs.items a ≡ c.log
   log_behind a c low there = log_there new.logs.items a c.log low (ap (λ logs. slice_get logs (a - 1)) (h.logs_new ∙ sym h.run.parted.parted.callers.logs_are) ∙ get_image (λ (c : Caller). c.log) (behind scene old h.run) (a - 1) c there)
 
   -- what it noted stands behind its notes
-  pub notes_grown : (a : ℕ) (c d : Caller) (r : HasActed c d) → 1 ≤ a → Stands (before scene old h.run) a c → Stands (behind scene old h.run) a d → notes_at new a ≡ notes_at old a ++ r.mine
+  pub notes_grown : (a : ℕ) (c d : Caller) (r : HasActed c d) → 1 ≤ a → Stands (before scene old h.run.begun) a c → Stands (behind scene old h.run) a d → notes_at new a ≡ notes_at old a ++ r.mine
   notes_grown a c d r low was is =
       ap (λ (log : Logged). log.notes) (log_behind a d low is)
-      ∙ (r.acted.log ∙ ap (λ (log : Logged). log.notes ++ r.mine) (sym (log_before a c low was)))
+      ∙ (r.acted.log ∙ ap (λ (log : Logged). log.notes ++ r.mine) (sym (log_before scene old h.run.begun a c low was)))
 
-  pub left_is : (a : ℕ) (c d : Caller) (r : HasActed c d) → 1 ≤ a → Stands (before scene old h.run) a c → Stands (behind scene old h.run) a d → (left_between old new).notes a ≡ r.mine
+  pub left_is : (a : ℕ) (c d : Caller) (r : HasActed c d) → 1 ≤ a → Stands (before scene old h.run.begun) a c → Stands (behind scene old h.run) a d → (left_between old new).notes a ≡ r.mine
   unfolding left_between
   left_is a c d r low was is = drop_front (notes_at old a) r.mine (notes_at new a) (notes_grown a c d r low was is)
 
   -- so it is of the operator, of each client and of each worker
   pub operator_left : (left_between old new).notes 1 ≡ h.run.played.operator.plays.mine
-  operator_left = left_is 1 h.run.cast.operator h.run.acted.operator (operator_acted scene h.run.cast.operator h.run.acted.operator h.run.played.operator) (omega arith) refl refl
+  operator_left = left_is 1 h.run.begun.cast.operator h.run.acted.operator (operator_acted scene h.run.begun.cast.operator h.run.acted.operator h.run.played.operator) (omega arith) refl refl
 
   pub player_left : (client : ℕ) → (range : IsCount scene.script.now.clients client) → (left_between old new).notes (client + 1) ≡ (player_of scene old h.run client range).taken.plays.plays.mine
   player_left client range =
       let p = player_of scene old h.run client range in
       left_is (client + 1) p.player.caller p.later.caller (player_acted scene p.player p.later p.taken) (omega arith)
-      (player_stands h.run.cast.operator h.run.cast.clients.items h.run.cast.crews.items client p.player range.0 p.there)
+      (player_stands h.run.begun.cast.operator h.run.begun.cast.clients.items h.run.begun.cast.crews.items client p.player range.0 p.there)
       (player_stands h.run.acted.operator h.run.acted.clients.items h.run.parted.closed client p.later range.0 p.is)
 
   pub worker_left : (i : ℕ) (role : Role) → (range : IsCount scene.script.now.n i) → (left_between old new).notes (worker_of scene.script.now.clients i role) ≡ (worker_acted scene (put_then scene old h.run) role (crew_of scene old h.run i range).crew (crew_of scene old h.run i range).later (crew_of scene old h.run i range).done).mine
   worker_left i role range =
       let w = crew_of scene old h.run i range in
       left_is (worker_of scene.script.now.clients i role) (caller_as role w.crew) (caller_as role w.later) (worker_acted scene (put_then scene old h.run) role w.crew w.later w.done) (omega arith)
-      (worker_stands h.run.cast.operator h.run.cast.clients.items h.run.cast.crews.items scene.script.now.clients i role w.crew (count_of (λ (p : Player). p.client) h.run.cast.clients.items scene.script.now.clients h.run.cast_is.numbers) w.there)
+      (worker_stands h.run.begun.cast.operator h.run.begun.cast.clients.items h.run.begun.cast.crews.items scene.script.now.clients i role w.crew (count_of (λ (p : Player). p.client) h.run.begun.cast.clients.items scene.script.now.clients h.run.begun.cast_is.numbers) w.there)
       (worker_stands h.run.acted.operator h.run.acted.clients.items h.run.parted.closed scene.script.now.clients i role w.later (count_of (λ (p : Player). p.client) h.run.acted.clients.items scene.script.now.clients h.run.parted.parted.numbers) w.is)

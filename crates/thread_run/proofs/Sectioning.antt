@@ -59,7 +59,7 @@ module _ (scene : Scene) (old new : Table) (h : IsPhasePlayed scene old new) whe
   rounds_play : (Does : ℕ → Unit {0} → ℕ → ℕ → List Note → Unit {0} → Type 0) (i centre a : ℕ) (mine : List Note) → centre ≡ i → (left_between old new).notes a ≡ mine → InOrder (Does centre) scene.number 1 tt (range_with_len 1 scene.script.now.rounds) mine tt → InOrder (Does i) scene.number 1 tt (rounds_in scene.script.now scene.section.now) ((left_between old new).notes a) tt
   rounds_play Does i centre a mine number is order =
       subst (λ notes. InOrder (Does i) scene.number 1 tt (rounds_in scene.script.now scene.section.now) notes tt) (sym is)
-      (subst (λ (phase : Bool). InOrder (Does i) scene.number 1 tt (cond phase (range_with_len 1 scene.script.now.rounds) []) mine tt) (sym h.run.phase.phase)
+      (subst (λ (phase : Bool). InOrder (Does i) scene.number 1 tt (cond phase (range_with_len 1 scene.script.now.rounds) []) mine tt) (sym h.run.begun.phase.phase)
       (subst (λ k. InOrder (Does k) scene.number 1 tt (range_with_len 1 scene.script.now.rounds) mine tt) number order))
 
   pub senders_play : (i : ℕ) → IsCount scene.script.now.n i → InOrder (SenderGoes scene.script.now.n i) scene.number 1 tt (rounds_in scene.script.now scene.section.now) ((left_between old new).notes (worker_of scene.script.now.clients i Sender)) tt
@@ -86,35 +86,35 @@ module _ (scene : Scene) (old new : Table) (h : IsPhasePlayed scene old new) whe
       let v = crew_of scene old h.run from there in
       let takers = row_there (λ (c : Crew). c.receiver.takers) h.run.parted.closed h.run.later.takers.items (j - 1) w.later h.run.parted.parted.crews_are.takers_are w.is in
       let givers = row_there (λ (c : Crew). c.sender.givers) h.run.parted.closed h.run.later.givers.items (from - 1) v.later h.run.parted.parted.crews_are.givers_are v.is in
-      let first = row_there (λ (c : Crew). c.sender.givers) h.run.cast.crews.items h.run.parts.givers.items (from - 1) v.crew h.run.cast_is.crews_are.givers_are v.there in
+      let first = row_there (λ (c : Crew). c.sender.givers) h.run.begun.cast.crews.items h.run.begun.parts.givers.items (from - 1) v.crew h.run.begun.cast_is.crews_are.givers_are v.there in
       let taken : taken_between (ends_of h.run.later.takers.items) from j ≡ taken_from w.later.receiver.takers.items from = ap (λ row. taken_from row from) takers in
       let all : length (taken_from w.later.receiver.takers.items from) ≡ length (put_between (put_then scene old h.run) from j) = w.done.closed.closes.all from there (λ same. other (same ∙ w.number)) ∙ ap (λ i. length (put_between (put_then scene old h.run) from i)) w.number in
-      let among : (i : ℕ) → IsCount scene.script.now.n i → IsCount (length scene.links.now) i = λ i range. (range.0, omega (arith, range.1, h.run.links)) in
+      let among : (i : ℕ) → IsCount scene.script.now.n i → IsCount (length scene.links.now) i = λ i range. (range.0, omega (arith, range.1, h.run.begun.links)) in
       sym taken
       ∙ (sym (h.drained from j (among from there) (among j range) (ap length taken ∙ all))
       ∙ (ap (λ row. put_to row j) givers
       ∙ (v.done.sender.plays.puts j range (λ same. other (sym (same ∙ v.number)))
-      ∙ ((λ k. (sym (ap (λ row. put_to row j) first) ∙ h.run.none_put from j) k ++ mailed j (deeds_of v.done.sender.plays.plays.mine))
+      ∙ ((λ k. (sym (ap (λ row. put_to row j) first) ∙ h.run.begun.none_put from j) k ++ mailed j (deeds_of v.done.sender.plays.plays.mine))
       ∙ ap (λ notes. mailed j (deeds_of notes)) (sym (worker_left scene old new h from Sender there))))))
 
   pub receivers_play : (j : ℕ) → IsCount scene.script.now.n j → Receives scene.script.now scene.number scene.section.now (between_of scene.script.now old) (left_between old new) (between_of scene.script.now new) j
   receivers_play j range =
       let w = crew_of scene old h.run j range in
-      let inlets = row_there (λ (c : Crew). c.receiver.inlets) h.run.cast.crews.items h.run.parts.inlets.items (j - 1) w.crew h.run.cast_is.crews_are.inlets_are w.there in
-      let takers = row_there (λ (c : Crew). c.receiver.takers) h.run.cast.crews.items h.run.parts.takers.items (j - 1) w.crew h.run.cast_is.crews_are.takers_are w.there in
+      let inlets = row_there (λ (c : Crew). c.receiver.inlets) h.run.begun.cast.crews.items h.run.begun.parts.inlets.items (j - 1) w.crew h.run.begun.cast_is.crews_are.inlets_are w.there in
+      let takers = row_there (λ (c : Crew). c.receiver.takers) h.run.begun.cast.crews.items h.run.begun.parts.takers.items (j - 1) w.crew h.run.begun.cast_is.crews_are.takers_are w.there in
       let later = row_there (λ (c : Crew). c.receiver.inlets) h.run.parted.closed h.run.later.inlets.items (j - 1) w.later h.run.parted.parted.crews_are.inlets_are w.is in
       record {
         first = intakes_of (receiving w.crew.receiver);
         last = intakes_of (receiving w.later.receiver);
         begins = λ from there other.
-            let set : linked (operator_steps scene.section.now) from j (post_at old.posts from j).inlet ≡ (post_at old.posts from j).inlet = none_set (header_of scene.script.now) scene.section.now.steps from j (post_at old.posts from j).inlet h.run.phase.steps in
-            let inlet : inlet_from w.crew.receiver.inlets.items from ≡ linked (operator_steps scene.section.now) from j (post_at old.posts from j).inlet = sym (ap (λ row. inlet_from row from) inlets) ∙ (h.run.lent.each from j there range ∙ sym set) in
-            let none : taken_from w.crew.receiver.takers.items from ≡ [] = sym (ap (λ row. taken_from row from) takers) ∙ h.run.none_taken from j in
+            let set : linked (operator_steps scene.section.now) from j (post_at old.posts from j).inlet ≡ (post_at old.posts from j).inlet = none_set (header_of scene.script.now) scene.section.now.steps from j (post_at old.posts from j).inlet h.run.begun.phase.steps in
+            let inlet : inlet_from w.crew.receiver.inlets.items from ≡ linked (operator_steps scene.section.now) from j (post_at old.posts from j).inlet = sym (ap (λ row. inlet_from row from) inlets) ∙ (h.run.begun.lent.each from j there range ∙ sym set) in
+            let none : taken_from w.crew.receiver.takers.items from ≡ [] = sym (ap (λ row. taken_from row from) takers) ∙ h.run.begun.none_taken from j in
             λ k. intake (inlet k) (none k);
         order =
             subst (λ notes. InOrder (ReceiverGoes scene.script.now.n j) scene.number 1 (intakes_of (receiving w.crew.receiver)) (receipts_in scene.script.now scene.section.now) notes (intakes_of (receiving w.later.receiver))) (sym (worker_left scene old new h j Receiver range))
             (subst (λ i. InOrder (ReceiverGoes scene.script.now.n i) scene.number 1 (intakes_of (receiving w.crew.receiver)) (receipts_in scene.script.now scene.section.now) (w.done.receiver.plays.plays.mine ++ w.done.closed.closes.mine) (intakes_of (receiving w.later.receiver))) w.number
-            (receiver_order scene (put_then scene old h.run) w.crew.centre w.crew.receiver w.done.mid w.later.receiver h.run.phase.phase w.done.receiver w.done.closed));
+            (receiver_order scene (put_then scene old h.run) w.crew.centre w.crew.receiver w.done.mid w.later.receiver h.run.begun.phase.phase w.done.receiver w.done.closed));
         all = λ from there other phase. mail_taken from j there range other;
         inlets = λ from there other. h.given.each from j there range ∙ ap (λ row. inlet_from row from) later;
       }
@@ -125,9 +125,9 @@ module _ (scene : Scene) (old new : Table) (h : IsPhasePlayed scene old new) whe
   come_before : (client : ℕ) (range : IsCount scene.script.now.clients client) → (between_of scene.script.now old).come client ≡ come_to (seated (seat_of (player_of scene old h.run client range).player))
   come_before client range =
       let p = player_of scene old h.run client range in
-      let stub : slice_get old.stubs.items (client - 1) ≡ Some p.player.stub = ap (λ stubs. slice_get stubs (client - 1)) (sym h.run.stubs_are ∙ sym h.run.cast_is.stubs) ∙ get_image (λ (p : Player). p.stub) h.run.cast.clients.items (client - 1) p.player p.there in
+      let stub : slice_get old.stubs.items (client - 1) ≡ Some p.player.stub = ap (λ stubs. slice_get stubs (client - 1)) (sym h.run.begun.stubs_are ∙ sym h.run.begun.cast_is.stubs) ∙ get_image (λ (p : Player). p.stub) h.run.begun.cast.clients.items (client - 1) p.player p.there in
       ap (λ found. unwrap_or (option_map (come_of (notes_at old (client + 1))) found) (new_progress scene.script.now.n client scene.script.now.cache)) stub
-      ∙ ap (λ (log : Logged). come_of log.notes p.player.stub) (log_before scene old new h (client + 1) p.player.caller (omega arith) (player_stands h.run.cast.operator h.run.cast.clients.items h.run.cast.crews.items client p.player range.0 p.there))
+      ∙ ap (λ (log : Logged). come_of log.notes p.player.stub) (log_before scene old h.run.begun (client + 1) p.player.caller (omega arith) (player_stands h.run.begun.cast.operator h.run.begun.cast.clients.items h.run.begun.cast.crews.items client p.player range.0 p.there))
 
   come_behind : (client : ℕ) (range : IsCount scene.script.now.clients client) → (between_of scene.script.now new).come client ≡ come_to (seated (seat_of (player_of scene old h.run client range).later))
   come_behind client range =
@@ -149,7 +149,7 @@ module _ (scene : Scene) (old new : Table) (h : IsPhasePlayed scene old new) whe
   pub clients_allowed : (client : ℕ) → IsCount scene.script.now.clients client → ClientDoes ((between_of scene.script.now old).come client).client (notes_at old (client + 1)) ((left_between old new).notes (client + 1))
   clients_allowed client range =
       let p = player_of scene old h.run client range in
-      let log : log_at old.logs.items (client + 1) ≡ p.player.caller.log = log_before scene old new h (client + 1) p.player.caller (omega arith) (player_stands h.run.cast.operator h.run.cast.clients.items h.run.cast.crews.items client p.player range.0 p.there) in
+      let log : log_at old.logs.items (client + 1) ≡ p.player.caller.log = log_before scene old h.run.begun (client + 1) p.player.caller (omega arith) (player_stands h.run.begun.cast.operator h.run.begun.cast.clients.items h.run.begun.cast.crews.items client p.player range.0 p.there) in
       subst (λ (first : Progress). ClientDoes first.client (notes_at old (client + 1)) ((left_between old new).notes (client + 1))) (sym (come_before client range))
       (subst (λ (log : Logged). ClientDoes p.player.stub.client log.notes ((left_between old new).notes (client + 1))) (sym log)
       (subst (λ notes. ClientDoes p.player.stub.client p.player.caller.log.notes notes) (sym (player_left scene old new h client range)) p.taken.plays.allowed))
