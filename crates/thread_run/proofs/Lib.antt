@@ -5,3 +5,5 @@ pub mod Carrying
 pub mod Playing
 pub mod Sectioning
 pub mod PlayedPhases
+pub mod Beginning
+pub mod Ending

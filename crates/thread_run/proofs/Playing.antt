@@ -99,7 +99,7 @@ log_there logs a log low there =
     subst (λ k. log_at logs k ≡ log) same (get_or_from_slice_get logs (a - 1) log (idle_log 0) there)
 
 -- the element of a number among elements that are numbered from 1
-numbered : {X : Type 0} (f : X → ℕ) (xs : List X) (count i : ℕ) (x : X) → map f xs ≡ range_with_len 1 count → IsCount count i → slice_get xs (i - 1) ≡ Some x → f x ≡ i
+pub numbered : {X : Type 0} (f : X → ℕ) (xs : List X) (count i : ℕ) (x : X) → map f xs ≡ range_with_len 1 count → IsCount count i → slice_get xs (i - 1) ≡ Some x → f x ≡ i
 numbered f xs count i x are range there =
     let place : 1 + (i - 1) ≡ i = omega (arith, range.0) in
     let within : i - 1 < length (range_with_len 1 count) = omega (arith, range.0, range.1, length-range_with_len 1 count) in

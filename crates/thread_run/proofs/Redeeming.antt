@@ -113,7 +113,7 @@ stood_of later (p ∷ passes) pass (inr there) all = stood_of later passes pass 
 
 module _ (hosts : List CentreHost) (count : ℕ) (callers acted : List Caller) (new : rows_in callers ≡ new_rows hosts 1 count) where
   -- a caller began with new passes
-  new_at : (p : ℕ) (c : Caller) → slice_get callers p ≡ Some c → c.row.items ≡ new_row hosts (1 + p)
+  pub new_at : (p : ℕ) (c : Caller) → slice_get callers p ≡ Some c → c.row.items ≡ new_row hosts (1 + p)
   new_at p c there =
       let within : p < length callers = slice_get_within callers p c there in
       let long : length callers ≡ count = sym (length-map callers (λ (c : Caller). c.row)) ∙ (sym (length-map (map (λ (c : Caller). c.row) callers) (λ (row : Vec CentrePass). row.items)) ∙ (ap length new ∙ length-map-range_with_len (new_row hosts) 1 count)) in
