@@ -2,3 +2,5 @@ pub mod Places
 pub mod Turns
 pub mod Sending
 pub mod Taking
+pub mod Laying
+pub mod Closing

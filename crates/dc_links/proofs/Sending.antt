@@ -1,12 +1,12 @@
 -- A sender's round over the links to the first centres, and over the next one.
-use Rattle.std.proofs.Common.{◌≡◌, ◌≢◌, ◌≤◌, ◌<◌, ◌⊎◌, inl, inr, ℕ, ◌+◌, ◌-◌, ◌==◌, cond, List, [], ◌∷◌, ◌++◌, length, get_or, set, append_assoc, refl, sym, ap, ◌∙◌, subst, arith}
+use Rattle.std.proofs.Common.{◌≡◌, ◌≢◌, ◌≤◌, ◌<◌, ◌⊎◌, inl, inr, ℕ, ◌+◌, ◌-◌, ◌==◌, cond, List, [], ◌++◌, length, get_or, set, append_assoc, sym, ap, ◌∙◌}
 use Rattle.std.proofs.lemmas.Bool.{cases_eq, eq-eqb, ne_eqb}
 use Rattle.std.proofs.lemmas.List.{append-nil}
 use Rattle.tx_core.specs.declared.tx.Record.{Record}
 use Rattle.dc_talk.specs.Acting.{Acting}
 use Rattle.mail_link.specs.Ends.{GiverView}
 use Rattle.script_text.specs.Carrying.{route, no_turn}
-use Rattle.script_text.specs.Rounds.{Mails, mailed}
+use Rattle.script_text.specs.Rounds.{mailed}
 use Rattle.script_text.proofs.Provenance.{carries_both}
 use Rattle.dc_worker.specs.Links.{Posts, outgoing}
 use Rattle.dc_worker.proofs.Work.{adds_none, adds_then}

@@ -1,15 +1,14 @@
 -- A receiver's round over the links from the first centres, and over the next one.
-use Rattle.std.proofs.Common.{◌≡◌, ◌≢◌, ◌≤◌, ◌<◌, ◌⊎◌, inl, inr, ℕ, ◌+◌, ◌-◌, ◌==◌, Bool, true, false, cond, List, [], ◌∷◌, ◌++◌, length, get_or, set, refl, sym, ap, ◌∙◌, subst, arith}
+use Rattle.std.proofs.Common.{◌≡◌, ◌≢◌, ◌≤◌, ◌<◌, ◌⊎◌, inl, inr, ℕ, ◌+◌, ◌-◌, ◌==◌, Bool, true, false, cond, List, [], ◌++◌, length, get_or, set, refl, sym, ap, ◌∙◌, subst, arith}
 use Rattle.std.proofs.lemmas.Bool.{cases_eq, eq-eqb, ne_eqb}
 use Rattle.std.proofs.lemmas.List.{append-nil, get_or_default, get_or-set_same, get_or-set_other}
 use Rattle.tx_core.specs.declared.tx.Record.{Record}
-use Rattle.dc_talk.specs.declared.log.Deed.{Deed}
 use Rattle.dc_talk.specs.Acting.{Acting}
 use Rattle.mail_link.specs.Ends.{GiverView, TakerView}
 use Rattle.script_text.specs.declared.rounds.TheConstants.{MOST_MAILED}
 use Rattle.script_text.specs.Carrying.{no_turn}
 use Rattle.script_text.specs.Links.{Inlet, clean_inlet, arrivals, arrived, inlet_after, inlet_closed}
-use Rattle.script_text.specs.Rounds.{Brings, ReceiverDeeds}
+use Rattle.script_text.specs.Rounds.{Brings}
 use Rattle.dc_worker.specs.Work.{AddsSuch}
 use Rattle.dc_worker.specs.Links.{Receives, Closes, incoming}
 use Rattle.dc_worker.proofs.Work.{adds_none, adds_then}

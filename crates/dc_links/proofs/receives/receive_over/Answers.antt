@@ -1,7 +1,5 @@
-use Rattle.std.proofs.Common.{rules, arith, ◌≡◌, ◌≤◌, ◌<◌, ◌-◌, length, get_or, slice_get, Some, sym, ap, ◌∙◌, subst}
+use Rattle.std.proofs.Common.{rules, ◌≡◌, ◌<◌, ◌-◌, length, get_or, slice_get, Some, sym, subst}
 use Rattle.std.specs.Prelude.{slice_set}
-use Rattle.script_text.specs.declared.rounds.TheConstants.{MOST_MAILED}
-use Rattle.script_text.specs.Links.{arrived, inlet_after}
 use Rattle.dc_talk.specs.Acting.{acting}
 use Rattle.dc_links.specs.Links.{column_of}
 use Rattle.dc_links.specs.Rounds.{inward, ReceivesFrom}

@@ -1,6 +1,6 @@
 use Rattle.std.proofs.Common.{rules, refl, ◌∙◌}
 use Rattle.dc_talk.specs.Acting.{acting, IsCutShort}
-use Rattle.dc_worker.proofs.Work.{cut_then, adds_behind}
+use Rattle.dc_worker.proofs.Work.{cut_then}
 use Rattle.dc_links.proofs.Sending.{sent_none, sent_self, sent_next}
 use Rattle.dc_links.proofs.sends.send_all.Goals as goal
 

@@ -1,4 +1,4 @@
-use Rattle.std.proofs.Common.{rules, arith, ◌≡◌, ◌<◌, ◌-◌, length, get_or, slice_get, Some, sym, subst}
+use Rattle.std.proofs.Common.{rules, ◌≡◌, ◌<◌, ◌-◌, length, get_or, slice_get, Some, sym, subst}
 use Rattle.std.specs.Prelude.{slice_set}
 use Rattle.dc_talk.specs.Acting.{acting}
 use Rattle.dc_links.specs.Links.{row_of}
