@@ -23,6 +23,7 @@ first_removed [] (suc k) = refl
 first_removed (x ∷ xs) zero = refl
 first_removed (x ∷ xs) (suc k) = first_removed xs k
 
+-- the same where that one is dropped
 first_dropped : {X : Type 0} (xs : List X) (k : ℕ) → drop 1 (drop k xs) ≡ drop (suc k) xs
 first_dropped [] zero = refl
 first_dropped [] (suc k) = refl
@@ -38,11 +39,13 @@ first_left (x ∷ xs) (suc k) = first_left xs k
 
 -- the first element of what is left, taken off
 module _ {X : Type 0} (xs ys : List X) (k : ℕ) (left : ys ≡ drop k xs) where
+  -- is the next one of all
   pub next_is : (x : X) → x ≡ get_or ys 0 x → x ≡ get_or xs k x
   next_is x is =
       let place : k + 0 ≡ k = omega arith in
       is ∙ (ap (λ l. get_or l 0 x) left ∙ (get_or-drop k xs 0 x ∙ ap (λ i. get_or xs i x) place))
 
+  -- and what is left then is one shorter
   pub next_left : (zs : List X) → zs ≡ remove ys 0 → zs ≡ drop (k + 1) xs
   next_left zs is =
       let next : suc k ≡ k + 1 = omega arith in
@@ -72,14 +75,17 @@ module _ (row : List WebId) (givers : List (GiverView Record)) (old : List (List
 
   -- one link more
   module _ (own' : Vec (TakerView Record)) (giver : GiverView Record) (low : k < length givers) (at : giver ≡ get_or givers k giver) (rest : own'.items ≡ drop 1 own.items) (more : IsMore (taken_from own.items 1) giver.put) where
+    -- the row of its receiver is without its first end
     row_now : (j : ℕ) → j - 1 ≡ k → k < j → row_of (rows_of (set rows k own')) j ≡ drop 1 (row_of old j)
     row_now j here high =
         ap (λ i. get_or (rows_of (set rows k own')) i []) here
         ∙ (seen_here (λ (row : Vec (TakerView Record)). row.items) [] rows k own' lt ∙ (rest ∙ ap (λ (takers : List (TakerView Record)). drop 1 takers) (sym (own_row j here high))))
 
+    -- the others are as they were
     row_still : (j : ℕ) → j - 1 ≢ k → row_of (rows_of (set rows k own')) j ≡ row_of (rows_of rows) j
     row_still j else = seen_else (λ (row : Vec (TakerView Record)). row.items) [] rows k (j - 1) own' else
 
+    -- what is known of each link so far
     more_each : (j : ℕ) → IsAmong (k + 1) j → (j - 1 ≡ k) ⊎ (j - 1 ≢ k) → IsMore (taken_from (row_of old j) 1) (put_to givers j)
     more_each j among (inl here) =
         let put : put_to givers j ≡ giver.put = ap (λ i. get_or (map (λ (giver : GiverView Record). giver.put) givers) i []) here ∙ seen_at (λ (giver : GiverView Record). giver.put) [] givers k giver low at in
@@ -87,10 +93,12 @@ module _ (row : List WebId) (givers : List (GiverView Record)) (old : List (List
         subst (λ (put : List Record). IsMore (taken_from (row_of old j) 1) put) (sym put) (subst (λ (takers : List (TakerView Record)). IsMore (taken_from takers 1) giver.put) (sym takers) more)
     more_each j among (inr else) = before.more j (among.0, omega (arith, among.0, among.1, else))
 
+    -- and of the row of each receiver
     rest_each : (j : ℕ) → IsAmong (k + 1) j → (j - 1 ≡ k) ⊎ (j - 1 ≢ k) → row_of (rows_of (set rows k own')) j ≡ drop 1 (row_of old j)
     rest_each j among (inl here) = row_now j here (omega (arith, here, among.0))
     rest_each j among (inr else) = row_still j else ∙ before.rest j (among.0, omega (arith, among.0, among.1, else))
 
+    -- all together
     pub closes_more : ClosesRow (k + 1) givers old (rows_of (set rows k own'))
     closes_more = record {
       number = length-map (set rows k own') (λ (row : Vec (TakerView Record)). row.items) ∙ (length-set rows k own' ∙ (sym (length-map rows (λ (row : Vec (TakerView Record)). row.items)) ∙ before.number));
@@ -137,6 +145,7 @@ module _ (rows : List (Vec WebId)) (givers : List (Vec (GiverView Record))) (tak
         ∙ (ap (λ i. get_or (rows_of rows) i []) here ∙ seen_at (λ (row : Vec WebId). row.items) [] rows k row lt is))
 
     module _ (new : List (List (TakerView Record))) (one : ClosesRow (length row.items) own.items mid new) where
+      -- what is known of each link of the rows so far
       row_more : (i j : ℕ) → IsAmong (k + 1) i → IsAmong (length rows) j → (i - 1 ≡ k) ⊎ (i - 1 ≢ k) → IsMore (taken_between takers i j) (put_between (rows_of givers) i j)
       row_more i j among wide (inl here) =
           let long = row_long rows square k row lt is in

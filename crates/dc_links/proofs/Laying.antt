@@ -56,9 +56,11 @@ module _ (row row' : List WebId) (givers givers' : List (GiverView Record)) (old
       ∙ (has.takers
       ∙ ap (λ (takers : List (TakerView Record)). takers ++ has.taker ∷ []) (sym (seen_at (λ (row : Vec (TakerView Record)). row.items) [] rows k own lt is) ∙ ap (λ i. get_or (rows_of rows) i []) (sym here))))
 
+  -- the others are as they were
   row_else : (j : ℕ) → j - 1 ≢ k → row_of (rows_of (set rows k own')) j ≡ row_of (rows_of rows) j
   row_else j else = seen_else (λ (row : Vec (TakerView Record)). row.items) [] rows k (j - 1) own' else
 
+  -- the links of the ends of each receiver
   takers_each : (j : ℕ) → 1 ≤ j → (j - 1 ≡ k) ⊎ (j - 1 ≢ k) → taker_links (row_of (rows_of (set rows k own')) j) ≡ taker_links (row_of old j) ++ column_of (row' ∷ []) j
   takers_each j low (inl here) =
       let none : column_of (row ∷ []) j ≡ [] = ap (λ o. cons_option o []) (slice_get_past row (j - 1) (omega (arith, here, long))) in
@@ -70,6 +72,7 @@ module _ (row row' : List WebId) (givers givers' : List (GiverView Record)) (old
       let same : column_of (row' ∷ []) j ≡ column_of (row ∷ []) j = ap (λ (row : List WebId). column_of (row ∷ []) j) has.row ∙ ap (λ o. cons_option o []) (get_else row has.link (j - 1) (λ same. else (same ∙ long))) in
       ap taker_links (row_else j else) ∙ (before.takers_of j low ∙ ap (λ more. taker_links (row_of old j) ++ more) (sym same))
 
+  -- nothing was taken by them
   taken_each : (j : ℕ) → AreUntaken (row_of old j) → (j - 1 ≡ k) ⊎ (j - 1 ≢ k) → AreUntaken (row_of (rows_of (set rows k own')) j)
   taken_each j are (inl here) = subst AreUntaken (sym (row_here j here)) (All-push (λ (taker : TakerView Record). taker.taken ≡ []) (row_of (rows_of rows) j) has.taker (before.taken j are) has.unused.1)
   taken_each j are (inr else) = subst AreUntaken (sym (row_else j else)) (before.taken j are)
@@ -126,6 +129,7 @@ unput [] k are = refl
 unput (giver ∷ givers) zero are = All-head (λ (giver : GiverView Record). giver.put ≡ []) giver givers are
 unput (giver ∷ givers) (suc k) are = unput givers k (All-tail (λ (giver : GiverView Record). giver.put ≡ []) giver givers are)
 
+-- nor taken
 untaken : (takers : List (TakerView Record)) (k : ℕ) → AreUntaken takers → get_or (map (λ (taker : TakerView Record). taker.taken) takers) k [] ≡ []
 untaken [] k are = refl
 untaken (taker ∷ takers) zero are = All-head (λ (taker : TakerView Record). taker.taken ≡ []) taker takers are
@@ -138,9 +142,11 @@ unput_row (row ∷ rows) zero are = All-head AreUnput row rows are
 unput_row (row ∷ rows) (suc k) are = unput_row rows k (All-tail AreUnput row rows are)
 
 module _ (n : ℕ) (links : List (List WebId)) (givers : List (List (GiverView Record))) (takers : List (List (TakerView Record))) (many : length links ≡ n) (lays : Lays n links givers takers) where
+  -- there are as many links in each row as there are rows
   pub laid_square : AreSquare links
   laid_square = subst (λ n. All (λ (row : List WebId). length row ≡ n) links) (sym many) lays.square
 
+  -- the ends that put are of their links
   pub laid_givers : AreGiverRows links givers
   laid_givers = record {
     number = sym (length-map givers giver_links) ∙ ap length lays.givers_of;
@@ -155,6 +161,7 @@ module _ (n : ℕ) (links : List (List WebId)) (givers : List (List (GiverView R
       row_links (row ∷ rows) zero = refl
       row_links (row ∷ rows) (suc k) = row_links rows k
 
+  -- so are those that take
   pub laid_takers : AreTakerRows links takers
   laid_takers = record {
     number = lays.number ∙ sym many;
@@ -164,8 +171,10 @@ module _ (n : ℕ) (links : List (List WebId)) (givers : List (List (GiverView R
         record { number = sym (length-map (row_of takers j) (λ (taker : TakerView Record). taker.link)) ∙ (ap length its ∙ column_long links (length links) j laid_square low); each = its };
   }
 
+  -- nothing was put on any link
   pub laid_put : (from to : ℕ) → put_between givers from to ≡ []
   laid_put from to = unput (row_of givers from) (to - 1) (unput_row givers (from - 1) lays.put)
 
+  -- nor taken from one
   pub laid_taken : (from to : ℕ) → taken_between takers from to ≡ []
   laid_taken from to = untaken (row_of takers to) (from - 1) (lays.taken to)

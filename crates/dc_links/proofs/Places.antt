@@ -107,6 +107,7 @@ module _ (links : List (List WebId)) (link : WebId) where
     each = map-set_same (λ (giver : GiverView Record). giver.link) givers k new giver (now ∙ (sym was ∙ ap (λ (giver : GiverView Record). giver.link) is)) ∙ are.each;
   }
 
+  -- so it is of those that take
   pub takers_stay : (j k : ℕ) (takers : List (TakerView Record)) (taker new : TakerView Record) → AreTakers links j takers → k < length takers → taker ≡ get_or takers k taker → taker.link ≡ link → new.link ≡ link → AreTakers links j (set takers k new)
   takers_stay j k takers taker new are lt is was now = record {
     number = length-set takers k new ∙ are.number;

@@ -72,18 +72,23 @@ module _ (due : Due) (later : Later) where
   module _ (k j next : ℕ) (is : next ≡ k + 1) (old mid : Inward) (a b : Acting) (before : TakesOver due later k j old mid a b) where
     -- the link from the next centre
     module _ (new : Inward) (c : Acting) (other : next ≢ j) (one : TakesFrom due later next j mid new b c) where
+      -- what was taken of each link
       abbrev all : ℕ → List Record
       all from = cond (from == next) one.items (before.items from)
 
+      -- of the next one
       all_here : (from : ℕ) → from ≡ next → all from ≡ one.items
       all_here from this = ap (λ test. cond test one.items (before.items from)) (eq-eqb from next this)
 
+      -- of the others
       all_else : (from : ℕ) → from ≢ next → all from ≡ before.items from
       all_else from else = ap (λ test. cond test one.items (before.items from)) (ne_eqb from next else)
 
+      -- the inlet of the next link is as it was
       inlet_here : inlet_from mid.inlets next ≡ inlet_from old.inlets next
       inlet_here = before.same next (omega (arith, is)) (inr (omega (arith, is)))
 
+      -- what each end has taken
       taken_each : (from : ℕ) → 1 ≤ from → (from ≡ next) ⊎ (from ≢ next) → taken_from new.takers from ≡ taken_from old.takers from ++ all from
       taken_each from low (inl this) =
           let none : before.items from ≡ [] = before.none from low (inr (omega (arith, is, this))) in
@@ -94,6 +99,7 @@ module _ (due : Due) (later : Later) where
           ∙ (λ i. was i ++ sym (all_here from this) i)))
       taken_each from low (inr else) = (one.rest from low else).0 ∙ (before.taken from low ∙ ap (λ more. taken_from old.takers from ++ more) (sym (all_else from else)))
 
+      -- how each inlet is
       inlets_each : (from : ℕ) → IsOther next j from → (from ≡ next) ⊎ (from ≢ next) → inlet_from new.inlets from ≡ later (inlet_from old.inlets from) (all from)
       inlets_each from there (inl this) =
           ap (inlet_from new.inlets) this
@@ -109,6 +115,7 @@ module _ (due : Due) (later : Later) where
       apart from (inl self) = ((λ same. other (sym same ∙ self)), inl self)
       apart from (inr high) = ((λ same. omega (arith, same, high)), inr (omega (arith, is, high)))
 
+      -- all together
       pub taken_next : TakesOver due later next j old new a c
       taken_next = record {
         items = all;
@@ -146,10 +153,12 @@ module _ (due : Due) (later : Later) where
 
 -- ---- a round while more may come
 
+-- over no links
 pub received_none : (j : ℕ) (w : Inward) (a : Acting) → ReceivesOver 0 j w w a a
 unfolding taken_none
 received_none j w a = record { takes = taken_none arrived inlet_after j w a; few = λ from. omega arith }
 
+-- over one link more
 pub received_next : (k j next : ℕ) (old mid new : Inward) (a b c : Acting) → next ≡ k + 1 → next ≢ j → ReceivesOver k j old mid a b → ReceivesFrom next j mid new b c → ReceivesOver next j old new a c
 unfolding taken_next
 received_next k j next old mid new a b c is other before one = record { takes = taken_next arrived inlet_after k j next is old mid a b before.takes new c other one.takes; few = λ from. few from (from == next) }
@@ -158,6 +167,7 @@ received_next k j next old mid new a b c is other before one = record { takes = 
     few from true = one.few
     few from false = before.few from
 
+-- but not from the centre itself
 pub received_self : (k j next : ℕ) (old mid : Inward) (a b : Acting) → next ≡ k + 1 → next ≡ j → ReceivesOver k j old mid a b → ReceivesOver next j old mid a b
 unfolding taken_self
 received_self k j next old mid a b is self before = record { takes = taken_self arrived inlet_after k j next is old mid a b before.takes self; few = before.few }
@@ -165,9 +175,11 @@ received_self k j next old mid a b is self before = record { takes = taken_self 
 -- ---- a closing round
 
 module _ (givers : List (List (GiverView Record))) where
+  -- over no links
   pub drained_none : (j : ℕ) (w : Inward) (a : Acting) → DrainsOver 0 j givers w w a a
   drained_none j w a = record { takes = taken_none arrivals inlet_closed j w a; all = λ from there. absurd (omega (arith, there.0.0, there.0.1)) }
 
+  -- over one link more
   pub drained_next : (k j next : ℕ) (old mid new : Inward) (a b c : Acting) → next ≡ k + 1 → next ≢ j → DrainsOver k j givers old mid a b → DrainsFrom next j givers mid new b c → DrainsOver next j givers old new a c
   drained_next k j next old mid new a b c is other before one = record { takes = taken_next arrivals inlet_closed k j next is old mid a b before.takes new c other one.takes; all = λ from there. each from there (cases_eq from next) }
     where
@@ -175,6 +187,7 @@ module _ (givers : List (List (GiverView Record))) where
       each from there (inl this) = ap (λ i. length (taken_from new.takers i)) this ∙ (one.all ∙ ap (λ i. length (put_between givers i j)) (sym this))
       each from there (inr else) = ap length (one.takes.rest from there.0.0 else).0 ∙ before.all from ((there.0.0, omega (arith, there.0.1, else, is)), there.1)
 
+  -- but not from the centre itself
   pub drained_self : (k j next : ℕ) (old mid : Inward) (a b : Acting) → next ≡ k + 1 → next ≡ j → DrainsOver k j givers old mid a b → DrainsOver next j givers old mid a b
   drained_self k j next old mid a b is self before = record {
     takes = taken_self arrivals inlet_closed k j next is old mid a b before.takes self;

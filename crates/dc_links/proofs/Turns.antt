@@ -14,6 +14,7 @@ use Rattle.dc_worker.proofs.Turns.{centres_more, turns_then}
 
 -- ---- the others among one centre more
 
+-- the next one, unless it is the centre itself
 others_more : (k i : ℕ) → others (suc k) i ≡ others k i ++ cond (not (1 + k == i)) ((1 + k) ∷ []) []
 others_more k i = ap (filter (λ j. not (j == i))) (centres_more k) ∙ filter-append (λ j. not (j == i)) (centres k) ((1 + k) ∷ [])
 
@@ -46,6 +47,7 @@ turns_turn : (Do Be : ℕ → List Deed → Type 0) (xs : List ℕ) (ds : List D
 turns_turn Do Be [] ds turn no_turn = no_turn
 turns_turn Do Be (x ∷ xs) ds turn (next_turn first later whole does more) = next_turn first later whole (turn x (inl refl) first does) (turns_turn Do Be xs later (λ y there. turn y (inr there)) more)
 
+-- so it is of the others among the first centres
 pub turns_among : (Do Be : ℕ → List Deed → Type 0) (k i : ℕ) (ds : List Deed) → ((j : ℕ) → 1 ≤ j → j ≤ k → (es : List Deed) → Do j es → Be j es) → InTurn Do (others k i) ds → InTurn Be (others k i) ds
 turns_among Do Be k i ds turn = turns_turn Do Be (others k i) ds (λ j there. let low = others_low k i j there in turn j low.0 low.1)
 

@@ -13,20 +13,21 @@ AreUnput givers = All (λ (giver : GiverView Record). giver.put ≡ []) givers
 abbrev pub AreUntaken : List (TakerView Record) → Type 0
 AreUntaken takers = All (λ (taker : TakerView Record). taker.taken ≡ []) takers
 
--- the links of ends
+-- the links of ends that put
 abbrev pub giver_links : List (GiverView Record) → List WebId
 giver_links givers = map (λ (giver : GiverView Record). giver.link) givers
 
+-- the links of ends that take
 abbrev pub taker_links : List (TakerView Record) → List WebId
 taker_links takers = map (λ (taker : TakerView Record). taker.link) takers
 
--- what a row of a sender and the row of a receiver are
+-- links from a centre with their ends that put, and the ends of one receiver
 pub record Ends : Type 0 where
   pub row : List WebId
   pub givers : List (GiverView Record)
   pub takers : List (TakerView Record)
 
--- these
+-- both by their lists
 abbrev pub ends : List WebId → List (GiverView Record) → List (TakerView Record) → Ends
 ends row givers takers = record { row = row; givers = givers; takers = takers }
 

@@ -1,5 +1,5 @@
 // Rows of links with their ends.
-ghost use Rattle.std.specs.Prelude.{◌≡◌, ◌-◌, [], ℕ, Some, map, length, drop, replicate, slice_get, IfOk, OnOk};
+ghost use Rattle.std.specs.Prelude.{◌≡◌, ◌-◌, [], ℕ, Some, length, drop, replicate, slice_get, IfOk, OnOk};
 ghost use Rattle.dc_worker.specs.Links.{IsMore};
 ghost use Rattle.dc_links.specs.Links.{IsAmong, rows_of, row_of, AreSquare, AreGiverRows, AreTakerRows, taken_from, put_between, taken_between};
 ghost use Rattle.dc_links.specs.Laying.{ends, giver_links, taker_links, HasLink, LaysRow};
