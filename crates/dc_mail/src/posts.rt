@@ -3,6 +3,7 @@ ghost use Rattle.std.specs.Prelude.{◌≡◌, ◌<◌, ◌*◌, IfOk, OnOk, OnE
 ghost use Rattle.ids_core.specs.declared.limits.TheConstants.{MOST_CENTRES};
 ghost use Rattle.dc_talk.specs.Acting.{acting, IsCutShort};
 ghost use Rattle.dc_talk.specs.Doors.{IsBehind};
+ghost use Rattle.script_text.specs.Links.{clean_inlet};
 ghost use Rattle.script_text.specs.Mail.{post_put, post_set, due_in_round, post_after_round, due_at_close, post_closed};
 ghost use Rattle.script_text.specs.Rounds.{Brings};
 ghost use Rattle.dc_worker.specs.Inlets.{HasCount};
@@ -11,6 +12,7 @@ ghost use Rattle.dc_mail.specs.Posts.{place_of, post_at, IsCentre, new_posts, Ha
 
 use crate::spot::Spot;
 use dc_talk::{Door, LinkFault, Log, Records};
+use dc_worker::Inlet;
 use ids_core::{MOST_CENTRES, NoMemory};
 use std::alloc::Global;
 use std::marker::Model;
@@ -65,6 +67,26 @@ impl Posts {
         ensures { HasSet from to (post_set fault (post_at self.old from to)) self.old self.new }
     {
         self.spots[place_of(from, to)].set(fault);
+    }
+
+    /// Lends the end of the link from one centre to another at which records are taken. A new end stands there until it is
+    /// given back.
+    pub fn lend(&mut self, from: u8, to: u8) -> Inlet
+        requires from { IsCentre from }
+        requires to { IsCentre to }
+        ensures inlet { result ≡ (post_at self.old from to).inlet }
+        ensures posts { HasSet from to (record (post_at self.old from to) { inlet = clean_inlet }) self.old self.new }
+    {
+        self.spots[place_of(from, to)].lend()
+    }
+
+    /// Puts an end to the link from one centre to another, in place of the one that stands there.
+    pub fn give_back(&mut self, from: u8, to: u8, inlet: Inlet)
+        requires from { IsCentre from }
+        requires to { IsCentre to }
+        ensures { HasSet from to (record (post_at self.old from to) { inlet = inlet }) self.old self.new }
+    {
+        self.spots[place_of(from, to)].give_back(inlet);
     }
 
     // Puts records on the link from one centre to another, behind those that lie there. Nothing changes where memory is

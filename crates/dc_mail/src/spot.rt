@@ -2,6 +2,7 @@
 ghost use Rattle.std.specs.Prelude.{◌≡◌, ◌≤◌, [], take, drop, length, min, IfOk, OnOk, OnErr};
 ghost use Rattle.dc_talk.specs.Acting.{acting, IsCutShort};
 ghost use Rattle.dc_talk.specs.Doors.{IsBehind};
+ghost use Rattle.script_text.specs.Links.{clean_inlet};
 ghost use Rattle.script_text.specs.Mail.{new_post, post_put, post_set, taken_in_round, due_in_round, post_after_round, due_at_close, post_closed};
 ghost use Rattle.script_text.specs.Rounds.{Brings};
 ghost use Rattle.dc_worker.specs.Inlets.{HasCount};
@@ -70,6 +71,21 @@ impl Spot {
         ensures { self.new ≡ post_set fault self.old }
     {
         self.inlet.set(fault);
+    }
+
+    /// Lends the end at which records are taken. A new one stands there until it is given back.
+    pub(crate) fn lend(&mut self) -> Inlet
+        ensures inlet { result ≡ self.old.inlet }
+        ensures new { self.new ≡ record self.old { inlet = clean_inlet } }
+    {
+        replace(&mut self.inlet, Inlet::new())
+    }
+
+    /// Puts an end in place of the one that stands there.
+    pub(crate) fn give_back(&mut self, inlet: Inlet)
+        ensures { self.new ≡ record self.old { inlet = inlet } }
+    {
+        self.inlet = inlet;
     }
 
     /// Takes what a round takes, and delivers to a centre behind the door what comes of it.
