@@ -1,0 +1,99 @@
+-- What a step through the door leaves of a world's parts.
+use Rattle.std.proofs.Common.{◌≡◌, ◌≤◌, ◌<◌, ℕ, suc, ◌+◌, ◌-◌, List, [], ◌∷◌, map, length, get_or, Some, refl, sym, ap, ◌∙◌, subst, arith}
+use Rattle.std.specs.Prelude.{slice_get, slice_set}
+use Rattle.std.proofs.lemmas.Option.{get_or_from_slice_get, slice_get_read}
+use Rattle.std.proofs.lemmas.List.Elements.{All-nil, All-cons}
+use Rattle.hist_lock.specs.History.{entry}
+use Rattle.dc_talk.specs.declared.ask.Ask.{Ask}
+use Rattle.dc_talk.specs.declared.say.Say.{Say}
+use Rattle.dc_talk.specs.declared.log.Fate.TheVariants.{Unheard}
+use Rattle.dc_talk.specs.declared.log.Deed.{Deed}
+use Rattle.dc_talk.specs.declared.log.Deed.TheVariants.{Asked}
+use Rattle.dc_talk.specs.Doors.{IsBehind, HasAsked, HasDone}
+use Rattle.dc_talk.specs.Logs.{Logged, noted}
+use Rattle.dc_talk.proofs.Doors.{done_ask}
+use Rattle.dc_host.specs.declared.kept_door.KeptPlace.{KeptPlace}
+use Rattle.dc_host.specs.Centres.{CentreTrail}
+use Rattle.dc_host.specs.KeptDoors.{KeptView, shown_of, place_of, begun}
+use Rattle.script_text.specs.declared.steps.ClientStep.{ClientStep}
+use Rattle.dc_talk.specs.Acting.{IsAskBehind, acting}
+use Rattle.run_book.specs.Moves.{Does}
+use Rattle.client_stub.specs.Playing.{StubView, IsLinkBehind, Takes, beside}
+use Rattle.run_book.specs.Parts.{idle_log}
+use Rattle.run_table.specs.declared.table.Table.{Table}
+use Rattle.run_table.specs.Tables.{AreHistories, log_in, outside, HasStepped, HasWorked, HasMadeRound, HasAskedOnce, Turn, log_at}
+
+-- the log that was found at a place is the one of the actor behind it
+pub log_found : (logs : List Logged) (place : ℕ) (log : Logged) → place < length logs → log ≡ get_or logs place log → log_at logs (place + 1) ≡ log
+log_found logs place log within is =
+    let next : suc place ≡ place + 1 = omega arith in
+    subst (λ a. log_at logs a ≡ log) next (get_or_from_slice_get logs place log (idle_log 0) (slice_get_read logs (length logs) place log refl within is))
+
+-- the settings stay where the place of the door does
+settings_kept : (actor : ℕ) (old : List CentreTrail) (door new : KeptView) → door ≡ begun actor old → place_of new ≡ place_of door → map (λ (centre : CentreTrail). centre.settings) new.centres ≡ map (λ (centre : CentreTrail). centre.settings) old
+settings_kept actor old door new begins same = ap (λ (place : KeptPlace). place.settings) same ∙ ap (λ (door : KeptView). map (λ (centre : CentreTrail). centre.settings) door.centres) begins
+
+-- a client's link is behind the door as its turn begins
+pub linked_then : (client : ℕ) (stubs : List StubView) (old door : KeptView) (stub : StubView) → ((stub : StubView) → slice_get stubs (client - 1) ≡ Some stub → IsLinkBehind (shown_of old) stub.client) → door ≡ begun (client + 1) old.centres → client ≤ length stubs → 1 ≤ client → stub ≡ get_or stubs (client - 1) stub → IsLinkBehind (shown_of door) stub.client
+linked_then client stubs old door stub linked begins within low is =
+    subst (λ (door : KeptView). IsLinkBehind (shown_of door) stub.client) (sym begins)
+    (linked stub (slice_get_read stubs (length stubs) (client - 1) stub refl (omega (arith, within, low)) is))
+
+-- a client's step in its turn
+pub step_left : (client section number : ℕ) (step : ClientStep) (old new : Table) (door : KeptView) (stub later : StubView) (found before log : Logged) → (1 ≤ client) × (client ≤ length old.stubs.items) → client < length old.logs.items → door ≡ begun (client + 1) old.door.centres → stub ≡ get_or old.stubs.items (client - 1) stub → found ≡ get_or old.logs.items client found → before ≡ record found { section = section; step = number } → place_of new.door ≡ place_of door → Takes step (beside stub (shown_of door) before) (beside later (shown_of new.door) log) → new.stubs.items ≡ slice_set old.stubs.items (client - 1) later → new.posts ≡ old.posts → new.logs.items ≡ slice_set old.logs.items client log → AreHistories new.door.centres → HasStepped (record { actor = client + 1; section = section; step = number }) step old new
+step_left client section number step old new door stub later found before log range inside begins stub_is found_is before_is same takes stubs posts logs histories =
+    let turn : Turn = record { actor = client + 1; section = section; step = number } in
+    let place : client - 1 ≡ turn.actor - 2 = omega arith in
+    let own : client ≡ turn.actor - 1 = omega arith in
+    let log_is : before ≡ log_in turn (log_at old.logs.items turn.actor) = before_is ∙ ap (log_in turn) (sym (log_found old.logs.items client found inside found_is)) in
+    record {
+      stub = stub;
+      there = subst (λ k. slice_get old.stubs.items k ≡ Some stub) place (slice_get_read old.stubs.items (length old.stubs.items) (client - 1) stub refl (omega (arith, range)) stub_is);
+      later = later;
+      log = log;
+      takes = subst (λ (first : Logged). Takes step (beside stub (shown_of (begun turn.actor old.door.centres)) first) (beside later (shown_of new.door) log)) log_is
+          (subst (λ (door : KeptView). Takes step (beside stub (shown_of door) before) (beside later (shown_of new.door) log)) begins takes);
+      stubs = subst (λ k. new.stubs.items ≡ slice_set old.stubs.items k later) place stubs;
+      posts = posts;
+      turn_is = record {
+        logs = subst (λ k. new.logs.items ≡ slice_set old.logs.items k log) own logs;
+        settings = settings_kept turn.actor old.door.centres door new.door begins same;
+        histories = histories;
+      };
+    }
+
+-- an ask outside of the script
+pub ask_left : (actor centre : ℕ) (ask : Ask) (say : Say) (old new : Table) (door : KeptView) (found before log : Logged) → (1 ≤ actor) × (actor ≤ length old.logs.items) → IsBehind (shown_of (begun actor old.door.centres)) centre → door ≡ begun actor old.door.centres → found ≡ get_or old.logs.items (actor - 1) found → before ≡ record found { section = 0; step = 0 } → place_of new.door ≡ place_of door → HasAsked (shown_of door) (shown_of new.door) centre (entry door.actor ask say) → log ≡ noted before (Asked centre ask (Unheard say)) → new.stubs ≡ old.stubs → new.posts ≡ old.posts → new.logs.items ≡ slice_set old.logs.items (actor - 1) log → AreHistories new.door.centres → HasAskedOnce actor centre ask old new
+ask_left actor centre ask say old new door found before log range behind begins found_is before_is same has log_is stubs posts logs histories =
+    let deed : Deed = Asked centre ask (Unheard say) in
+    let own : actor - 1 + 1 ≡ actor = omega (arith, range.0) in
+    let at : log_at old.logs.items actor ≡ found = subst (λ a. log_at old.logs.items a ≡ found) own (log_found old.logs.items (actor - 1) found (omega (arith, range.0, range.1)) found_is) in
+    let first : before ≡ log_in (outside actor) (log_at old.logs.items actor) = before_is ∙ ap (log_in (outside actor)) (sym at) in
+    record {
+      say = say;
+      log = log;
+      leaves = record {
+        log = log_is ∙ ap (λ log. noted log deed) first;
+        door = subst (λ (door : KeptView). HasDone (shown_of door) (shown_of new.door) (deed ∷ [])) begins (done_ask (shown_of door) (shown_of new.door) centre ask (Unheard say) say refl has);
+        behind = All-cons (IsAskBehind (shown_of (begun actor old.door.centres))) deed [] behind (All-nil (IsAskBehind (shown_of (begun actor old.door.centres))));
+      };
+      stubs = stubs;
+      posts = posts;
+      turn_is = record { logs = logs; settings = settings_kept actor old.door.centres door new.door begins same; histories = histories };
+    }
+
+-- a worker's round in its turn
+pub round_left : (actor n section number : ℕ) (does : Does) (old new : Table) (door : KeptView) (found before log : Logged) → (1 ≤ actor) × (actor ≤ length old.logs.items) → n ≡ length old.door.centres → door ≡ begun actor old.door.centres → found ≡ get_or old.logs.items (actor - 1) found → before ≡ record found { section = section; step = number } → place_of new.door ≡ place_of door → HasWorked n number does old.posts new.posts (acting (shown_of door) before) (acting (shown_of new.door) log) → new.stubs ≡ old.stubs → new.logs.items ≡ slice_set old.logs.items (actor - 1) log → AreHistories new.door.centres → HasMadeRound (record { actor = actor; section = section; step = number }) does old new
+round_left actor n section number does old new door found before log range count begins found_is before_is same works stubs logs histories =
+    let turn : Turn = record { actor = actor; section = section; step = number } in
+    let own : actor - 1 + 1 ≡ actor = omega (arith, range.0) in
+    let at : log_at old.logs.items actor ≡ found = subst (λ a. log_at old.logs.items a ≡ found) own (log_found old.logs.items (actor - 1) found (omega (arith, range.0, range.1)) found_is) in
+    let first : before ≡ log_in turn (log_at old.logs.items actor) = before_is ∙ ap (log_in turn) (sym at) in
+    record {
+      log = log;
+      works = subst (λ n. HasWorked n number does old.posts new.posts (acting (shown_of (begun actor old.door.centres)) (log_in turn (log_at old.logs.items actor))) (acting (shown_of new.door) log)) count
+          (subst (λ (first : Logged). HasWorked n number does old.posts new.posts (acting (shown_of (begun actor old.door.centres)) first) (acting (shown_of new.door) log)) first
+          (subst (λ (door : KeptView). HasWorked n number does old.posts new.posts (acting (shown_of door) before) (acting (shown_of new.door) log)) begins works));
+      stubs = stubs;
+      turn_is = record { logs = logs; settings = settings_kept actor old.door.centres door new.door begins same; histories = histories };
+    }

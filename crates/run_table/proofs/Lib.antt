@@ -1,0 +1,4 @@
+pub mod Numbered
+pub mod Acting
+pub mod Links
+pub mod Lines

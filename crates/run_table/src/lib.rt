@@ -1,0 +1,11 @@
+//! The table of a run on one thread: centres behind a door that keeps them, clients, the logs of all actors, and the links.
+//! A step of an actor changes it as the script says. The steps of a phase are dealt to its actors.
+#![tactic(auto)]
+
+mod dealing;
+mod table;
+mod works;
+
+pub use dealing::{Dealt, deal};
+pub use table::Table;
+pub use works::Work;
