@@ -1,6 +1,6 @@
 -- A phase by turns: one client, one centre, one turn more.
-use Rattle.std.proofs.Common.{◌≡◌, ◌≤◌, ◌<◌, ℕ, ◌+◌, ◌-◌, Bool, true, false, cond, List, [], ◌∷◌, ◌++◌, map, length, Option, Some, None, refl, sym, ap, ◌∙◌, subst, append-nil, arith}
-use Rattle.std.specs.Prelude.{◌==◌, nat_le, All, flat_map, slice_get}
+use Rattle.std.proofs.Common.{◌≡◌, ◌≤◌, ◌<◌, ℕ, ◌+◌, ◌-◌, Bool, true, false, cond, List, [], ◌∷◌, ◌++◌, map, Some, None, refl, sym, ap, ◌∙◌, subst, append-nil, arith}
+use Rattle.std.specs.Prelude.{◌==◌, nat_le, flat_map, slice_get}
 use Rattle.std.specs.List.{filter_map, range_with_len}
 use Rattle.std.specs.Option.{option_map}
 use Rattle.std.proofs.lemmas.Bool.{eq-eqb, ne_eqb, le-leb, lt-leb, eqb-true}
@@ -20,8 +20,8 @@ use Rattle.script_text.specs.Rows.{IsPhase, IsInPhase}
 use Rattle.script_text.specs.Steps.{IsCount, IsStep, IsOperatorStep, IsStepOf}
 use Rattle.run_book.specs.Moves.{Move, move, client_does, operator_does, worker_does, closes, client_step, operator_step, client_steps, operator_steps, client_turn, operator_turn, one_or_none, worker_turn}
 use Rattle.run_book.proofs.Moves.{counted_more, client_more}
-use Rattle.world_core.specs.declared.dealing.Dealt.{Dealt}
-use Rattle.world_core.specs.Dealing.{IsDealt, line_of}
+use Rattle.run_table.specs.declared.dealing.Dealt.{Dealt}
+use Rattle.run_table.specs.Dealing.{IsDealt, line_of}
 use Rattle.world_core.specs.Worlds.{WorldView}
 use Rattle.world_core.specs.Runs.{MakesMoves}
 use Rattle.world_core.proofs.Making.{makes_none, makes_then}

@@ -14,7 +14,7 @@ use Rattle.dc_talk.specs.declared.log.Deed.{Deed}
 use Rattle.dc_talk.specs.declared.log.Deed.TheVariants.{Did, Asked, Told}
 use Rattle.dc_talk.specs.declared.log.Note.{Note}
 use Rattle.dc_talk.specs.Logs.{Logged, marked, noted, entries_made}
-use Rattle.dc_talk.specs.Acting.{IsAskBehind, noted_all}
+use Rattle.dc_talk.specs.Acting.{IsAskBehind}
 use Rattle.dc_talk.specs.Doors.{DoorView, IsBehind, HasDone}
 use Rattle.dc_talk.specs.Clients.{Client, new_client}
 use Rattle.dc_talk.specs.Rule.{after, client_after}
@@ -33,12 +33,12 @@ use Rattle.run_book.proofs.Happenings.Entries.{own_then, other_then, deeds_marke
 use Rattle.run_book.proofs.Happenings.More.{client_then, carrier_then, operator_carries, together_more}
 use Rattle.run_book.proofs.Happenings.OperatorSteps.{order_does}
 use Rattle.run_book.proofs.Happenings.Reach.{link_within}
-use Rattle.world_core.specs.declared.table.Table.{Table}
+use Rattle.run_table.specs.declared.table.Table.{Table}
 use Rattle.run_book.specs.Moves.{operator_does}
-use Rattle.world_core.specs.Worlds.{Turn, IsWorld, HasPosts, Acts, log_at, stub_at, notes_in}
-use Rattle.world_core.specs.Tables.{HasStepped, HasOperated, HasAskedOnce, log_in, outside, seen_of}
+use Rattle.world_core.specs.Worlds.{IsWorld, Acts, stub_at, notes_in, seen_of}
+use Rattle.run_table.specs.Tables.{HasStepped, HasOperated, HasAskedOnce, log_in, outside, Turn, HasPosts, log_at}
 use Rattle.world_core.specs.Events.{TakesStep, TakesOrder, AsksOnce, MayAsk}
-use Rattle.world_core.proofs.Numbered.{set_else, set_here}
+use Rattle.run_table.proofs.Numbered.{set_else, set_here}
 use Rattle.world_core.proofs.Mail.{mail_later, mail_after}
 use Rattle.world_core.proofs.Worlds.{centre_count, HasActed, more, world_then, histories_then, stub_named, stub_got}
 
