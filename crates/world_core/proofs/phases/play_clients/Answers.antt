@@ -9,7 +9,8 @@ use Rattle.world_core.specs.Worlds.{WorldView}
 use Rattle.run_table.specs.Dealing.{line_of}
 use Rattle.world_core.specs.Runs.{MakesMoves}
 use Rattle.world_core.proofs.Making.{client_makes}
-use Rattle.world_core.proofs.Phasing.{client_step_in, line_is, client_took, client_idle}
+use Rattle.run_table.proofs.Allowing.{client_step_in}
+use Rattle.world_core.proofs.Phasing.{line_is, client_took, client_idle}
 use Rattle.world_core.proofs.phases.play_clients.Goals as goal
 use Rattle.world_core.proofs.phases.play_clients.Goals.{in-Some+in_ok-take, in_default}
 
