@@ -1,5 +1,5 @@
 // All actors of a phase in threads.
-ghost use Rattle.std.specs.Prelude.{◌≡◌, ◌≤◌, All, IfOk};
+ghost use Rattle.std.specs.Prelude.{◌≡◌, ◌≤◌, map, Ok, All, IfOk};
 ghost use Rattle.std.specs.List.{AllZip};
 ghost use Rattle.phase_play.specs.Scenes.{IsScene};
 ghost use Rattle.phase_play.specs.Casts.{IsCallerOf, HasOperated, IsPlayerOf, HasTakenSteps, IsCrewOf, HasCrewPlayed, IsCast, HaveAllPlayed};
@@ -45,12 +45,12 @@ fn play_players<R: Threads + Wait + Sync, G: Gate>(
 ) -> Result<Vec<Player>, NoMemory>
     requires scene { IsScene scene }
     requires players { All (IsPlayerOf scene) players.items }
-    ensures { IfOk result (λ played. AllZip (HasTakenSteps scene) players.items played.items) }
+    ensures { IfOk result (λ played. AllZip (HasTakenSteps scene.entry) players.items played.items) }
 {
     let blocks = cut(alloc, players, scene.script.threads)?;
     let each = |block: Vec<Player>| -> Result<Vec<Player>, NoMemory>
         requires { IsScene scene × All (IsPlayerOf scene) block.items }
-        ensures { IfOk result (λ played. AllZip (HasTakenSteps scene) block.items played.items) }
+        ensures { IfOk result (λ played. AllZip (HasTakenSteps scene.entry) block.items played.items) }
     { play_clients(rt, alloc, scene, gate, block) };
     let results = map_vec(rt, blocks, &each)?;
     join_blocks(alloc, all_of(alloc, results)?)
@@ -66,11 +66,11 @@ fn play_crews<R: Threads + Wait + Sync, G: Gate>(
 ) -> Result<Vec<Crew>, NoMemory>
     requires scene { IsScene scene }
     requires crews { All (IsCrewOf scene) crews.items }
-    ensures { IfOk result (λ played. AllZip (HasCrewPlayed scene) crews.items played.items) }
+    ensures { IfOk result (λ played. AllZip (HasCrewPlayed scene.entry) crews.items played.items) }
 {
     let each = |crew: Crew| -> Result<Crew, NoMemory>
         requires { IsScene scene × IsCrewOf scene crew }
-        ensures { IfOk result (HasCrewPlayed scene crew) }
+        ensures { IfOk result (HasCrewPlayed scene.entry crew) }
     { play_crew(rt, scene, gate, crew) };
     let results = map_vec(rt, crews, &each)?;
     all_of(alloc, results)
@@ -87,7 +87,7 @@ pub fn play_in_threads<R: Threads + Wait + Sync, G: Gate>(
 ) -> Result<Cast, NoMemory>
     requires scene { IsScene scene }
     requires cast { IsCast scene cast }
-    ensures { IfOk result (HaveAllPlayed scene cast) }
+    ensures { IfOk result (HaveAllPlayed scene.entry cast) }
 {
     let Cast {
         operator,
@@ -96,19 +96,19 @@ pub fn play_in_threads<R: Threads + Wait + Sync, G: Gate>(
     } = cast;
     let players = move || -> Result<Vec<Player>, NoMemory>
         requires { IsScene scene × All (IsPlayerOf scene) clients.items }
-        ensures { IfOk result (λ played. AllZip (HasTakenSteps scene) clients.items played.items) }
+        ensures { IfOk result (λ played. AllZip (HasTakenSteps scene.entry) clients.items played.items) }
     { play_players(rt, alloc, scene, gate, clients) };
     let orders = move || -> Result<Caller, NoMemory>
         requires { IsScene scene × IsCallerOf scene operator }
-        ensures { IfOk result (HasOperated scene operator) }
+        ensures { IfOk result (HasOperated scene.entry operator) }
     { operate_through(rt, scene, gate, operator) };
     let workers = move || -> Result<Vec<Crew>, NoMemory>
         requires { IsScene scene × All (IsCrewOf scene) crews.items }
-        ensures { IfOk result (λ played. AllZip (HasCrewPlayed scene) crews.items played.items) }
+        ensures { IfOk result (λ played. AllZip (HasCrewPlayed scene.entry) crews.items played.items) }
     { play_crews(rt, alloc, scene, gate, crews) };
     let others = move || -> (Result<Caller, NoMemory>, Result<Vec<Crew>, NoMemory>)
         requires { IsScene scene × IsCallerOf scene operator × All (IsCrewOf scene) crews.items }
-        ensures { IfOk result.0 (HasOperated scene operator) × IfOk result.1 (λ played. AllZip (HasCrewPlayed scene) crews.items played.items) }
+        ensures { IfOk result.0 (HasOperated scene.entry operator) × IfOk result.1 (λ played. AllZip (HasCrewPlayed scene.entry) crews.items played.items) }
     { join(rt, orders, workers) };
     let (clients, (operator, crews)) = join(rt, players, others);
     Ok(Cast {
