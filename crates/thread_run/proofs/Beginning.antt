@@ -101,11 +101,11 @@ module _ (scene : Scene) (old : Table) (b : IsPhaseBegun scene old) where
   -- the workers of a centre
   crew_is : (i : ℕ) (crew : Crew) → IsCount scene.script.now.n i → slice_get b.cast.crews.items (i - 1) ≡ Some crew → IsCrewOf scene crew
   crew_is i crew range there =
-      let number : crew.centre ≡ i = numbered (λ (c : Crew). c.centre) b.cast.crews.items scene.script.now.n i crew b.cast_is.crews_are.numbers range there in
+      let number : crew.centre ≡ i = numbered (λ (c : Crew). c.centre) b.cast.crews.items scene.script.now.n i crew b.cast_is.crews.numbers range there in
       let among : IsCount (length scene.links.now) i = (range.0, omega (arith, range.1, b.links)) in
-      let givers : AreGivers scene.links.now i crew.sender.givers.items = subst (λ (row : List (GiverView Record)). AreGivers scene.links.now i row) (row_there (λ (c : Crew). c.sender.givers) b.cast.crews.items b.parts.givers.items (i - 1) crew b.cast_is.crews_are.givers_are there) (b.givers.each i among) in
-      let takers : AreTakers scene.links.now i crew.receiver.takers.items = subst (λ (row : List (TakerView Record)). AreTakers scene.links.now i row) (row_there (λ (c : Crew). c.receiver.takers) b.cast.crews.items b.parts.takers.items (i - 1) crew b.cast_is.crews_are.takers_are there) (b.takers.each i among) in
-      let inlets : length crew.receiver.inlets.items ≡ scene.script.now.n = sym (ap length (row_there (λ (c : Crew). c.receiver.inlets) b.cast.crews.items b.parts.inlets.items (i - 1) crew b.cast_is.crews_are.inlets_are there)) ∙ b.lent.rows_are i range in
+      let givers : AreGivers scene.links.now i crew.sender.givers.items = subst (λ (row : List (GiverView Record)). AreGivers scene.links.now i row) (row_there (λ (c : Crew). c.sender.givers) b.cast.crews.items b.parts.givers.items (i - 1) crew b.cast_is.crews.givers_are there) (b.givers.each i among) in
+      let takers : AreTakers scene.links.now i crew.receiver.takers.items = subst (λ (row : List (TakerView Record)). AreTakers scene.links.now i row) (row_there (λ (c : Crew). c.receiver.takers) b.cast.crews.items b.parts.takers.items (i - 1) crew b.cast_is.crews.takers_are there) (b.takers.each i among) in
+      let inlets : length crew.receiver.inlets.items ≡ scene.script.now.n = sym (ap length (row_there (λ (c : Crew). c.receiver.inlets) b.cast.crews.items b.parts.inlets.items (i - 1) crew b.cast_is.crews.inlets_are there)) ∙ b.lent.rows_are i range in
       record {
         centre = subst (IsCount scene.script.now.n) (sym number) range;
         sender = subst (λ k. IsSenderOf scene k crew.sender) (sym number) (record { caller = worker_is i Sender crew range there; givers = givers });
@@ -140,7 +140,7 @@ module _ (scene : Scene) (old : Table) (b : IsPhaseBegun scene old) where
         player_is (at.0 + 1) player (omega arith, omega (arith, slice_get_within b.cast.clients.items at.0 player at.1, count)) (subst (λ k. slice_get b.cast.clients.items k ≡ Some player) place at.1));
     crews = In-All (IsCrewOf scene) b.cast.crews.items (λ crew there.
         let at = In_get b.cast.crews.items crew there in
-        let count = count_of (λ (c : Crew). c.centre) b.cast.crews.items scene.script.now.n b.cast_is.crews_are.numbers in
+        let count = count_of (λ (c : Crew). c.centre) b.cast.crews.items scene.script.now.n b.cast_is.crews.numbers in
         let place : at.0 ≡ at.0 + 1 - 1 = omega arith in
         crew_is (at.0 + 1) crew (omega arith, omega (arith, slice_get_within b.cast.crews.items at.0 crew at.1, count)) (subst (λ k. slice_get b.cast.crews.items k ≡ Some crew) place at.1));
   }

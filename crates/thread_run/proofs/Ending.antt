@@ -84,7 +84,7 @@ module _ (scene : Scene) (old : Table) (b : IsPhaseBegun scene old) (acted : Cas
 
   -- of the same centres
   pub centres_are : map (λ (c : Crew). c.centre) acted.crews.items ≡ centres scene.script.now.n
-  centres_are = zip_same (HasCrewPlayed scene) (λ (c : Crew). c.centre) (λ (c : Crew). c.centre) b.cast.crews.items acted.crews.items (λ x y did. did.centre) played.crews ∙ b.cast_is.crews_are.numbers
+  centres_are = zip_same (HasCrewPlayed scene) (λ (c : Crew). c.centre) (λ (c : Crew). c.centre) b.cast.crews.items acted.crews.items (λ x y did. did.centre) played.crews ∙ b.cast_is.crews.numbers
 
   -- and the clients are the same
   pub clients_are : map (λ (p : Player). p.client) acted.clients.items ≡ range_with_len 1 scene.script.now.clients
@@ -95,24 +95,24 @@ module _ (scene : Scene) (old : Table) (b : IsPhaseBegun scene old) (acted : Cas
 module _ (scene : Scene) (old : Table) (run : IsPhaseRun scene old) where
   -- a row for each centre
   rows_count : {X : Type 0} (f : Crew → Vec X) (rows : List (Vec X)) → map f run.parted.closed ≡ rows → length rows ≡ scene.script.now.n
-  rows_count f rows are = sym (ap length are) ∙ (length-map run.parted.closed f ∙ count_of (λ (c : Crew). c.centre) run.parted.closed scene.script.now.n run.parted.parted.crews_are.numbers)
+  rows_count f rows are = sym (ap length are) ∙ (length-map run.parted.closed f ∙ count_of (λ (c : Crew). c.centre) run.parted.closed scene.script.now.n run.parted.parted.crews.numbers)
 
   pub giver_rows : AreGiverRows scene.links.now (ends_of run.later.givers.items)
   giver_rows = record {
-    number = length-map run.later.givers.items (λ (row : Vec (GiverView Record)). row.items) ∙ (rows_count (λ (c : Crew). c.sender.givers) run.later.givers.items run.parted.parted.crews_are.givers_are ∙ sym run.begun.links);
+    number = length-map run.later.givers.items (λ (row : Vec (GiverView Record)). row.items) ∙ (rows_count (λ (c : Crew). c.sender.givers) run.later.givers.items run.parted.parted.crews.givers_are ∙ sym run.begun.links);
     each = λ i among.
         let w = crew_of scene old run i (among.0, omega (arith, among.1, run.begun.links)) in
         let own : AreGivers scene.links.now i w.later.sender.givers.items = subst (λ k. AreGivers scene.links.now k w.later.sender.givers.items) w.number w.done.sender.is.givers in
-        subst (λ (row : List (GiverView Record)). AreGivers scene.links.now i row) (sym (row_there (λ (c : Crew). c.sender.givers) run.parted.closed run.later.givers.items (i - 1) w.later run.parted.parted.crews_are.givers_are w.is)) own;
+        subst (λ (row : List (GiverView Record)). AreGivers scene.links.now i row) (sym (row_there (λ (c : Crew). c.sender.givers) run.parted.closed run.later.givers.items (i - 1) w.later run.parted.parted.crews.givers_are w.is)) own;
   }
 
   pub taker_rows : AreTakerRows scene.links.now (ends_of run.later.takers.items)
   taker_rows = record {
-    number = length-map run.later.takers.items (λ (row : Vec (TakerView Record)). row.items) ∙ (rows_count (λ (c : Crew). c.receiver.takers) run.later.takers.items run.parted.parted.crews_are.takers_are ∙ sym run.begun.links);
+    number = length-map run.later.takers.items (λ (row : Vec (TakerView Record)). row.items) ∙ (rows_count (λ (c : Crew). c.receiver.takers) run.later.takers.items run.parted.parted.crews.takers_are ∙ sym run.begun.links);
     each = λ i among.
         let w = crew_of scene old run i (among.0, omega (arith, among.1, run.begun.links)) in
         let own : AreTakers scene.links.now i w.later.receiver.takers.items = subst (λ k. AreTakers scene.links.now k w.later.receiver.takers.items) w.number w.done.closed.is.takers in
-        subst (λ (row : List (TakerView Record)). AreTakers scene.links.now i row) (sym (row_there (λ (c : Crew). c.receiver.takers) run.parted.closed run.later.takers.items (i - 1) w.later run.parted.parted.crews_are.takers_are w.is)) own;
+        subst (λ (row : List (TakerView Record)). AreTakers scene.links.now i row) (sym (row_there (λ (c : Crew). c.receiver.takers) run.parted.closed run.later.takers.items (i - 1) w.later run.parted.parted.crews.takers_are w.is)) own;
   }
 
   -- the passes are those of the hosts
@@ -124,11 +124,11 @@ module _ (scene : Scene) (old : Table) (run : IsPhaseRun scene old) where
 
   -- a row of faults for each centre, with one from each
   pub inlets_count : length run.later.inlets.items ≡ scene.script.now.n
-  inlets_count = rows_count (λ (c : Crew). c.receiver.inlets) run.later.inlets.items run.parted.parted.crews_are.inlets_are
+  inlets_count = rows_count (λ (c : Crew). c.receiver.inlets) run.later.inlets.items run.parted.parted.crews.inlets_are
 
   pub inlets_each : All (λ (row : Vec (Inlet Record)). length row.items ≡ scene.script.now.n) run.later.inlets.items
   inlets_each =
-      subst (λ (rows : List (Vec (Inlet Record))). All (λ row. length row.items ≡ scene.script.now.n) rows) run.parted.parted.crews_are.inlets_are
+      subst (λ (rows : List (Vec (Inlet Record))). All (λ row. length row.items ≡ scene.script.now.n) rows) run.parted.parted.crews.inlets_are
       (All-map (λ (row : Vec (Inlet Record)). length row.items ≡ scene.script.now.n) (λ (c : Crew). c.receiver.inlets) run.parted.closed
       (all_partners (HasCrewDone scene (put_then scene old run)) (IsCrewOf scene) (λ (c : Crew). length c.receiver.inlets.items ≡ scene.script.now.n) run.begun.cast.crews.items run.parted.closed (λ x y is did. did.closed.is.inlets) (is_cast scene old run.begun).crews (done scene old run)))
 

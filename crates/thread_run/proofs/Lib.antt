@@ -7,3 +7,6 @@ pub mod Sectioning
 pub mod PlayedPhases
 pub mod Beginning
 pub mod Ending
+pub mod Crews
+pub mod Ends
+pub mod Halving

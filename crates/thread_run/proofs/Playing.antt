@@ -156,13 +156,13 @@ module _ (scene : Scene) (old : Table) (run : IsPhaseRun scene old) where
 
   pub crew_of : (i : ℕ) → IsCount scene.script.now.n i → HasCrew i
   crew_of i range =
-      let count = count_of (λ (c : Crew). c.centre) run.begun.cast.crews.items scene.script.now.n run.begun.cast_is.crews_are.numbers in
+      let count = count_of (λ (c : Crew). c.centre) run.begun.cast.crews.items scene.script.now.n run.begun.cast_is.crews.numbers in
       let crew = get_within run.begun.cast.crews.items (i - 1) (omega (arith, range.0, range.1, count)) in
       let pair = zip_get (HasCrewDone scene put_then) run.begun.cast.crews.items run.parted.closed (i - 1) crew.0 done crew.1 in
       record {
         crew = crew.0;
         there = crew.1;
-        number = numbered (λ (c : Crew). c.centre) run.begun.cast.crews.items scene.script.now.n i crew.0 run.begun.cast_is.crews_are.numbers range crew.1;
+        number = numbered (λ (c : Crew). c.centre) run.begun.cast.crews.items scene.script.now.n i crew.0 run.begun.cast_is.crews.numbers range crew.1;
         later = pair.partner;
         is = pair.there;
         done = pair.related;

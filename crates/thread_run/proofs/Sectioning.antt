@@ -84,9 +84,9 @@ module _ (scene : Scene) (old new : Table) (h : IsPhasePlayed scene old new) whe
   mail_taken from j there range other =
       let w = crew_of scene old h.run j range in
       let v = crew_of scene old h.run from there in
-      let takers = row_there (λ (c : Crew). c.receiver.takers) h.run.parted.closed h.run.later.takers.items (j - 1) w.later h.run.parted.parted.crews_are.takers_are w.is in
-      let givers = row_there (λ (c : Crew). c.sender.givers) h.run.parted.closed h.run.later.givers.items (from - 1) v.later h.run.parted.parted.crews_are.givers_are v.is in
-      let first = row_there (λ (c : Crew). c.sender.givers) h.run.begun.cast.crews.items h.run.begun.parts.givers.items (from - 1) v.crew h.run.begun.cast_is.crews_are.givers_are v.there in
+      let takers = row_there (λ (c : Crew). c.receiver.takers) h.run.parted.closed h.run.later.takers.items (j - 1) w.later h.run.parted.parted.crews.takers_are w.is in
+      let givers = row_there (λ (c : Crew). c.sender.givers) h.run.parted.closed h.run.later.givers.items (from - 1) v.later h.run.parted.parted.crews.givers_are v.is in
+      let first = row_there (λ (c : Crew). c.sender.givers) h.run.begun.cast.crews.items h.run.begun.parts.givers.items (from - 1) v.crew h.run.begun.cast_is.crews.givers_are v.there in
       let taken : taken_between (ends_of h.run.later.takers.items) from j ≡ taken_from w.later.receiver.takers.items from = ap (λ row. taken_from row from) takers in
       let all : length (taken_from w.later.receiver.takers.items from) ≡ length (put_between (put_then scene old h.run) from j) = w.done.closed.closes.all from there (λ same. other (same ∙ w.number)) ∙ ap (λ i. length (put_between (put_then scene old h.run) from i)) w.number in
       let among : (i : ℕ) → IsCount scene.script.now.n i → IsCount (length scene.links.now) i = λ i range. (range.0, omega (arith, range.1, h.run.begun.links)) in
@@ -100,9 +100,9 @@ module _ (scene : Scene) (old new : Table) (h : IsPhasePlayed scene old new) whe
   pub receivers_play : (j : ℕ) → IsCount scene.script.now.n j → Receives scene.script.now scene.number scene.section.now (between_of scene.script.now old) (left_between old new) (between_of scene.script.now new) j
   receivers_play j range =
       let w = crew_of scene old h.run j range in
-      let inlets = row_there (λ (c : Crew). c.receiver.inlets) h.run.begun.cast.crews.items h.run.begun.parts.inlets.items (j - 1) w.crew h.run.begun.cast_is.crews_are.inlets_are w.there in
-      let takers = row_there (λ (c : Crew). c.receiver.takers) h.run.begun.cast.crews.items h.run.begun.parts.takers.items (j - 1) w.crew h.run.begun.cast_is.crews_are.takers_are w.there in
-      let later = row_there (λ (c : Crew). c.receiver.inlets) h.run.parted.closed h.run.later.inlets.items (j - 1) w.later h.run.parted.parted.crews_are.inlets_are w.is in
+      let inlets = row_there (λ (c : Crew). c.receiver.inlets) h.run.begun.cast.crews.items h.run.begun.parts.inlets.items (j - 1) w.crew h.run.begun.cast_is.crews.inlets_are w.there in
+      let takers = row_there (λ (c : Crew). c.receiver.takers) h.run.begun.cast.crews.items h.run.begun.parts.takers.items (j - 1) w.crew h.run.begun.cast_is.crews.takers_are w.there in
+      let later = row_there (λ (c : Crew). c.receiver.inlets) h.run.parted.closed h.run.later.inlets.items (j - 1) w.later h.run.parted.parted.crews.inlets_are w.is in
       record {
         first = intakes_of (receiving w.crew.receiver);
         last = intakes_of (receiving w.later.receiver);

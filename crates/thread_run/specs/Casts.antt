@@ -67,11 +67,11 @@ pub record AreCrewsOf (n : ℕ) (callers : List Caller) (givers : List (Vec (Giv
   pub inlets_are : map (λ (c : Crew). c.receiver.inlets) crews ≡ inlets
 
 -- the actors of so many clients and n centres that have these parts
-pub record AreActorsOf (n clients : ℕ) (parts : Parts) (operator : Caller) (players : List Player) (crews : List Crew) : Type 0 where
-  pub callers : AreCallersOf parts.rows.items parts.logs.items (callers_among operator players crews)
+pub record AreActorsOf (n clients : ℕ) (parts : Parts) (operator : Caller) (players : List Player) (staff : List Crew) : Type 0 where
+  pub callers : AreCallersOf parts.rows.items parts.logs.items (callers_among operator players staff)
   pub numbers : map (λ (p : Player). p.client) players ≡ range_with_len 1 clients
   pub stubs : map (λ (p : Player). p.stub) players ≡ parts.stubs.items
-  pub crews_are : AreCrewsOf n (flat_map crew_callers crews) parts.givers.items parts.takers.items parts.inlets.items crews
+  pub crews : AreCrewsOf n (flat_map crew_callers staff) parts.givers.items parts.takers.items parts.inlets.items staff
 
 -- so are those of a cast
 abbrev pub IsCastOf : ℕ → ℕ → Parts → Cast → Type 0

@@ -1,5 +1,5 @@
 -- A run between two sections, by the parts of its table.
-use Rattle.std.specs.Prelude.{◌≡◌, ℕ, ◌+◌, ◌-◌, map, length, List, ◌++◌, Option, Some, None, unwrap_or, slice_get}
+use Rattle.std.specs.Prelude.{◌≡◌, ℕ, ◌+◌, ◌-◌, map, length, List, ◌++◌, unwrap_or, slice_get}
 use Rattle.std.specs.Option.{option_map}
 use Rattle.dc_talk.specs.declared.log.Note.{Note}
 use Rattle.dc_host.specs.KeptDoors.{trail_at, settings_of}
