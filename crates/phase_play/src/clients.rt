@@ -165,7 +165,7 @@ fn sit<'a, R: Wait, G: Gate>(
 
 // Its passes, its log and its stub back.
 fn stand<R, G: Gate>(seat: Seat<'_, R, G>) -> Player
-    ensures { seat_of result ≡ seat.entry }
+    ensures { seat.entry.door.actor ≡ seat.entry.log.actor → seat_of result ≡ seat.entry }
 {
     let Seat {
         client,
