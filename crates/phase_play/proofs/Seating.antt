@@ -15,7 +15,7 @@ use Rattle.run_book.specs.Moves.{client_steps, operator_steps, most_steps}
 use Rattle.run_table.specs.declared.dealing.Dealt.{Dealt}
 use Rattle.run_table.specs.Dealing.{IsDealtPhase, line_of}
 use Rattle.phase_play.specs.declared.scene.Scene.{Scene}
-use Rattle.phase_play.specs.Clients.{ClientAt, SeatView, seated, seat_of, HasTurned}
+use Rattle.phase_play.specs.Clients.{ClientAt, SeatView, seated, seat_of, HasStood, HasTurned}
 use Rattle.phase_play.specs.declared.clients.Player.{Player}
 use Rattle.phase_play.specs.Casts.{IsPlayerOf, IsSeatOf, HasTurnedSeat, HasSeatCome, HasTakenSteps}
 use Rattle.phase_play.proofs.Turns.{turn_none, turns_all}
@@ -27,10 +27,6 @@ step_dealt script section dealt client place step phase count is = sym (is ∙ a
 -- as many passes where they are the same
 pub passes_long : (old new : List CentrePass) → map bare new ≡ map bare old → length new ≡ length old
 passes_long old new same = sym (length-map new bare) ∙ (ap length same ∙ length-map old bare)
-
--- the player that got up from a seat
-abbrev pub HasStood : SeatView → Player → Type 0
-HasStood seat player = seat.door.actor ≡ seat.log.actor → seat_of player ≡ seat
 
 -- one player more that got up
 pub stood_more : (seats : List SeatView) (seat : SeatView) (players longer : List Player) (player : Player) → longer ≡ players ++ player ∷ [] → HasStood seat player → AllZip HasStood seats players → AllZip HasStood (seats ++ seat ∷ []) longer
@@ -71,8 +67,7 @@ module _ (scene : Scene) where
   pub seats_none : (seats : List SeatView) → All (IsSeatOf scene) seats → AllZip (HasSeatCome scene 0) seats seats
   seats_none [] all = tt
   seats_none (seat ∷ seats) all =
-      let is : IsSeatOf scene seat = All-head (IsSeatOf scene) seat seats all in
-      (
+      let is : IsSeatOf scene seat = All-head (IsSeatOf scene) seat seats all in (
         record { is = is; come = record { same = record { client = refl; actor = refl; passes = refl }; turned = turn_none scene.section.now scene.number (seated seat) is.linked } },
         seats_none seats (All-tail (IsSeatOf scene) seat seats all),
       )
