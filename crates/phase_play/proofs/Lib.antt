@@ -3,3 +3,4 @@ pub mod Rounds
 pub mod Turns
 pub mod Passing
 pub mod Seating
+pub mod Cutting
