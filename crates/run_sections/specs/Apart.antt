@@ -1,12 +1,6 @@
 -- Notes of actors and trails of centres that belong together, where nothing is said of what came first of two actors.
-<<<<<<< HEAD
-use Rattle.std.specs.Prelude.{◌≡◌, ℕ, ◌+◌, length, List, [], ◌++◌}
-use Rattle.list_core.specs.Members.{In}
-use Rattle.dc_talk.specs.declared.log.Deed.{Deed}
-=======
 use Rattle.std.specs.Prelude.{◌≡◌, ◌≢◌, ℕ, ◌+◌, length, List, [], ◌++◌}
 use Rattle.list_core.specs.Members.{In}
->>>>>>> f879e718a79d0e89c3aa4ef90e9c699fe897c367
 use Rattle.dc_talk.specs.declared.log.Note.{Note}
 use Rattle.dc_talk.specs.Entries.{Entry}
 use Rattle.dc_talk.specs.Answers.{History}
@@ -16,11 +10,7 @@ use Rattle.script_text.specs.Steps.{IsCount}
 use Rattle.run_book.specs.declared.book.Book.{Book}
 use Rattle.run_book.specs.Setups.{setup_of, settings_among}
 use Rattle.run_book.specs.Parts.{trail_of, log_of, notes_of, exchanged, entries_by}
-<<<<<<< HEAD
-use Rattle.run_book.specs.Happenings.{GoesToOneOf, CarrierAllows, ClientDoes, IsCarrier}
-=======
 use Rattle.run_book.specs.Happenings.{GoesToOneOf, CarrierAllows, IsCarrier}
->>>>>>> f879e718a79d0e89c3aa4ef90e9c699fe897c367
 use Rattle.run_sections.specs.Sections.{actors_of, Between, Left}
 
 -- each centre's trail is a history; the entries of each actor in it are what its notes exchanged there, with no others;
@@ -52,16 +42,8 @@ notes_then notes left a = notes a ++ left.notes a
 abbrev pub trails_then : (ℕ → List Entry) → Left → ℕ → List Entry
 trails_then trails left i = trails i ++ left.entries i
 
-<<<<<<< HEAD
--- where these notes were made, each client is as its own say, and no link holds a record
-pub record StandsAt (script : Script) (notes : ℕ → List Note) (here : Between) : Type 0 where
-  pub clients : (client : ℕ) → IsCount script.clients client → (here.come client).client ≡ client_after script.n client script.cache (notes (client + 1))
-  pub own : (client : ℕ) → IsCount script.clients client → (here.come client).notes ≡ notes (client + 1)
-  pub none_held : (from to : ℕ) → IsCount script.n from → IsCount script.n to → (here.inlets from to).held ≡ []
-=======
 -- where these notes were made, each client is as its own say, and no link between two centres holds a record
 pub record StandsAt (script : Script) (notes : ℕ → List Note) (here : Between) : Type 0 where
   pub clients : (client : ℕ) → IsCount script.clients client → (here.come client).client ≡ client_after script.n client script.cache (notes (client + 1))
   pub own : (client : ℕ) → IsCount script.clients client → (here.come client).notes ≡ notes (client + 1)
   pub none_held : (from to : ℕ) → IsCount script.n from → IsCount script.n to → from ≢ to → (here.inlets from to).held ≡ []
->>>>>>> f879e718a79d0e89c3aa4ef90e9c699fe897c367
