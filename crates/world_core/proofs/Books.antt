@@ -22,25 +22,8 @@ use Rattle.run_table.specs.Tables.{log_at}
 use Rattle.world_core.specs.Worlds.{WorldView, IsWorld}
 use Rattle.script_text.specs.Scripts.{IsInRange}
 use Rattle.world_core.specs.Runs.{IsSound, IsWorldBook, HasPlayed, IsRunOf}
+use Rattle.run_table.proofs.Reading.{trails_match, logs_match}
 use Rattle.world_core.proofs.Worlds.{centre_count}
-
--- a trail by its number, in the book and at its centre
-trails_match : (cs : List CentreTrail) (b : Book) (i : ℕ) → b.trails ≡ map (λ (centre : CentreTrail). centre.entries) cs → trail_of b i ≡ trail_at cs i
-trails_match cs b zero are = refl
-trails_match cs b (suc place) are =
-    sym (unwrap_or-slice_get b.trails place [])
-    ∙ (ap (λ (trails : List (List Entry)). unwrap_or (slice_get trails place) []) are
-    ∙ (ap (λ (o : Option (List Entry)). unwrap_or o []) (slice_get-map (λ (centre : CentreTrail). centre.entries) cs place)
-    ∙ in_either (slice_get cs place)))
-  where
-    in_either : (o : Option CentreTrail) → unwrap_or (option_map (λ (centre : CentreTrail). centre.entries) o) [] ≡ entries_of o
-    in_either None = refl
-    in_either (Some centre) = refl
-
--- a log by its number
-logs_match : (logs : List Logged) (b : Book) (a : ℕ) → b.logs ≡ logs → log_of b a ≡ log_at logs a
-logs_match logs b zero are = refl
-logs_match logs b (suc place) are = ap (λ logs. log_at logs (suc place)) are
 
 -- the numbers of the run are in range
 in_range : (script : Script) → IsInRange script → InRange script.n script.k (setup_of script)
