@@ -1,19 +1,17 @@
 -- Section after section of a script, as the table shows them, and the book of all.
-use Rattle.std.proofs.Common.{◌≡◌, ◌≤◌, ◌<◌, ⊎_elim, ℕ, zero, suc, ◌+◌, ◌-◌, ◌*◌, List, [], ◌∷◌, ◌++◌, map, length, length-append, get_or, replicate, take, Option, Some, None, refl, sym, ap, ◌∙◌, subst, arith}
-use Rattle.std.specs.Prelude.{slice_get, slice_index_or, All, flat_map, Result, Ok, Err, IfOk}
-use Rattle.std.specs.Option.{option_map, unwrap_or}
+use Rattle.std.proofs.Common.{◌≡◌, ◌≤◌, ◌<◌, ⊎_elim, ℕ, zero, suc, ◌+◌, ◌-◌, ◌*◌, List, [], ◌∷◌, ◌++◌, map, length, length-append, get_or, replicate, take, Some, None, refl, sym, ap, ◌∙◌, subst, arith}
+use Rattle.std.specs.Prelude.{slice_get, All, flat_map, Result, Ok, Err, IfOk}
+use Rattle.std.specs.Option.{option_map}
 use Rattle.std.specs.List.{range_with_len}
 use Rattle.std.proofs.lemmas.Bool.{cases_lt}
-use Rattle.std.proofs.lemmas.Option.{same_Some, slice_get-map, slice_get_past, unwrap_or-slice_get}
+use Rattle.std.proofs.lemmas.Option.{same_Some, slice_get-map, slice_get_past}
 use Rattle.std.proofs.lemmas.List.{append-nil, length-map, nil_from_length, take_more, length-take-le}
 use Rattle.std.proofs.lemmas.List.Elements.{All-map}
-use Rattle.std.proofs.lemmas.List.FromFn.{get_or-map-range_with_len, length-map-range_with_len}
+use Rattle.std.proofs.lemmas.List.FromFn.{length-map-range_with_len}
 use Rattle.std.proofs.lemmas.Grind.{flat_map-append}
 use Rattle.list_core.specs.Members.{In}
 use Rattle.list_core.proofs.Gets.{get_within, all_get}
-use Rattle.list_core.proofs.Members.{In-All, In_from_map}
 use Rattle.list_core.proofs.Moments.{each_none}
-use Rattle.dc_talk.specs.declared.log.Deed.{Deed}
 use Rattle.dc_talk.specs.declared.log.Note.{Note}
 use Rattle.dc_talk.specs.declared.settings.Settings.{Settings}
 use Rattle.dc_talk.specs.Entries.{Entry}
@@ -21,7 +19,7 @@ use Rattle.dc_talk.specs.Logs.{Logged}
 use Rattle.dc_talk.specs.Answers.{History}
 use Rattle.dc_talk.specs.Clients.{Client, new_client}
 use Rattle.dc_talk.specs.Rule.{Follows, client_after}
-use Rattle.dc_host.specs.Centres.{CentreTrail, new_centre, new_centres}
+use Rattle.dc_host.specs.Centres.{CentreTrail, new_centre}
 use Rattle.dc_host.specs.KeptDoors.{entries_of, trail_at, settings_of}
 use Rattle.dc_mail.specs.Posts.{post_at, place_of}
 use Rattle.vv_core.specs.Vectors.{centres}
@@ -35,26 +33,27 @@ use Rattle.script_text.specs.Scripts.{header_of, IsInRange}
 use Rattle.script_text.specs.Steps.{IsCount}
 use Rattle.client_stub.specs.Playing.{StubView}
 use Rattle.run_book.specs.declared.book.Book.{Book}
-use Rattle.run_book.specs.Setups.{Setup, setup_of, settings_among}
-use Rattle.run_book.specs.Parts.{idle_log, exchanged, trail_of, log_of}
-use Rattle.run_book.specs.Happenings.{GoesToOneOf, IsLinkWithin}
+use Rattle.run_book.specs.Setups.{setup_of, settings_among}
+use Rattle.run_book.specs.Parts.{idle_log, exchanged}
+use Rattle.run_book.specs.Happenings.{IsLinkWithin}
 use Rattle.run_book.specs.Moves.{client_steps, operator_steps}
 use Rattle.run_book.specs.Played.{new_progress}
 use Rattle.run_table.specs.declared.table.Table.{Table}
-use Rattle.run_table.specs.Tables.{log_at, IsNew, new_stub, new_logs}
+use Rattle.run_table.specs.Tables.{log_at, IsNew, new_stub}
+use Rattle.run_table.proofs.Reading.{new_trails, new_settings, new_notes, new_actors, trails_match, logs_match}
 use Rattle.run_table.proofs.Numbered.{get_below}
 use Rattle.run_sections.specs.Apart.{AreApart, StandsAt, IsBookWith, notes_then, trails_then}
-use Rattle.run_sections.specs.Orders.{deeds_of, InOrder, ClientGoes, intake}
+use Rattle.run_sections.specs.Orders.{InOrder, ClientGoes, intake}
 use Rattle.run_sections.specs.Runs.{no_sections, IsSectionRunOf}
 use Rattle.run_sections.specs.Sections.{actors_of, Between, first_between, Left, PlaysSection, linked}
 use Rattle.run_sections.proofs.Actors.{client_acts, carrier_acts}
 use Rattle.run_sections.proofs.Fits.{fits_apart}
-use Rattle.run_sections.proofs.InTurn.{notes_within}
+use Rattle.run_sections.proofs.Reaching.{link_there}
 use Rattle.run_sections.proofs.Orders.{sections_more}
 use Rattle.run_sections.proofs.Sectioning.{none_apart, none_stands, section_apart}
 use Rattle.thread_run.specs.Played.{AreAlike, HasRun}
 use Rattle.thread_run.specs.Tables.{notes_at, between_of, AreLinked, IsTableOf, HasPlayed}
-use Rattle.thread_run.proofs.Alone.{centres_many, come_at}
+use Rattle.thread_run.proofs.Taking.{centres_many, come_at}
 
 -- ---- the trails of a table
 
@@ -134,35 +133,6 @@ plays_alike script number section one two new left alike plays = record {
 
 -- ---- before the first section
 
--- the trails of new centres are empty
-new_trails : (n k limit i : ℕ) → trail_at (new_centres n k limit) i ≡ []
-new_trails n k limit zero = refl
-new_trails n k limit (suc i) = ap entries_of (slice_get-map (new_centre n k limit) (centres n) i) ∙ none (slice_get (centres n) i)
-  where
-    none : (o : Option ℕ) → entries_of (option_map (new_centre n k limit) o) ≡ []
-    none None = refl
-    none (Some me) = refl
-
--- their settings
-new_settings : (n k : ℕ) (setup : Setup) (numbers : List ℕ) → settings_of (map (new_centre n k setup.limit) numbers) ≡ map (settings_among n k setup) numbers
-new_settings n k setup [] = refl
-new_settings n k setup (i ∷ numbers) = ap (λ (rest : List Settings). settings_among n k setup i ∷ rest) (new_settings n k setup numbers)
-
--- new logs have no notes
-new_notes : (actors : List ℕ) (a : ℕ) → (log_at (map idle_log actors) a).notes ≡ []
-new_notes actors zero = refl
-new_notes actors (suc place) = idle actors place
-  where
-    idle : (actors : List ℕ) (place : ℕ) → (slice_index_or (map idle_log actors) place (idle_log 0)).notes ≡ []
-    idle [] place = refl
-    idle (a ∷ actors) zero = refl
-    idle (a ∷ actors) (suc place) = idle actors place
-
--- and each is the one of its actor
-new_actors : (count a : ℕ) → IsCount count a → (log_at (new_logs count) a).actor ≡ a
-new_actors count zero range = absurd (omega (arith, range.0))
-new_actors count (suc place) range = ap (λ (log : Logged). log.actor) (get_or-map-range_with_len idle_log 1 count place (suc place) (idle_log 0) (omega (arith, range.1)) (omega arith))
-
 -- each element of a list of one thing is that thing
 replicate_or : {X : Type 0} (count place : ℕ) (x : X) → get_or (replicate count x) place x ≡ x
 replicate_or zero place x = refl
@@ -177,7 +147,7 @@ module _ (script : Script) (table : Table) (new : IsNew script table) where
     histories = subst (All (λ (centre : CentreTrail). History centre.settings centre.entries)) (sym new.centres) (All-map (λ (centre : CentreTrail). History centre.settings centre.entries) (new_centre script.n script.k script.limit) (centres script.n) (λ k me lt. each_none _));
     stubs = ap (λ (stubs : List StubView). length stubs) new.stubs ∙ length-map-range_with_len (new_stub script.n script.cache) 1 script.clients;
     logs = ap (λ (logs : List Logged). length logs) new.logs ∙ length-map-range_with_len idle_log 1 (actors_of script);
-    actors = λ a range. ap (λ logs. (log_at logs a).actor) new.logs ∙ new_actors (actors_of script) a range;
+    actors = λ a range. ap (λ logs. (log_at logs a).actor) new.logs ∙ new_actors (actors_of script) a range.0 range.1;
   }
 
   -- it has no notes
@@ -221,12 +191,6 @@ module _ (script : Script) (table : Table) (new : IsNew script table) where
 
 -- ---- one section more
 
--- each deed of notes is of one of them
-all_deeds : (P : Deed → Type 0) (notes : List Note) → ((note : Note) → In note notes → P note.deed) → All P (deeds_of notes)
-all_deeds P notes each = In-All P (deeds_of notes) (λ deed there.
-    let from = In_from_map (λ (note : Note). note.deed) notes deed there in
-    subst P (sym from.2) (each from.0 from.1))
-
 -- what was left by all sections, with one more
 lefts_more : {X : Type 0} (f : Left → List X) (lefts : List Left) (left : Left) (before now : List X) → before ≡ flat_map f lefts → now ≡ before ++ f left → now ≡ flat_map f (lefts ++ left ∷ [])
 lefts_more f lefts left before now were are =
@@ -239,8 +203,7 @@ module _ (script : Script) (front : List Section) (table : Table) (run : HasRun 
   pub run_linked : AreLinked script table
   run_linked client range =
       subst (λ (s : Client). IsLinkWithin script.n s.link) (sym (run.stands.clients client range))
-      (notes_within script.n (new_client script.n client script.cache) (notes_at table (client + 1))
-      (all_deeds (GoesToOneOf script.n) (notes_at table (client + 1)) (λ note there. run.apart.reach (client + 1) note (client_acts script client range) there)) tt)
+      (link_there script (notes_at table) (trail_at table.door.centres) run.apart client range)
 
   -- one section more was played
   pub run_more : (number : ℕ) (section : Section) (new : Table) → number ≡ 1 + length front → IsSection (header_of script) section → HasPlayed script number section table new → HasRun script (front ++ section ∷ []) new
@@ -276,24 +239,6 @@ run_next script sections place section table new are lt is range run played =
     (run_more script (take place sections) table run (place + 1) section new (omega (arith, many)) (section_at script sections place section are lt is range) played)
 
 -- ---- the book
-
--- a trail by its number, in the book and at its centre
-trails_match : (cs : List CentreTrail) (b : Book) (i : ℕ) → b.trails ≡ map (λ (centre : CentreTrail). centre.entries) cs → trail_of b i ≡ trail_at cs i
-trails_match cs b zero are = refl
-trails_match cs b (suc place) are =
-    sym (unwrap_or-slice_get b.trails place [])
-    ∙ (ap (λ (trails : List (List Entry)). unwrap_or (slice_get trails place) []) are
-    ∙ (ap (λ (o : Option (List Entry)). unwrap_or o []) (slice_get-map (λ (centre : CentreTrail). centre.entries) cs place)
-    ∙ in_either (slice_get cs place)))
-  where
-    in_either : (o : Option CentreTrail) → unwrap_or (option_map (λ (centre : CentreTrail). centre.entries) o) [] ≡ entries_of o
-    in_either None = refl
-    in_either (Some centre) = refl
-
--- a log by its number
-logs_match : (logs : List Logged) (b : Book) (a : ℕ) → b.logs ≡ logs → log_of b a ≡ log_at logs a
-logs_match logs b zero are = refl
-logs_match logs b (suc place) are = ap (λ logs. log_at logs (suc place)) are
 
 -- the book of a table has its notes and trails
 pub table_book : (script : Script) (table : Table) (b : Book) → IsTableOf script table → b.n ≡ script.n → b.k ≡ script.k → b.trails ≡ map (λ (centre : CentreTrail). centre.entries) table.door.centres → b.logs ≡ table.logs.items → IsBookWith script b (notes_at table) (trail_at table.door.centres)

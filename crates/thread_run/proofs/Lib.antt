@@ -11,4 +11,5 @@ pub mod Crews
 pub mod Ends
 pub mod Halving
 pub mod Alone
+pub mod Taking
 pub mod Joining

@@ -1,6 +1,5 @@
 // A script, section by section.
-ghost use Rattle.std.specs.Prelude.{◌≡◌, map, IfOk, OnOk};
-ghost use Rattle.dc_host.specs.Centres.{all_seen};
+ghost use Rattle.std.specs.Prelude.{IfOk, OnOk};
 ghost use Rattle.dc_host.specs.KeptDoors.{trail_at};
 ghost use Rattle.script_text.specs.Rows.{section_of, IsLine, IsSection};
 ghost use Rattle.script_text.specs.Scripts.{header_of, IsInRange};
@@ -11,12 +10,10 @@ ghost use Rattle.thread_run.specs.Tables.{notes_at, IsTableOf, AreLinked, HasPla
 ghost use Rattle.thread_run.specs.Played.{HasRun};
 
 use crate::phases::play_phase;
-use dc_centre::Centre;
-use hist_lock::Kept;
 use ids_core::NoMemory;
 use io_edge::Gate;
-use run_book::{Book, Logs, Trails};
-use run_table::Table;
+use run_book::{Book, Logs};
+use run_table::{Table, trails_of};
 use script_text::{Script, Section, Step};
 use std::alloc::Global;
 use std::sync::Wait;
@@ -104,17 +101,6 @@ fn play_all<R: Threads + Wait + Sync, G: Gate>(
         table = play_section(rt, alloc, gate, script, number, section, table)?;
     }
     Ok(table)
-}
-
-// The trails of centres that are kept with them.
-fn trails_of(alloc: Global, kept: Vec<Kept<Centre>>) -> Result<Trails, NoMemory>
-    ensures { IfOk result (λ trails. trails ≡ map (λ centre. centre.entries) (all_seen kept.items)) }
-{
-    let mut trails = Trails::new(alloc);
-    'kept: for one in kept {
-        trails.push(one.trail)?;
-    }
-    Ok(trails)
 }
 
 // The book of a run of a script.

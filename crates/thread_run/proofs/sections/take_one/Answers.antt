@@ -5,7 +5,8 @@ use Rattle.script_text.specs.Steps.{IsCount, IsStep, IsStepOf}
 use Rattle.dc_worker.proofs.Work.{on_turn}
 use Rattle.run_table.specs.Tables.{HasStepped, HasOperated}
 use Rattle.thread_run.specs.Tables.{HasPlayed}
-use Rattle.thread_run.proofs.Alone.{turn_in, centres_many, stub_linked, client_line, order_line}
+use Rattle.thread_run.proofs.Alone.{turn_in}
+use Rattle.thread_run.proofs.Taking.{centres_many, stub_linked, client_line, order_line}
 use Rattle.thread_run.proofs.sections.take_one.Goals as goal
 
 pub step-requires-clause-fits : goal.step-requires-clause-fits
