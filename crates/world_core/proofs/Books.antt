@@ -1,24 +1,19 @@
 -- The book of a world.
-use Rattle.std.proofs.Common.{◌≡◌, ℕ, zero, suc, List, [], map, length, Option, Some, None, refl, sym, ap, ◌∙◌, subst, arith}
-use Rattle.std.specs.Prelude.{slice_get, Result, Ok, Err, IfOk}
-use Rattle.std.specs.Option.{option_map, unwrap_or}
-use Rattle.std.proofs.lemmas.Option.{slice_get-map, unwrap_or-slice_get}
+use Rattle.std.proofs.Common.{◌≡◌, List, map, length, sym, ap, ◌∙◌, subst, arith}
+use Rattle.std.specs.Prelude.{Result, Ok, Err, IfOk}
 use Rattle.std.proofs.lemmas.List.{length-map}
 use Rattle.dc_talk.specs.Entries.{Entry}
 use Rattle.dc_talk.specs.Logs.{Logged}
 use Rattle.dc_host.specs.Centres.{CentreTrail}
-use Rattle.dc_host.specs.KeptDoors.{entries_of, trail_at}
 use Rattle.script_text.specs.declared.script.Script.{Script}
 use Rattle.run_book.specs.declared.book.Book.{Book}
 use Rattle.run_book.specs.Setups.{setup_of}
-use Rattle.run_book.specs.Parts.{trail_of, log_of}
 use Rattle.run_book.specs.Happenings.{Happened, InRange, IsBookOf}
 use Rattle.run_book.specs.Moves.{moves_of}
 use Rattle.run_book.specs.Played.{HavePlayed}
 use Rattle.run_book.proofs.Happenings.Fits.{fits}
 use Rattle.run_book.proofs.Happenings.Timely.{timely}
 use Rattle.run_book.proofs.Happenings.Playing.{scripted}
-use Rattle.run_table.specs.Tables.{log_at}
 use Rattle.world_core.specs.Worlds.{WorldView, IsWorld}
 use Rattle.script_text.specs.Scripts.{IsInRange}
 use Rattle.world_core.specs.Runs.{IsSound, IsWorldBook, HasPlayed, IsRunOf}

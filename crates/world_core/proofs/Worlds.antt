@@ -1,12 +1,12 @@
 -- Worlds at first, and worlds in which an actor did more.
-use Rattle.std.proofs.Common.{◌≡◌, ◌≢◌, ◌≤◌, ◌<◌, ℕ, zero, suc, ◌+◌, ◌-◌, ◌*◌, Bool, ⊎_elim, List, [], ◌∷◌, ◌++◌, map, length, Option, Some, None, refl, sym, ap, ◌∙◌, subst, arith}
-use Rattle.std.specs.Prelude.{slice_get, slice_set, slice_index_or}
+use Rattle.std.proofs.Common.{◌≡◌, ◌≢◌, ◌≤◌, ◌<◌, ℕ, zero, suc, ◌+◌, ◌-◌, ◌*◌, Bool, ⊎_elim, List, [], ◌++◌, map, length, Some, sym, ap, ◌∙◌, subst, arith}
+use Rattle.std.specs.Prelude.{slice_get, slice_set}
 use Rattle.std.specs.Option.{option_map}
 use Rattle.std.specs.List.{range_with_len}
 use Rattle.std.proofs.lemmas.Bool.{cases_eq}
 use Rattle.std.proofs.lemmas.Option.{none-some, same_Some, slice_get-map, slice_get_within}
-use Rattle.std.proofs.lemmas.List.{length-map, get_or-set_same, get_or-set_other}
-use Rattle.std.proofs.lemmas.List.FromFn.{get_or-map-range_with_len, length-map-range_with_len}
+use Rattle.std.proofs.lemmas.List.{length-map}
+use Rattle.std.proofs.lemmas.List.FromFn.{length-map-range_with_len}
 use Rattle.std.proofs.Math.ListN.{set, length-set}
 use Rattle.list_core.proofs.Gets.{get_within, all_get}
 use Rattle.vv_core.specs.Vectors.{centres}
@@ -15,7 +15,7 @@ use Rattle.dc_talk.specs.declared.log.Deed.{Deed}
 use Rattle.dc_talk.specs.Logs.{Logged, entries_made}
 use Rattle.dc_talk.specs.Answers.{History}
 use Rattle.dc_talk.specs.Rule.{client_after}
-use Rattle.dc_host.specs.Centres.{CentreTrail, new_centre, new_centres}
+use Rattle.dc_host.specs.Centres.{CentreTrail}
 use Rattle.dc_host.specs.KeptDoors.{entries_of, trail_at}
 use Rattle.ids_core.specs.declared.limits.TheConstants.{MOST_CENTRES}
 use Rattle.script_text.specs.declared.script.Script.{Script}
@@ -29,7 +29,7 @@ use Rattle.run_book.proofs.Happenings.Steps.{trail_marked}
 use Rattle.run_book.proofs.Happenings.More.{together_none}
 use Rattle.run_table.specs.declared.table.Table.{Table}
 use Rattle.world_core.specs.Worlds.{WorldView, IsWorld, IsMailSent, Acts, stub_at, notes_in, log_after, seen_of}
-use Rattle.run_table.specs.Tables.{AreHistories as AreKept, IsNew, new_stub, new_stubs, new_logs, Turn, log_at}
+use Rattle.run_table.specs.Tables.{AreHistories as AreKept, IsNew, new_stub, new_stubs, Turn, log_at}
 use Rattle.world_core.specs.Runs.{IsSound}
 use Rattle.run_table.proofs.Reading.{log_here, log_else, new_trails, new_settings, new_notes, new_actors}
 use Rattle.run_table.proofs.Numbered.{get_below}
