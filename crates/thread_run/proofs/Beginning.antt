@@ -1,5 +1,5 @@
 -- What the calls that begin a phase require.
-use Rattle.std.proofs.Common.{◌≡◌, ℕ, suc, ◌+◌, ◌-◌, ◌*◌, ◌≤◌, ◌<◌, List, [], ◌∷◌, map, length, Option, Some, None, refl, sym, ap, ◌∙◌, subst, arith}
+use Rattle.std.proofs.Common.{◌≡◌, ℕ, ◌+◌, ◌-◌, ◌*◌, ◌≤◌, List, [], length, Option, Some, None, refl, sym, ap, ◌∙◌, subst, arith}
 use Rattle.std.specs.Prelude.{slice_get, unwrap_or, All, IfSome}
 use Rattle.std.specs.Option.{option_map}
 use Rattle.std.specs.List.{AllZip}
@@ -10,7 +10,6 @@ use Rattle.std.proofs.lemmas.List.Elements.{All-weaker}
 use Rattle.std.proofs.lemmas.Option.{slice_get_within}
 use Rattle.list_core.proofs.Gets.{In_get}
 use Rattle.list_core.proofs.Members.{In-All}
-use Rattle.ids_core.specs.declared.limits.TheConstants.{MOST_CENTRES, MOST_CLIENTS}
 use Rattle.dc_talk.specs.declared.calls.Connection.{Connection}
 use Rattle.dc_talk.specs.Logs.{Logged}
 use Rattle.dc_talk.specs.Doors.{DoorView, IsBehind}
@@ -22,7 +21,6 @@ use Rattle.dc_host.proofs.Rows.{are_dealt}
 use Rattle.dc_links.specs.Links.{rows_of as ends_of, AreGivers, AreTakers, AreGiverRows, AreTakerRows, put_between, taken_between}
 use Rattle.mail_link.specs.Ends.{GiverView, TakerView}
 use Rattle.tx_core.specs.declared.tx.Record.{Record}
-use Rattle.script_text.specs.declared.script.Header.{Header}
 use Rattle.script_text.specs.declared.steps.Section.{Section}
 use Rattle.script_text.specs.declared.steps.Step.{Step}
 use Rattle.script_text.specs.declared.steps.Step.TheVariants.{Client, Operator}
@@ -39,7 +37,6 @@ use Rattle.run_book.specs.Played.{new_progress}
 use Rattle.run_book.proofs.Happenings.WorkerRounds.{worker_carries}
 use Rattle.run_table.specs.declared.table.Table.{Table}
 use Rattle.run_table.specs.Dealing.{IsOf, IsDealt}
-use Rattle.run_table.specs.Tables.{log_at}
 use Rattle.run_sections.specs.Sections.{actors_of}
 use Rattle.run_sections.proofs.Actors.{carrier_acts, client_acts}
 use Rattle.phase_play.specs.declared.callers.Caller.{Caller}

@@ -1,5 +1,5 @@
 -- Where each actor stands among the callers of a phase, and what it did there.
-use Rattle.std.proofs.Common.{◌≡◌, ℕ, zero, suc, ◌+◌, ◌-◌, ◌*◌, ◌≤◌, ◌<◌, List, [], ◌∷◌, ◌++◌, map, length, Some, refl, sym, ap, ◌∙◌, subst, append_assoc, arith}
+use Rattle.std.proofs.Common.{◌≡◌, ℕ, zero, suc, ◌+◌, ◌-◌, ◌*◌, ◌≤◌, List, [], ◌∷◌, ◌++◌, map, length, Some, refl, sym, ap, ◌∙◌, subst, append_assoc, arith}
 use Rattle.std.specs.Prelude.{slice_get, flat_map}
 use Rattle.std.specs.List.{AllZip}
 use Rattle.std.proofs.lemmas.List.{map-append, length-map}
@@ -146,6 +146,6 @@ pub all_acted : (scene : Scene) (givers : List (List (GiverView Record))) (opera
 all_acted scene givers operator players crews operator' players' crews' operated taken done = (
   operator_acted scene operator operator' operated,
   zip_append HasActed (map (λ (p : Player). p.caller) players) (flat_map crew_callers crews) (map (λ (p : Player). p.caller) players') (flat_map crew_callers crews')
-  (zip_map (HasTakenSteps scene) HasActed (λ (p : Player). p.caller) (λ (p : Player). p.caller) players players' (player_acted scene) taken)
-  (zip_flat (HasCrewDone scene givers) HasActed crew_callers crew_callers crews crews' (crew_acted scene givers) done),
+      (zip_map (HasTakenSteps scene) HasActed (λ (p : Player). p.caller) (λ (p : Player). p.caller) players players' (player_acted scene) taken)
+      (zip_flat (HasCrewDone scene givers) HasActed crew_callers crew_callers crews crews' (crew_acted scene givers) done),
 )

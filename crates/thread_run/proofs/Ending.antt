@@ -1,5 +1,5 @@
 -- What the calls that end a phase require.
-use Rattle.std.proofs.Common.{◌≡◌, ℕ, suc, ◌+◌, ◌-◌, ◌≤◌, ◌<◌, List, [], ◌∷◌, map, length, drop, Some, refl, sym, ap, ◌∙◌, subst, arith}
+use Rattle.std.proofs.Common.{◌≡◌, ◌-◌, ◌≤◌, List, [], ◌∷◌, map, length, drop, sym, ap, ◌∙◌, subst, arith}
 use Rattle.std.specs.Prelude.{slice_get, All}
 use Rattle.std.specs.List.{AllZip, range_with_len}
 use Rattle.std.specs.Global.{Vec}
@@ -13,10 +13,9 @@ use Rattle.vv_core.specs.Vectors.{centres}
 use Rattle.tx_core.specs.declared.tx.Record.{Record}
 use Rattle.host_lock.specs.Hosts.{IsOf}
 use Rattle.dc_host.specs.Centres.{KeptCentre, IsKeptCentre}
-use Rattle.dc_host.specs.HostDoors.{CentreHost, CentrePass, bare, ArePasses}
+use Rattle.dc_host.specs.HostDoors.{CentreHost, CentrePass, bare}
 use Rattle.dc_host.specs.Hosts.{bare_rows, rows_of, new_rows, AreClosed}
-use Rattle.dc_host.proofs.Passes.{zip_long}
-use Rattle.dc_links.specs.Links.{IsAmong, rows_of as ends_of, AreGivers, AreTakers, AreGiverRows, AreTakerRows}
+use Rattle.dc_links.specs.Links.{rows_of as ends_of, AreGivers, AreTakers, AreGiverRows, AreTakerRows}
 use Rattle.mail_link.specs.Ends.{GiverView, TakerView}
 use Rattle.script_text.specs.Links.{Inlet}
 use Rattle.script_text.specs.Steps.{IsCount}
@@ -28,12 +27,12 @@ use Rattle.phase_play.specs.declared.clients.Player.{Player}
 use Rattle.phase_play.specs.declared.scene.Scene.{Scene}
 use Rattle.phase_play.specs.declared.threads.Cast.{Cast}
 use Rattle.phase_play.specs.Playing.{IsCaller, IsSameCaller}
-use Rattle.phase_play.specs.Casts.{IsSenderOf, IsReceiverOf, IsCrewOf, IsCast, HasCrewPlayed, HasTakenSteps, HaveAllPlayed}
-use Rattle.thread_run.proofs.Zips.{HasSource, get_source, get_image, zip_same}
+use Rattle.phase_play.specs.Casts.{IsSenderOf, IsReceiverOf, IsCrewOf, HasCrewPlayed, HasTakenSteps, HaveAllPlayed}
+use Rattle.thread_run.proofs.Zips.{get_source, get_image, zip_same}
 use Rattle.thread_run.proofs.Callers.{HasCrewDone}
-use Rattle.thread_run.proofs.Redeeming.{rows_in, rows_stay, as_many, all_kept}
+use Rattle.thread_run.proofs.Redeeming.{rows_stay, as_many, all_kept}
 use Rattle.thread_run.proofs.Carrying.{row_there}
-use Rattle.thread_run.proofs.Playing.{IsPhaseBegun, IsPhaseRun, count_of, centres_count, before, behind, done, did, put_then, HasCrew, crew_of}
+use Rattle.thread_run.proofs.Playing.{IsPhaseBegun, IsPhaseRun, count_of, centres_count, before, behind, done, did, put_then, crew_of}
 use Rattle.thread_run.proofs.Beginning.{is_cast}
 
 -- what holds of elements holds so of their partners

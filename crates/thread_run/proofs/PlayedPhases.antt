@@ -1,6 +1,5 @@
 -- A phase that was played with threads was played as a section.
-use Rattle.std.proofs.Common.{◌≡◌, ℕ, zero, suc, ◌+◌, ◌-◌, ◌*◌, ◌≤◌, ◌<◌, ⊎_elim, List, [], ◌∷◌, ◌++◌, map, length, drop, Some, refl, sym, ap, ◌∙◌, subst, arith}
-use Rattle.std.specs.Prelude.{slice_get}
+use Rattle.std.proofs.Common.{◌≡◌, ℕ, zero, suc, ◌+◌, ◌-◌, ◌≤◌, ◌<◌, ⊎_elim, List, [], ◌++◌, length, drop, refl, sym, ap, ◌∙◌, subst, arith}
 use Rattle.std.proofs.lemmas.Bool.{cases_lt}
 use Rattle.std.proofs.lemmas.List.{length-map}
 use Rattle.std.proofs.lemmas.Option.{slice_get_past}
@@ -20,12 +19,12 @@ use Rattle.run_book.specs.Parts.{entries_by, exchanged}
 use Rattle.run_sections.specs.Orders.{deeds_of}
 use Rattle.run_sections.specs.Sections.{PlaysSection, actors_of}
 use Rattle.run_table.specs.declared.table.Table.{Table}
-use Rattle.run_table.specs.Tables.{log_at, AreHistories}
+use Rattle.run_table.specs.Tables.{AreHistories}
 use Rattle.phase_play.specs.declared.callers.Caller.{Caller}
 use Rattle.phase_play.specs.declared.clients.Player.{Player}
 use Rattle.phase_play.specs.declared.scene.Scene.{Scene}
 use Rattle.thread_run.specs.Tables.{notes_at, between_of, IsTableOf, HasPlayed}
-use Rattle.thread_run.proofs.Zips.{HasPartner, zip_get, drop_front}
+use Rattle.thread_run.proofs.Zips.{zip_get, drop_front}
 use Rattle.thread_run.proofs.Callers.{Stands, HasActed}
 use Rattle.thread_run.proofs.Redeeming.{rows_in, calls_noted, calls_paired, called_within, HasGrown, grown, trail_grown, all_histories, same_settings}
 use Rattle.thread_run.proofs.Playing.{IsPhasePlayed, left_between, count_of, centres_count, callers_count, before, behind, did, log_before, log_behind, notes_grown, left_is}
@@ -121,7 +120,7 @@ module _ (scene : Scene) (old new : Table) (h : IsPhasePlayed scene old new) whe
       let rows : rows_in (before scene old h.run.begun) ≡ new_rows scene.hosts.now.hosts 1 (actors_of scene.script.now) = ap rows_of h.run.begun.cast_is.callers.rows_are ∙ h.run.begun.rows_new in
       let stood : AllStood g.closed.whole.0 (column (i - 1) (rows_in (behind scene old h.run))) = subst (λ (rows : List (List CentrePass)). AllStood g.closed.whole.0 (column (i - 1) rows)) (sym (ap rows_of h.run.parted.parted.callers.rows_are)) g.closed.whole.2 in
       let calls : calls_of (1 + (a - 1)) g.closed.whole.0 ≡ entries_made (1 + (a - 1)) (suc (i - 1)) (deeds_of c.acted.mine) =
-          calls_noted scene.hosts.now.hosts (actors_of scene.script.now) (before scene old h.run.begun) (behind scene old h.run) rows (i - 1) (a - 1) g.host g.closed.whole.0 c.first c.last g.at c.was c.is c.acted (c.actor ∙ sym here) stood in
+      calls_noted scene.hosts.now.hosts (actors_of scene.script.now) (before scene old h.run.begun) (behind scene old h.run) rows (i - 1) (a - 1) g.host g.closed.whole.0 c.first c.last g.at c.was c.is c.acted (c.actor ∙ sym here) stood in
       let own : calls_of a g.closed.whole.0 ≡ entries_made a i (deeds_of c.acted.mine) = subst (λ k. calls_of a g.closed.whole.0 ≡ entries_made a k (deeds_of c.acted.mine)) place (subst (λ k. calls_of k g.closed.whole.0 ≡ entries_made k (suc (i - 1)) (deeds_of c.acted.mine)) here calls) in
       ap (entries_by a) (entries_left i centre)
       ∙ (calls_paired a i c.acted.mine g.closed.whole.0 own

@@ -1,6 +1,6 @@
 -- What comes out of the hosts behind a phase: each centre's trail, longer by what the notes of the actors made there.
-use Rattle.std.proofs.Common.{◌≡◌, ℕ, zero, suc, ◌+◌, ◌-◌, ◌≤◌, ◌<◌, ◌⊎◌, inl, inr, ⊎_elim, Bool, true, false, cond, List, [], ◌∷◌, ◌++◌, map, length, take, Option, Some, None, refl, sym, ap, ◌∙◌, subst, arith}
-use Rattle.std.specs.Prelude.{slice_get, All, ◌==◌, filter}
+use Rattle.std.proofs.Common.{◌≡◌, ℕ, suc, ◌+◌, ◌≤◌, ◌<◌, ◌⊎◌, inl, inr, ⊎_elim, Bool, true, false, cond, List, [], ◌∷◌, ◌++◌, map, length, take, Option, Some, None, refl, sym, ap, ◌∙◌, subst, arith}
+use Rattle.std.specs.Prelude.{slice_get, All, ◌==◌}
 use Rattle.std.specs.List.{AllZip, cons_option, range_with_len}
 use Rattle.std.specs.Global.{Vec}
 use Rattle.std.specs.Option.{option_map}
@@ -36,7 +36,7 @@ use Rattle.run_table.specs.Tables.{AreHistories}
 use Rattle.run_table.proofs.Numbered.{get_below}
 use Rattle.run_sections.specs.Orders.{deeds_of}
 use Rattle.phase_play.specs.declared.callers.Caller.{Caller}
-use Rattle.thread_run.proofs.Zips.{HasPartner, zip_get, zip_same, HasSource, get_source, get_image}
+use Rattle.thread_run.proofs.Zips.{zip_get, zip_same, get_source, get_image}
 use Rattle.thread_run.proofs.Callers.{HasActed}
 
 -- ---- the passes

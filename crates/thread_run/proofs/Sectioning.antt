@@ -1,53 +1,34 @@
 -- What a phase that was played with threads left, as a section.
-use Rattle.std.proofs.Common.{◌≡◌, ◌≢◌, ℕ, zero, suc, ◌+◌, ◌-◌, ◌*◌, ◌≤◌, ◌<◌, ⊎_elim, Bool, true, cond, List, [], ◌∷◌, ◌++◌, map, length, drop, Some, refl, sym, ap, ◌∙◌, subst, arith}
+use Rattle.std.proofs.Common.{◌≡◌, ◌≢◌, ℕ, ◌+◌, ◌-◌, Bool, cond, List, [], ◌++◌, length, Some, sym, ap, ◌∙◌, subst, arith}
 use Rattle.std.specs.Prelude.{slice_get, unwrap_or}
 use Rattle.std.specs.Option.{option_map}
 use Rattle.std.specs.List.{range_with_len}
-use Rattle.std.proofs.lemmas.Bool.{cases_lt}
-use Rattle.std.proofs.lemmas.List.{length-map}
-use Rattle.std.proofs.lemmas.Option.{slice_get_past}
-use Rattle.list_core.specs.Members.{In}
-use Rattle.list_core.proofs.Gets.{get_within, all_get}
-use Rattle.tx_core.specs.declared.tx.Record.{Record}
 use Rattle.dc_talk.specs.declared.log.Note.{Note}
-use Rattle.dc_talk.specs.Logs.{Logged, entries_made}
-use Rattle.dc_talk.specs.Entries.{Entry}
-use Rattle.host_lock.specs.Hosts.{AllStood}
-use Rattle.host_lock.specs.Law.{calls_of}
-use Rattle.dc_host.specs.Centres.{CentreTrail, all_seen}
-use Rattle.dc_host.specs.HostDoors.{CentreHost}
-use Rattle.dc_host.specs.Hosts.{rows_of, column}
-use Rattle.dc_host.specs.KeptDoors.{entries_of, trail_at, settings_of}
-use Rattle.dc_host.proofs.Passes.{zip_long}
+use Rattle.dc_talk.specs.Logs.{Logged}
 use Rattle.dc_links.specs.Links.{rows_of as ends_of, put_to, put_between, taken_from, taken_between, inlet_from}
 use Rattle.dc_mail.specs.Posts.{post_at}
 use Rattle.script_text.specs.declared.rounds.Role.TheVariants.{Sender, Receiver, Reporter, Pruner}
 use Rattle.script_text.specs.Deeds.{Progress}
 use Rattle.script_text.specs.Steps.{IsCount}
-use Rattle.script_text.specs.Links.{Inlet}
 use Rattle.script_text.specs.Rounds.{worker_of, mailed}
 use Rattle.script_text.specs.Scripts.{header_of}
-use Rattle.client_stub.specs.Playing.{StubView}
 use Rattle.run_book.specs.Moves.{client_steps, operator_steps}
-use Rattle.run_book.specs.Parts.{entries_by, exchanged}
 use Rattle.run_book.specs.Happenings.{ClientDoes}
 use Rattle.run_book.specs.Played.{new_progress}
 use Rattle.run_table.specs.declared.table.Table.{Table}
-use Rattle.run_table.specs.Tables.{log_at, AreHistories}
-use Rattle.run_sections.specs.Orders.{deeds_of, InOrder, ClientGoes, OperatorGoes, SenderGoes, ReporterGoes, PrunerGoes, ReceiverGoes, Intake, intake}
-use Rattle.run_sections.specs.Sections.{rounds_in, receipts_in, linked, mail_left, Left, Receives, actors_of}
-use Rattle.phase_play.specs.declared.callers.Caller.{Caller}
+use Rattle.run_table.specs.Tables.{log_at}
+use Rattle.run_sections.specs.Orders.{deeds_of, InOrder, ClientGoes, OperatorGoes, SenderGoes, ReporterGoes, PrunerGoes, ReceiverGoes, intake}
+use Rattle.run_sections.specs.Sections.{rounds_in, receipts_in, linked, mail_left, Receives}
 use Rattle.phase_play.specs.declared.crews.Crew.{Crew}
 use Rattle.phase_play.specs.declared.clients.Player.{Player}
 use Rattle.phase_play.specs.declared.scene.Scene.{Scene}
 use Rattle.phase_play.specs.Clients.{seat_of, seated, come_to}
 use Rattle.phase_play.specs.Workers.{intakes_of, receiving}
-use Rattle.thread_run.specs.Tables.{notes_at, come_of, between_of, IsTableOf, HasPlayed}
-use Rattle.thread_run.proofs.Zips.{HasPartner, zip_get, get_image, drop_front}
-use Rattle.thread_run.proofs.Callers.{Stands, HasActed, player_stands}
-use Rattle.thread_run.proofs.Redeeming.{rows_in, calls_noted, calls_paired, called_within, HasGrown, grown, trail_grown, all_histories, same_settings}
+use Rattle.thread_run.specs.Tables.{notes_at, come_of, between_of}
+use Rattle.thread_run.proofs.Zips.{get_image}
+use Rattle.thread_run.proofs.Callers.{player_stands}
 use Rattle.thread_run.proofs.Carrying.{receiver_order, none_set, row_there}
-use Rattle.thread_run.proofs.Playing.{IsPhasePlayed, left_between, count_of, before, behind, put_then, did, HasCrew, crew_of, HasPlayer, player_of, log_before, log_behind, notes_grown, left_is, operator_left, player_left, worker_left}
+use Rattle.thread_run.proofs.Playing.{IsPhasePlayed, left_between, put_then, crew_of, player_of, log_before, log_behind, operator_left, player_left, worker_left}
 
 module _ (scene : Scene) (old new : Table) (h : IsPhasePlayed scene old new) where
   -- ---- the operator and the workers that keep nothing in mind
