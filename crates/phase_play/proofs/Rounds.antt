@@ -23,7 +23,7 @@ use Rattle.dc_links.specs.Links.{put_to, put_between, taken_from, inlet_from}
 use Rattle.dc_links.specs.Rounds.{SendsOver, inward, TakesOver, ReceivesOver, DrainsOver}
 use Rattle.run_book.proofs.Happenings.Playing.{all_at}
 use Rattle.run_sections.proofs.Orders.{order_more}
-use Rattle.run_sections.specs.Orders.{deeds_of, InOrder, OperatorGoes, SenderGoes, ReporterGoes, PrunerGoes, Intake, intake, Receipt, takes_some, takes_rest, delivered_of, inlet_then, ReceiverGoes}
+use Rattle.run_sections.specs.Orders.{deeds_of, InOrder, none_left, OperatorGoes, SenderGoes, ReporterGoes, PrunerGoes, Intake, intake, Receipt, takes_some, takes_rest, delivered_of, inlet_then, ReceiverGoes}
 use Rattle.phase_play.specs.Playing.{Acted, Plays}
 use Rattle.phase_play.specs.Workers.{PlaysOperator, PlaysReporter, PlaysPruner, PlaysSender, PlaysReceiver, Closes, Sending, Receiving, intakes_of}
 use Rattle.phase_play.proofs.Growing.{acted_none, acted_more, log_at_step, marked_all, turn_deeds, plays_none, plays_more}
@@ -86,7 +86,7 @@ operator_more n section number steps step a b c log next is was order =
 -- no round yet
 pub sender_none : (n i section : ℕ) (a : Sending) → PlaysSender n i section 0 a a
 sender_none n i section a = record {
-  plays = plays_none (SenderGoes n i) section tt a.acting;
+  plays = record { mine = []; acted = acted_none a.acting; order = none_left };
   puts = λ to range other. sym (append-nil (put_to a.givers to));
 }
 

@@ -25,7 +25,7 @@ use Rattle.phase_play.proofs.Growing.{log_at_step, marked_all, turn_deeds, plays
 -- ---- the first steps of a list
 
 -- one step more
-take_one : {X : Type 0} (xs : List X) (place : ℕ) (x : X) → slice_get xs place ≡ Some x → take (suc place) xs ≡ take place xs ++ x ∷ []
+pub take_one : {X : Type 0} (xs : List X) (place : ℕ) (x : X) → slice_get xs place ≡ Some x → take (suc place) xs ≡ take place xs ++ x ∷ []
 take_one [] place x there = absurd (none-some x there)
 take_one (y ∷ xs) zero x there = ap (λ y. y ∷ []) (same_Some y x there)
 take_one (y ∷ xs) (suc place) x there = ap (λ ys. y ∷ ys) (take_one xs place x there)

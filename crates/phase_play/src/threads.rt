@@ -76,6 +76,32 @@ fn play_crews<R: Threads + Wait + Sync, G: Gate>(
     all_of(alloc, results)
 }
 
+// The operator and the workers of all centres.
+fn play_others<R: Threads + Wait + Sync, G: Gate>(
+    rt: &R,
+    alloc: Global,
+    scene: Scene<'_>,
+    gate: &G,
+    operator: Caller,
+    crews: Vec<Crew>,
+) -> (Result<Caller, NoMemory>, Result<Vec<Crew>, NoMemory>)
+    requires scene { IsScene scene }
+    requires operator { IsCallerOf scene operator }
+    requires crews { All (IsCrewOf scene) crews.items }
+    ensures operator { IfOk result.0 (HasOperated scene.entry operator) }
+    ensures crews { IfOk result.1 (λ played. AllZip (HasCrewPlayed scene.entry) crews.items played.items) }
+{
+    let orders = move || -> Result<Caller, NoMemory>
+        requires { IsScene scene × IsCallerOf scene operator }
+        ensures { IfOk result (HasOperated scene.entry operator) }
+    { operate_through(rt, scene, gate, operator) };
+    let workers = move || -> Result<Vec<Crew>, NoMemory>
+        requires { IsScene scene × All (IsCrewOf scene) crews.items }
+        ensures { IfOk result (λ played. AllZip (HasCrewPlayed scene.entry) crews.items played.items) }
+    { play_crews(rt, alloc, scene, gate, crews) };
+    join(rt, orders, workers)
+}
+
 /// What all actors of a phase do in its rounds and turns, at once: some threads for the clients, one for the operator, and
 /// four for each centre, as many of them as can be made. After an `Err`, want of memory, their passes and ends are gone.
 pub fn play_in_threads<R: Threads + Wait + Sync, G: Gate>(
@@ -98,18 +124,10 @@ pub fn play_in_threads<R: Threads + Wait + Sync, G: Gate>(
         requires { IsScene scene × All (IsPlayerOf scene) clients.items }
         ensures { IfOk result (λ played. AllZip (HasTakenSteps scene.entry) clients.items played.items) }
     { play_players(rt, alloc, scene, gate, clients) };
-    let orders = move || -> Result<Caller, NoMemory>
-        requires { IsScene scene × IsCallerOf scene operator }
-        ensures { IfOk result (HasOperated scene.entry operator) }
-    { operate_through(rt, scene, gate, operator) };
-    let workers = move || -> Result<Vec<Crew>, NoMemory>
-        requires { IsScene scene × All (IsCrewOf scene) crews.items }
-        ensures { IfOk result (λ played. AllZip (HasCrewPlayed scene.entry) crews.items played.items) }
-    { play_crews(rt, alloc, scene, gate, crews) };
     let others = move || -> (Result<Caller, NoMemory>, Result<Vec<Crew>, NoMemory>)
         requires { IsScene scene × IsCallerOf scene operator × All (IsCrewOf scene) crews.items }
         ensures { IfOk result.0 (HasOperated scene.entry operator) × IfOk result.1 (λ played. AllZip (HasCrewPlayed scene.entry) crews.items played.items) }
-    { join(rt, orders, workers) };
+    { play_others(rt, alloc, scene, gate, operator, crews) };
     let (clients, (operator, crews)) = join(rt, players, others);
     Ok(Cast {
         operator: operator?,

@@ -10,3 +10,5 @@ pub mod Ending
 pub mod Crews
 pub mod Ends
 pub mod Halving
+pub mod Alone
+pub mod Joining
