@@ -113,6 +113,7 @@ module _ (scene : Scene) (old : Table) (b : IsPhaseBegun scene old) where
   pub hosts_count : length scene.hosts.now.hosts ≡ scene.script.now.n
   hosts_count = sym (zip_long IsHostOf old.door.centres scene.hosts.now.hosts b.opened) ∙ centres_count scene old b
 
+  -- the hosts, the links and what was dealt are a scene
   pub is_scene : IsScene scene
   is_scene = record { phase = record { range = b.range; phase = b.phase; steps_are = b.dealt }; hosts = hosts_count; links = b.links }
 

@@ -65,6 +65,7 @@ module _ (operator : Caller) (players : List Player) (crews : List Crew) where
       (get_behind (map (λ (p : Player). p.caller) players) (flat_map crew_callers crews) clients (4 * q + r) (clients + (4 * q + r)) (length-map players (λ (p : Player). p.caller) ∙ count) refl
       ∙ crew_at crews q r (4 * q + r) crew caller refl there own)
 
+  -- a worker of a role
   pub worker_stands : (clients i : ℕ) (role : Role) (crew : Crew) → length players ≡ clients → slice_get crews (i - 1) ≡ Some crew → Stands (callers_among operator players crews) (worker_of clients i role) (caller_as role crew)
   worker_stands clients i Sender crew count there = worker_there clients (worker_of clients i Sender) (i - 1) 0 crew crew.sender.caller count (omega arith) there refl
   worker_stands clients i Receiver crew count there = worker_there clients (worker_of clients i Receiver) (i - 1) 1 crew crew.receiver.caller count (omega arith) there refl
@@ -103,6 +104,7 @@ module _ (scene : Scene) (givers : List (List (GiverView Record))) where
     pub reporter : HasReported scene old.centre old.reporter new.reporter
     pub pruner : HasPruned scene old.centre old.pruner new.pruner
 
+  -- one after the other
   crew_done : (a b c : Crew) → HasCrewPlayed scene a b → HasCrewClosed scene givers b c → HasCrewDone a c
   crew_done a b c played closed = record {
     centre = closed.centre ∙ played.centre;

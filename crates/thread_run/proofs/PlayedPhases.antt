@@ -50,6 +50,7 @@ module _ (scene : Scene) (old new : Table) (h : IsPhasePlayed scene old new) whe
     pub acted : HasActed first last
     pub actor : first.log.actor ≡ a
 
+  -- each actor is a caller
   pub caller_of : (a : ℕ) → IsCount (actors_of scene.script.now) a → HasCaller a
   caller_of a range =
       let first = get_within (before scene old h.run.begun) (a - 1) (omega (arith, range.0, range.1, callers_count scene old h.run.begun)) in
@@ -76,12 +77,14 @@ module _ (scene : Scene) (old new : Table) (h : IsPhasePlayed scene old new) whe
   pub grown_at : (i : ℕ) → IsCount scene.script.now.n i → HasGrown old.door.centres scene.hosts.now.hosts (rows_of h.run.later.rows.items) h.kept (i - 1)
   grown_at i range = grown old.door.centres scene.hosts.now.hosts (rows_of h.run.later.rows.items) h.kept h.run.begun.opened h.closed (i - 1) (omega (arith, range.0, range.1, centres_count scene old h.run.begun))
 
+  -- its trail is longer by what is past the opening of its host
   trail_longer : (i : ℕ) → (range : IsCount scene.script.now.n i) → trail_at new.door.centres i ≡ trail_at old.door.centres i ++ (grown_at i range).closed.whole.0
   trail_longer i range =
       let place : suc (i - 1) ≡ i = omega (arith, range.0) in
       ap (λ centres. trail_at centres i) h.door_is
       ∙ subst (λ k. trail_at (all_seen h.kept) k ≡ trail_at old.door.centres k ++ (grown_at i range).closed.whole.0) place (trail_grown old.door.centres scene.hosts.now.hosts (rows_of h.run.later.rows.items) h.kept h.run.begun.opened h.closed (i - 1) (grown_at i range))
 
+  -- which is what is left of it
   entries_left : (i : ℕ) → (range : IsCount scene.script.now.n i) → (left_between old new).entries i ≡ (grown_at i range).closed.whole.0
   unfolding left_between
   entries_left i range = drop_front (trail_at old.door.centres i) (grown_at i range).closed.whole.0 (trail_at new.door.centres i) (trail_longer i range)
@@ -128,6 +131,7 @@ module _ (scene : Scene) (old new : Table) (h : IsPhasePlayed scene old new) whe
 
   -- ---- the table behind it
 
+  -- what is left is what a section leaves
   pub plays_section : PlaysSection scene.script.now scene.number scene.section.now (between_of scene.script.now old) (left_between old new) (between_of scene.script.now new)
   plays_section = record {
     clients = clients_play scene old new h;
@@ -140,6 +144,7 @@ module _ (scene : Scene) (old new : Table) (h : IsPhasePlayed scene old new) whe
     paired = paired_left;
   }
 
+  -- the parts are still those of the script
   pub table_then : IsTableOf scene.script.now new
   table_then = record {
     settings = ap settings_of h.door_is ∙ (same_settings old.door.centres scene.hosts.now.hosts (rows_of h.run.later.rows.items) h.kept h.run.begun.opened h.closed ∙ h.run.begun.table.settings);

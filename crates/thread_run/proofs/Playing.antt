@@ -133,9 +133,11 @@ module _ (scene : Scene) (old : Table) (run : IsPhaseRun scene old) where
   abbrev pub behind : List Caller
   behind = callers_among run.acted.operator run.acted.clients.items run.parted.closed
 
+  -- the workers of each centre made all their rounds
   pub done : AllZip (HasCrewDone scene put_then) run.begun.cast.crews.items run.parted.closed
   done = crews_done scene put_then run.begun.cast.crews.items run.acted.crews.items run.parted.closed run.played.crews run.parted.crews
 
+  -- each actor acted
   pub did : AllZip HasActed (before scene old run.begun) behind
   did = all_acted scene put_then run.begun.cast.operator run.begun.cast.clients.items run.begun.cast.crews.items run.acted.operator run.acted.clients.items run.parted.closed run.played.operator run.played.clients done
 
@@ -148,6 +150,7 @@ module _ (scene : Scene) (old : Table) (run : IsPhaseRun scene old) where
     pub is : slice_get run.parted.closed (i - 1) ≡ Some later
     pub done : HasCrewDone scene put_then crew later
 
+  -- each centre has its workers
   pub crew_of : (i : ℕ) → IsCount scene.script.now.n i → HasCrew i
   crew_of i range =
       let count = count_of (λ (c : Crew). c.centre) run.begun.cast.crews.items scene.script.now.n run.begun.cast_is.crews.numbers in
@@ -171,6 +174,7 @@ module _ (scene : Scene) (old : Table) (run : IsPhaseRun scene old) where
     pub is : slice_get run.acted.clients.items (client - 1) ≡ Some later
     pub taken : HasTakenSteps scene player later
 
+  -- each client plays
   pub player_of : (client : ℕ) → IsCount scene.script.now.clients client → HasPlayer client
   player_of client range =
       let count = count_of (λ (p : Player). p.client) run.begun.cast.clients.items scene.script.now.clients run.begun.cast_is.numbers in
@@ -198,6 +202,7 @@ module _ (scene : Scene) (old new : Table) (h : IsPhasePlayed scene old new) whe
       ap (λ (log : Logged). log.notes) (log_behind a d low is)
       ∙ (r.acted.log ∙ ap (λ (log : Logged). log.notes ++ r.mine) (sym (log_before scene old h.run.begun a c low was)))
 
+  -- and is what is left of it
   pub left_is : (a : ℕ) (c d : Caller) (r : HasActed c d) → 1 ≤ a → Stands (before scene old h.run.begun) a c → Stands (behind scene old h.run) a d → (left_between old new).notes a ≡ r.mine
   unfolding left_between
   left_is a c d r low was is = drop_front (notes_at old a) r.mine (notes_at new a) (notes_grown a c d r low was is)
@@ -206,6 +211,7 @@ module _ (scene : Scene) (old new : Table) (h : IsPhasePlayed scene old new) whe
   pub operator_left : (left_between old new).notes 1 ≡ h.run.played.operator.plays.mine
   operator_left = left_is 1 h.run.begun.cast.operator h.run.acted.operator (operator_acted scene h.run.begun.cast.operator h.run.acted.operator h.run.played.operator) (omega arith) refl refl
 
+  -- of a client
   pub player_left : (client : ℕ) → (range : IsCount scene.script.now.clients client) → (left_between old new).notes (client + 1) ≡ (player_of scene old h.run client range).taken.plays.plays.mine
   player_left client range =
       let p = player_of scene old h.run client range in
@@ -213,6 +219,7 @@ module _ (scene : Scene) (old new : Table) (h : IsPhasePlayed scene old new) whe
       (player_stands h.run.begun.cast.operator h.run.begun.cast.clients.items h.run.begun.cast.crews.items client p.player range.0 p.there)
       (player_stands h.run.acted.operator h.run.acted.clients.items h.run.parted.closed client p.later range.0 p.is)
 
+  -- of a worker
   pub worker_left : (i : ℕ) (role : Role) → (range : IsCount scene.script.now.n i) → (left_between old new).notes (worker_of scene.script.now.clients i role) ≡ (worker_acted scene (put_then scene old h.run) role (crew_of scene old h.run i range).crew (crew_of scene old h.run i range).later (crew_of scene old h.run i range).done).mine
   worker_left i role range =
       let w = crew_of scene old h.run i range in

@@ -33,6 +33,7 @@ use Rattle.thread_run.proofs.Playing.{IsPhasePlayed, left_between, put_then, cre
 module _ (scene : Scene) (old new : Table) (h : IsPhasePlayed scene old new) where
   -- ---- the operator and the workers that keep nothing in mind
 
+  -- the operator took its steps
   pub operator_plays : InOrder (OperatorGoes scene.script.now.n) scene.number 1 tt (operator_steps scene.section.now) ((left_between old new).notes 1) tt
   operator_plays = subst (λ notes. InOrder (OperatorGoes scene.script.now.n) scene.number 1 tt (operator_steps scene.section.now) notes tt) (sym (operator_left scene old new h)) h.run.played.operator.plays.order
 
@@ -43,16 +44,19 @@ module _ (scene : Scene) (old new : Table) (h : IsPhasePlayed scene old new) whe
       (subst (λ (phase : Bool). InOrder (Does i) scene.number 1 tt (cond phase (range_with_len 1 scene.script.now.rounds) []) mine tt) (sym h.run.begun.phase.phase)
       (subst (λ k. InOrder (Does k) scene.number 1 tt (range_with_len 1 scene.script.now.rounds) mine tt) number order))
 
+  -- each sender made its rounds
   pub senders_play : (i : ℕ) → IsCount scene.script.now.n i → InOrder (SenderGoes scene.script.now.n i) scene.number 1 tt (rounds_in scene.script.now scene.section.now) ((left_between old new).notes (worker_of scene.script.now.clients i Sender)) tt
   senders_play i range =
       let w = crew_of scene old h.run i range in
       rounds_play (SenderGoes scene.script.now.n) i w.crew.centre (worker_of scene.script.now.clients i Sender) w.done.sender.plays.plays.mine w.number (worker_left scene old new h i Sender range) w.done.sender.plays.plays.order
 
+  -- each reporter
   pub reporters_play : (i : ℕ) → IsCount scene.script.now.n i → InOrder (ReporterGoes scene.script.now.n i) scene.number 1 tt (rounds_in scene.script.now scene.section.now) ((left_between old new).notes (worker_of scene.script.now.clients i Reporter)) tt
   reporters_play i range =
       let w = crew_of scene old h.run i range in
       rounds_play (ReporterGoes scene.script.now.n) i w.crew.centre (worker_of scene.script.now.clients i Reporter) w.done.reporter.plays.mine w.number (worker_left scene old new h i Reporter range) w.done.reporter.plays.order
 
+  -- each pruner
   pub pruners_play : (i : ℕ) → IsCount scene.script.now.n i → InOrder (PrunerGoes i) scene.number 1 tt (rounds_in scene.script.now scene.section.now) ((left_between old new).notes (worker_of scene.script.now.clients i Pruner)) tt
   pruners_play i range =
       let w = crew_of scene old h.run i range in
@@ -78,6 +82,7 @@ module _ (scene : Scene) (old new : Table) (h : IsPhasePlayed scene old new) whe
       ∙ ((λ k. (sym (ap (λ row. put_to row j) first) ∙ h.run.begun.none_put from j) k ++ mailed j (deeds_of v.done.sender.plays.plays.mine))
       ∙ ap (λ notes. mailed j (deeds_of notes)) (sym (worker_left scene old new h from Sender there))))))
 
+  -- each receiver made its rounds, and took what was put
   pub receivers_play : (j : ℕ) → IsCount scene.script.now.n j → Receives scene.script.now scene.number scene.section.now (between_of scene.script.now old) (left_between old new) (between_of scene.script.now new) j
   receivers_play j range =
       let w = crew_of scene old h.run j range in
@@ -102,7 +107,7 @@ module _ (scene : Scene) (old new : Table) (h : IsPhasePlayed scene old new) whe
 
   -- ---- the clients
 
-  -- how far a client had come, and how far it has
+  -- how far a client had come
   come_before : (client : ℕ) (range : IsCount scene.script.now.clients client) → (between_of scene.script.now old).come client ≡ come_to (seated (seat_of (player_of scene old h.run client range).player))
   come_before client range =
       let p = player_of scene old h.run client range in
@@ -110,6 +115,7 @@ module _ (scene : Scene) (old new : Table) (h : IsPhasePlayed scene old new) whe
       ap (λ found. unwrap_or (option_map (come_of (notes_at old (client + 1))) found) (new_progress scene.script.now.n client scene.script.now.cache)) stub
       ∙ ap (λ (log : Logged). come_of log.notes p.player.stub) (log_before scene old h.run.begun (client + 1) p.player.caller (omega arith) (player_stands h.run.begun.cast.operator h.run.begun.cast.clients.items h.run.begun.cast.crews.items client p.player range.0 p.there))
 
+  -- how far it has come then
   come_behind : (client : ℕ) (range : IsCount scene.script.now.clients client) → (between_of scene.script.now new).come client ≡ come_to (seated (seat_of (player_of scene old h.run client range).later))
   come_behind client range =
       let p = player_of scene old h.run client range in
@@ -117,6 +123,7 @@ module _ (scene : Scene) (old new : Table) (h : IsPhasePlayed scene old new) whe
       ap (λ found. unwrap_or (option_map (come_of (notes_at new (client + 1))) found) (new_progress scene.script.now.n client scene.script.now.cache)) stub
       ∙ ap (λ (log : Logged). come_of log.notes p.later.stub) (log_behind scene old new h (client + 1) p.later.caller (omega arith) (player_stands h.run.acted.operator h.run.acted.clients.items h.run.parted.closed client p.later range.0 p.is))
 
+  -- each client took its steps
   pub clients_play : (client : ℕ) → IsCount scene.script.now.clients client → InOrder ClientGoes scene.number 1 ((between_of scene.script.now old).come client) (client_steps client scene.section.now) ((left_between old new).notes (client + 1)) ((between_of scene.script.now new).come client)
   clients_play client range =
       let p = player_of scene old h.run client range in
