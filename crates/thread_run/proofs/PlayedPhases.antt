@@ -1,18 +1,17 @@
 -- A phase that was played with threads was played as a section.
-use Rattle.std.proofs.Common.{◌≡◌, ℕ, zero, suc, ◌+◌, ◌-◌, ◌≤◌, ◌<◌, ⊎_elim, List, [], ◌++◌, length, drop, refl, sym, ap, ◌∙◌, subst, arith}
+use Rattle.std.proofs.Common.{◌≡◌, ℕ, suc, ◌+◌, ◌-◌, ◌≤◌, ◌<◌, ⊎_elim, List, [], ◌++◌, length, drop, refl, sym, ap, ◌∙◌, subst, arith}
 use Rattle.std.proofs.lemmas.Bool.{cases_lt}
 use Rattle.std.proofs.lemmas.List.{length-map}
-use Rattle.std.proofs.lemmas.Option.{slice_get_past}
 use Rattle.list_core.specs.Members.{In}
 use Rattle.list_core.proofs.Gets.{get_within, all_get}
 use Rattle.dc_talk.specs.Logs.{Logged, entries_made}
 use Rattle.dc_talk.specs.Entries.{Entry}
 use Rattle.host_lock.specs.Hosts.{AllStood}
 use Rattle.host_lock.specs.Law.{calls_of}
-use Rattle.dc_host.specs.Centres.{CentreTrail, all_seen}
+use Rattle.dc_host.specs.Centres.{all_seen}
 use Rattle.dc_host.specs.HostDoors.{CentreHost, CentrePass}
 use Rattle.dc_host.specs.Hosts.{rows_of, new_rows, column}
-use Rattle.dc_host.specs.KeptDoors.{entries_of, trail_at, settings_of}
+use Rattle.dc_host.specs.KeptDoors.{trail_at, settings_of}
 use Rattle.dc_host.proofs.Passes.{zip_long}
 use Rattle.script_text.specs.Steps.{IsCount}
 use Rattle.run_book.specs.Parts.{entries_by, exchanged}
@@ -24,19 +23,12 @@ use Rattle.phase_play.specs.declared.callers.Caller.{Caller}
 use Rattle.phase_play.specs.declared.clients.Player.{Player}
 use Rattle.phase_play.specs.declared.scene.Scene.{Scene}
 use Rattle.thread_run.specs.Tables.{notes_at, between_of, IsTableOf, HasPlayed}
+use Rattle.thread_run.proofs.Joining.{trail_past}
 use Rattle.thread_run.proofs.Zips.{zip_get, drop_front}
 use Rattle.thread_run.proofs.Callers.{Stands, HasActed}
 use Rattle.thread_run.proofs.Redeeming.{rows_in, calls_noted, calls_paired, called_within, HasGrown, grown, trail_grown, all_histories, same_settings}
 use Rattle.thread_run.proofs.Playing.{IsPhasePlayed, left_between, count_of, centres_count, callers_count, before, behind, did, log_before, log_behind, notes_grown, left_is}
 use Rattle.thread_run.proofs.Sectioning.{operator_plays, senders_play, receivers_play, reporters_play, pruners_play, clients_play, clients_allowed}
-
--- there are no entries where there is no centre
-trail_past : (centres : List CentreTrail) (i : ℕ) → (IsCount (length centres) i → ⊥) → trail_at centres i ≡ []
-trail_past centres zero none = refl
-trail_past centres (suc k) none = ⊎_elim
-    (λ (within : k < length centres). absurd (none (omega arith, omega (arith, within))))
-    (λ (past : length centres ≤ k). ap entries_of (slice_get_past centres k past))
-    (cases_lt k (length centres))
 
 module _ (scene : Scene) (old new : Table) (h : IsPhasePlayed scene old new) where
   -- ---- an actor
@@ -97,12 +89,12 @@ module _ (scene : Scene) (old new : Table) (h : IsPhasePlayed scene old new) whe
   -- its new entries stand behind those that it had
   pub trails_then : (i : ℕ) → trail_at new.door.centres i ≡ trail_at old.door.centres i ++ (left_between old new).entries i
   trails_then i = ⊎_elim
-      (λ (zeroth : i < 1). none_before i (trail_past old.door.centres i (λ range. omega (arith, range.0, zeroth))))
+      (λ (zeroth : i < 1). none_before i (trail_past scene.script.now old h.run.begun.table i (λ range. omega (arith, range.0, zeroth))))
       (λ (low : 1 ≤ i). ⊎_elim
       (λ (within : i < scene.script.now.n + 1).
       let range : IsCount scene.script.now.n i = (low, omega (arith, within)) in
       trail_longer i range ∙ ap (λ entries. trail_at old.door.centres i ++ entries) (sym (entries_left i range)))
-      (λ (past : scene.script.now.n + 1 ≤ i). none_before i (trail_past old.door.centres i (λ range. omega (arith, range.1, past, centres_count scene old h.run.begun))))
+      (λ (past : scene.script.now.n + 1 ≤ i). none_before i (trail_past scene.script.now old h.run.begun.table i (λ range. omega (arith, range.1, past))))
       (cases_lt i (scene.script.now.n + 1)))
       (cases_lt i 1)
 
