@@ -72,7 +72,7 @@ histories_at script table is (suc place) range =
     subst (λ s. History s (trail_at cs (suc place))) same (subst (λ es. History one.0.settings es) trail history)
 
 -- no entry is outside of the centres
-trail_past : (script : Script) (table : Table) → IsTableOf script table → (i : ℕ) → (IsCount script.n i → ⊥) → trail_at table.door.centres i ≡ []
+pub trail_past : (script : Script) (table : Table) → IsTableOf script table → (i : ℕ) → (IsCount script.n i → ⊥) → trail_at table.door.centres i ≡ []
 trail_past script table is zero none = refl
 trail_past script table is (suc place) none =
     let past : script.n ≤ place = ⊎_elim (λ (within : place < script.n). absurd (none (omega arith, omega (arith, within)))) (λ (past : script.n ≤ place). past) (cases_lt place script.n) in
