@@ -4,7 +4,7 @@ ghost use Rattle.std.specs.List.{AllZip};
 ghost use Rattle.host_lock.specs.Hosts.{fresh_passes};
 ghost use Rattle.dc_host.specs.Centres.{all_seen, seen_of, IsKeptCentre};
 ghost use Rattle.dc_host.specs.HostDoors.{CentreHost};
-ghost use Rattle.dc_host.specs.Hosts.{rows_of, bare_rows, new_rows, new_columns, IsHostOf, AreOpened, HasHost, MayClose, AreClosed};
+ghost use Rattle.dc_host.specs.Hosts.{AreFor, rows_of, bare_rows, new_rows, new_columns, IsHostOf, AreOpened, HasHost, MayClose, AreClosed};
 
 use crate::columns::{Column, cut};
 use dc_centre::Centre;
@@ -54,6 +54,7 @@ impl Hosts {
         requires callers { (1 ≤ callers) × (callers ≤ 4096) }
         ensures hosts { IfOk result (λ r. AllZip IsHostOf (all_seen kept.items) r.0.hosts) }
         ensures callers { IfOk result (λ r. r.0.callers ≡ callers) }
+        ensures each { IfOk result (λ r. AreFor callers r.0.hosts) }
         ensures passes { IfOk result (λ r. rows_of r.1.items ≡ new_rows r.0.hosts 1 callers) }
     {
         let Opened { hosts, passes } = open_all(alloc, kept, callers)?;

@@ -1,2 +1,4 @@
 pub mod Links
 pub mod Rounds
+pub mod Laying
+pub mod Closing

@@ -12,10 +12,11 @@ use Rattle.script_text.specs.Rounds.{SenderDeeds, Mails, mailed, Brings, Receive
 use Rattle.dc_worker.specs.Work.{Adds, AddsSuch, CarriesSuch}
 use Rattle.dc_links.specs.Links.{IsOther, put_to, put_between, taken_from, inlet_from}
 
--- what a link makes due of records that are taken, and how its inlet is then
+-- what a link makes due of records that are taken
 abbrev pub Due : Type 0
 Due = Inlet Record → List Record → List Record
 
+-- how the inlet of a link is after records are taken
 abbrev pub Later : Type 0
 Later = Inlet Record → List Record → Inlet Record
 

@@ -1,9 +1,9 @@
 // The links between the centres of a system.
-ghost use Rattle.std.specs.Prelude.{◌≡◌, ◌≤◌, ◌-◌, [], ℕ, Some, length, slice_get, IfOk};
+ghost use Rattle.std.specs.Prelude.{◌≡◌, ◌-◌, [], ℕ, Some, length, slice_get, IfOk};
 ghost use Rattle.dc_worker.specs.Links.{IsMore};
 ghost use Rattle.dc_links.specs.Links.{IsAmong, rows_of, row_of, column_of, AreGiverRows, AreTakerRows, put_between, taken_between};
 
-use crate::rows::{close_row, lay_row, no_rows};
+use crate::rows::{close_rows, lay_row, no_rows};
 use ids_core::NoMemory;
 use mail_link::{Giver, Link, Taker};
 use std::alloc::Global;
@@ -87,11 +87,6 @@ impl Links {
         ensures all { (from to : ℕ) → IsAmong (length self) from → IsAmong (length self) to → length (taken_between (rows_of takers.items) from to) ≡ length (put_between (rows_of givers.items) from to) → put_between (rows_of givers.items) from to ≡ taken_between (rows_of takers.items) from to }
     {
         let Links { rows } = self;
-        let mut givers = givers;
-        let mut takers = takers;
-        'rows: for row in rows {
-            let own = givers.remove(0);
-            close_row(rt, row, own, &mut takers);
-        }
+        close_rows(rt, rows, givers, takers);
     }
 }

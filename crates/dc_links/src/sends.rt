@@ -1,5 +1,5 @@
 // A round of a sender.
-ghost use Rattle.std.specs.Prelude.{◌≡◌, ◌≤◌, length, OnOk, OnErr};
+ghost use Rattle.std.specs.Prelude.{◌≡◌, length, OnOk, OnErr};
 ghost use Rattle.dc_talk.specs.Acting.{acting, IsCutShort};
 ghost use Rattle.dc_talk.specs.Doors.{IsBehind};
 ghost use Rattle.dc_links.specs.Links.{IsAmong, AreGivers};

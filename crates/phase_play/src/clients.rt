@@ -63,7 +63,7 @@ fn take_turn<D: Door>(
     requires linked { IsLinkBehind (D.shown door.old) stub.old.client }
     ensures place { D.place door.new ≡ D.place door.old }
     ensures linked { IsLinkBehind (D.shown door.new) stub.new.client }
-    ensures turned { OnOk result ((first : ClientAt) → HasTurned scene.section.now scene.number (turn - 1) first (client_at client stub.old (D.shown door.old) log.old) → HasTurned scene.section.now scene.number turn first (client_at client stub.new (D.shown door.new) log.new)) }
+    ensures turned { OnOk result ((first : ClientAt) → HasTurned scene.entry.section.now scene.entry.number (turn - 1) first (client_at client stub.old (D.shown door.old) log.old) → HasTurned scene.entry.section.now scene.entry.number turn first (client_at client stub.new (D.shown door.new) log.new)) }
 {
     if let Some(step) = scene.dealt.client_step(client, turn) {
         log.set(scene.number, turn);
@@ -82,7 +82,7 @@ fn turn_one<'a, R: Wait, G: Gate>(
     requires scene { IsScene scene }
     requires turn { 1 ≤ turn }
     requires seat { IsSeatOf scene seat }
-    ensures { IfOk result (HasTurnedSeat scene turn seat) }
+    ensures { IfOk result (HasTurnedSeat scene.entry turn seat.entry) }
 {
     let Seat {
         client,
@@ -109,7 +109,7 @@ fn turn_all<'a, R: Wait, G: Gate>(
     requires scene { IsScene scene }
     requires turn { 1 ≤ turn }
     requires seats { All (IsSeatOf scene) seats.items }
-    ensures { IfOk result (λ turned. AllZip (HasTurnedSeat scene turn) seats.items turned.items) }
+    ensures { IfOk result (λ turned. AllZip (HasTurnedSeat scene.entry turn) seats.entry.items turned.items) }
 {
     let mut turned = Vec::with_capacity(alloc, seats.len())?;
     'seats: for seat in seats {
@@ -128,7 +128,7 @@ fn take_turns<'a, R: Wait, G: Gate>(
 ) -> Result<Vec<Seat<'a, R, G>>, NoMemory>
     requires scene { IsScene scene }
     requires seats { All (IsSeatOf scene) seats.items }
-    ensures { IfOk result (λ turned. AllZip (HasSeatCome scene turns) seats.items turned.items) }
+    ensures { IfOk result (λ turned. AllZip (HasSeatCome scene.entry turns) seats.entry.items turned.items) }
 {
     'turns: for before in 0..turns {
         seats = turn_all(alloc, scene, before + 1, seats)?;
@@ -145,7 +145,7 @@ fn sit<'a, R: Wait, G: Gate>(
 ) -> Seat<'a, R, G>
     requires scene { IsScene scene }
     requires player { IsPlayerOf scene player }
-    ensures is { IsSeatOf scene result }
+    ensures is { IsSeatOf scene.entry result }
     ensures seat { result ≡ seat_of player }
 {
     let Player {
@@ -165,7 +165,7 @@ fn sit<'a, R: Wait, G: Gate>(
 
 // Its passes, its log and its stub back.
 fn stand<R, G: Gate>(seat: Seat<'_, R, G>) -> Player
-    ensures { seat_of result ≡ seat }
+    ensures { seat_of result ≡ seat.entry }
 {
     let Seat {
         client,
@@ -194,7 +194,7 @@ pub(crate) fn play_clients<R: Wait, G: Gate>(
 ) -> Result<Vec<Player>, NoMemory>
     requires scene { IsScene scene }
     requires players { All (IsPlayerOf scene) players.items }
-    ensures { IfOk result (λ played. AllZip (HasTakenSteps scene) players.items played.items) }
+    ensures { IfOk result (λ played. AllZip (HasTakenSteps scene.entry) players.items played.items) }
 {
     let mut seats = Vec::with_capacity(alloc, players.len())?;
     'players: for player in players {

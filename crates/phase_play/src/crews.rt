@@ -37,16 +37,16 @@ fn carry<R: Threads + Wait + Sync, G: Gate>(
     requires centre { IsCount scene.script.now.n centre }
     requires sender { IsSenderOf scene centre sender }
     requires receiver { IsReceiverOf scene centre receiver }
-    ensures sender { IfOk result.0 (HasSent scene centre sender) }
-    ensures receiver { IfOk result.1 (HasReceived scene centre receiver) }
+    ensures sender { IfOk result.0 (HasSent scene.entry centre sender) }
+    ensures receiver { IfOk result.1 (HasReceived scene.entry centre receiver) }
 {
     let sends = move || -> Result<SenderEnd, NoMemory>
         requires { IsScene scene × IsCount scene.script.now.n centre × IsSenderOf scene centre sender }
-        ensures { IfOk result (HasSent scene centre sender) }
+        ensures { IfOk result (HasSent scene.entry centre sender) }
     { send_through(rt, scene, gate, centre, sender) };
     let receives = move || -> Result<ReceiverEnd, NoMemory>
         requires { IsScene scene × IsCount scene.script.now.n centre × IsReceiverOf scene centre receiver }
-        ensures { IfOk result (HasReceived scene centre receiver) }
+        ensures { IfOk result (HasReceived scene.entry centre receiver) }
     { receive_through(rt, scene, gate, centre, receiver) };
     join(rt, sends, receives)
 }
@@ -64,16 +64,16 @@ fn tend<R: Threads + Wait + Sync, G: Gate>(
     requires centre { IsCount scene.script.now.n centre }
     requires reporter { IsCallerOf scene reporter }
     requires pruner { IsCallerOf scene pruner }
-    ensures reporter { IfOk result.0 (HasReported scene centre reporter) }
-    ensures pruner { IfOk result.1 (HasPruned scene centre pruner) }
+    ensures reporter { IfOk result.0 (HasReported scene.entry centre reporter) }
+    ensures pruner { IfOk result.1 (HasPruned scene.entry centre pruner) }
 {
     let reports = move || -> Result<Caller, NoMemory>
         requires { IsScene scene × IsCount scene.script.now.n centre × IsCallerOf scene reporter }
-        ensures { IfOk result (HasReported scene centre reporter) }
+        ensures { IfOk result (HasReported scene.entry centre reporter) }
     { report_through(rt, scene, gate, centre, reporter) };
     let prunes = move || -> Result<Caller, NoMemory>
         requires { IsScene scene × IsCount scene.script.now.n centre × IsCallerOf scene pruner }
-        ensures { IfOk result (HasPruned scene centre pruner) }
+        ensures { IfOk result (HasPruned scene.entry centre pruner) }
     { prune_through(rt, scene, gate, centre, pruner) };
     join(rt, reports, prunes)
 }
@@ -88,7 +88,7 @@ pub(crate) fn play_crew<R: Threads + Wait + Sync, G: Gate>(
 ) -> Result<Crew, NoMemory>
     requires scene { IsScene scene }
     requires crew { IsCrewOf scene crew }
-    ensures { IfOk result (HasCrewPlayed scene crew) }
+    ensures { IfOk result (HasCrewPlayed scene.entry crew) }
 {
     let Crew {
         centre,
@@ -99,11 +99,11 @@ pub(crate) fn play_crew<R: Threads + Wait + Sync, G: Gate>(
     } = crew;
     let carries = move || -> (Result<SenderEnd, NoMemory>, Result<ReceiverEnd, NoMemory>)
         requires { IsScene scene × IsCount scene.script.now.n centre × IsSenderOf scene centre sender × IsReceiverOf scene centre receiver }
-        ensures { IfOk result.0 (HasSent scene centre sender) × IfOk result.1 (HasReceived scene centre receiver) }
+        ensures { IfOk result.0 (HasSent scene.entry centre sender) × IfOk result.1 (HasReceived scene.entry centre receiver) }
     { carry(rt, scene, gate, centre, sender, receiver) };
     let tends = move || -> (Result<Caller, NoMemory>, Result<Caller, NoMemory>)
         requires { IsScene scene × IsCount scene.script.now.n centre × IsCallerOf scene reporter × IsCallerOf scene pruner }
-        ensures { IfOk result.0 (HasReported scene centre reporter) × IfOk result.1 (HasPruned scene centre pruner) }
+        ensures { IfOk result.0 (HasReported scene.entry centre reporter) × IfOk result.1 (HasPruned scene.entry centre pruner) }
     { tend(rt, scene, gate, centre, reporter, pruner) };
     let ((sender, receiver), (reporter, pruner)) = join(rt, carries, tends);
     Ok(Crew {

@@ -49,7 +49,7 @@ pub(crate) fn operate_through<R: Wait, G: Gate>(
 ) -> Result<Caller, NoMemory>
     requires scene { IsScene scene }
     requires caller { IsCallerOf scene caller }
-    ensures { IfOk result (HasOperated scene caller) }
+    ensures { IfOk result (HasOperated scene.entry caller) }
 {
     let Caller { row, mut log } = caller;
     let mut door = HostDoor::new(rt, scene.hosts, row, log.actor(), gate);

@@ -74,7 +74,7 @@ pub(crate) fn receive_through<R: Wait, G: Gate>(
     requires scene { IsScene scene }
     requires centre { IsCount scene.script.now.n centre }
     requires receiver { IsReceiverOf scene centre end }
-    ensures { IfOk result (HasReceived scene centre end) }
+    ensures { IfOk result (HasReceived scene.entry centre end) }
 {
     let ReceiverEnd {
         caller,
@@ -118,7 +118,7 @@ pub fn close_over<R: Wait, G: Gate>(
     requires centre { IsCount scene.script.now.n centre }
     requires givers { AreGiverRows scene.links.now (rows_of givers.now) }
     requires receiver { IsReceiverOf scene centre end }
-    ensures { IfOk result (HasClosed scene centre (rows_of givers.now) end) }
+    ensures { IfOk result (HasClosed scene.entry centre (rows_of givers.now) end) }
 {
     let ReceiverEnd {
         caller,

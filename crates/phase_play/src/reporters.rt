@@ -71,7 +71,7 @@ pub(crate) fn report_through<R: Wait, G: Gate>(
     requires scene { IsScene scene }
     requires centre { IsCount scene.script.now.n centre }
     requires caller { IsCallerOf scene caller }
-    ensures { IfOk result (HasReported scene centre caller) }
+    ensures { IfOk result (HasReported scene.entry centre caller) }
 {
     let Caller { row, mut log } = caller;
     let script = scene.script;
@@ -100,7 +100,7 @@ pub(crate) fn prune_through<R: Wait, G: Gate>(
     requires scene { IsScene scene }
     requires centre { IsCount scene.script.now.n centre }
     requires caller { IsCallerOf scene caller }
-    ensures { IfOk result (HasPruned scene centre caller) }
+    ensures { IfOk result (HasPruned scene.entry centre caller) }
 {
     let Caller { row, mut log } = caller;
     let script = scene.script;

@@ -67,7 +67,7 @@ pub(crate) fn send_through<R: Wait, G: Gate>(
     requires scene { IsScene scene }
     requires centre { IsCount scene.script.now.n centre }
     requires sender { IsSenderOf scene centre end }
-    ensures { IfOk result (HasSent scene centre end) }
+    ensures { IfOk result (HasSent scene.entry centre end) }
 {
     let SenderEnd { caller, mut givers } = end;
     let Caller { row, mut log } = caller;

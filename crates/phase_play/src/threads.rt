@@ -1,5 +1,5 @@
 // All actors of a phase in threads.
-ghost use Rattle.std.specs.Prelude.{◌≡◌, ◌≤◌, All, IfOk};
+ghost use Rattle.std.specs.Prelude.{◌≡◌, ◌≤◌, map, Ok, All, IfOk};
 ghost use Rattle.std.specs.List.{AllZip};
 ghost use Rattle.phase_play.specs.Scenes.{IsScene};
 ghost use Rattle.phase_play.specs.Casts.{IsCallerOf, HasOperated, IsPlayerOf, HasTakenSteps, IsCrewOf, HasCrewPlayed, IsCast, HaveAllPlayed};
@@ -45,12 +45,12 @@ fn play_players<R: Threads + Wait + Sync, G: Gate>(
 ) -> Result<Vec<Player>, NoMemory>
     requires scene { IsScene scene }
     requires players { All (IsPlayerOf scene) players.items }
-    ensures { IfOk result (λ played. AllZip (HasTakenSteps scene) players.items played.items) }
+    ensures { IfOk result (λ played. AllZip (HasTakenSteps scene.entry) players.items played.items) }
 {
     let blocks = cut(alloc, players, scene.script.threads)?;
     let each = |block: Vec<Player>| -> Result<Vec<Player>, NoMemory>
         requires { IsScene scene × All (IsPlayerOf scene) block.items }
-        ensures { IfOk result (λ played. AllZip (HasTakenSteps scene) block.items played.items) }
+        ensures { IfOk result (λ played. AllZip (HasTakenSteps scene.entry) block.items played.items) }
     { play_clients(rt, alloc, scene, gate, block) };
     let results = map_vec(rt, blocks, &each)?;
     join_blocks(alloc, all_of(alloc, results)?)
@@ -66,14 +66,40 @@ fn play_crews<R: Threads + Wait + Sync, G: Gate>(
 ) -> Result<Vec<Crew>, NoMemory>
     requires scene { IsScene scene }
     requires crews { All (IsCrewOf scene) crews.items }
-    ensures { IfOk result (λ played. AllZip (HasCrewPlayed scene) crews.items played.items) }
+    ensures { IfOk result (λ played. AllZip (HasCrewPlayed scene.entry) crews.items played.items) }
 {
     let each = |crew: Crew| -> Result<Crew, NoMemory>
         requires { IsScene scene × IsCrewOf scene crew }
-        ensures { IfOk result (HasCrewPlayed scene crew) }
+        ensures { IfOk result (HasCrewPlayed scene.entry crew) }
     { play_crew(rt, scene, gate, crew) };
     let results = map_vec(rt, crews, &each)?;
     all_of(alloc, results)
+}
+
+// The operator and the workers of all centres.
+fn play_others<R: Threads + Wait + Sync, G: Gate>(
+    rt: &R,
+    alloc: Global,
+    scene: Scene<'_>,
+    gate: &G,
+    operator: Caller,
+    crews: Vec<Crew>,
+) -> (Result<Caller, NoMemory>, Result<Vec<Crew>, NoMemory>)
+    requires scene { IsScene scene }
+    requires operator { IsCallerOf scene operator }
+    requires crews { All (IsCrewOf scene) crews.items }
+    ensures operator { IfOk result.0 (HasOperated scene.entry operator) }
+    ensures crews { IfOk result.1 (λ played. AllZip (HasCrewPlayed scene.entry) crews.items played.items) }
+{
+    let orders = move || -> Result<Caller, NoMemory>
+        requires { IsScene scene × IsCallerOf scene operator }
+        ensures { IfOk result (HasOperated scene.entry operator) }
+    { operate_through(rt, scene, gate, operator) };
+    let workers = move || -> Result<Vec<Crew>, NoMemory>
+        requires { IsScene scene × All (IsCrewOf scene) crews.items }
+        ensures { IfOk result (λ played. AllZip (HasCrewPlayed scene.entry) crews.items played.items) }
+    { play_crews(rt, alloc, scene, gate, crews) };
+    join(rt, orders, workers)
 }
 
 /// What all actors of a phase do in its rounds and turns, at once: some threads for the clients, one for the operator, and
@@ -87,7 +113,7 @@ pub fn play_in_threads<R: Threads + Wait + Sync, G: Gate>(
 ) -> Result<Cast, NoMemory>
     requires scene { IsScene scene }
     requires cast { IsCast scene cast }
-    ensures { IfOk result (HaveAllPlayed scene cast) }
+    ensures { IfOk result (HaveAllPlayed scene.entry cast) }
 {
     let Cast {
         operator,
@@ -96,20 +122,12 @@ pub fn play_in_threads<R: Threads + Wait + Sync, G: Gate>(
     } = cast;
     let players = move || -> Result<Vec<Player>, NoMemory>
         requires { IsScene scene × All (IsPlayerOf scene) clients.items }
-        ensures { IfOk result (λ played. AllZip (HasTakenSteps scene) clients.items played.items) }
+        ensures { IfOk result (λ played. AllZip (HasTakenSteps scene.entry) clients.items played.items) }
     { play_players(rt, alloc, scene, gate, clients) };
-    let orders = move || -> Result<Caller, NoMemory>
-        requires { IsScene scene × IsCallerOf scene operator }
-        ensures { IfOk result (HasOperated scene operator) }
-    { operate_through(rt, scene, gate, operator) };
-    let workers = move || -> Result<Vec<Crew>, NoMemory>
-        requires { IsScene scene × All (IsCrewOf scene) crews.items }
-        ensures { IfOk result (λ played. AllZip (HasCrewPlayed scene) crews.items played.items) }
-    { play_crews(rt, alloc, scene, gate, crews) };
     let others = move || -> (Result<Caller, NoMemory>, Result<Vec<Crew>, NoMemory>)
         requires { IsScene scene × IsCallerOf scene operator × All (IsCrewOf scene) crews.items }
-        ensures { IfOk result.0 (HasOperated scene operator) × IfOk result.1 (λ played. AllZip (HasCrewPlayed scene) crews.items played.items) }
-    { join(rt, orders, workers) };
+        ensures { IfOk result.0 (HasOperated scene.entry operator) × IfOk result.1 (λ played. AllZip (HasCrewPlayed scene.entry) crews.items played.items) }
+    { play_others(rt, alloc, scene, gate, operator, crews) };
     let (clients, (operator, crews)) = join(rt, players, others);
     Ok(Cast {
         operator: operator?,

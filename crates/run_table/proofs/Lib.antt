@@ -2,3 +2,4 @@ pub mod Numbered
 pub mod Acting
 pub mod Links
 pub mod Lines
+pub mod Allowing

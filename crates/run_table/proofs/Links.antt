@@ -1,13 +1,12 @@
 -- A fault that is set on a link, and the work of workers over links.
 use Rattle.std.proofs.Common.{◌≡◌, ◌≢◌, ◌≤◌, ◌⊎◌, inl, inr, ℕ, ◌==◌, Bool, true, false, cond, List, [], refl, sym, ap, ◌∙◌, subst, arith}
-use Rattle.std.specs.Prelude.{◌&&◌, ◌%◌, not, nat_le}
+use Rattle.std.specs.Prelude.{◌&&◌, ◌%◌, not}
 use Rattle.std.proofs.lemmas.Bool.{cases_eq, eq-eqb, ne_eqb, le-leb}
 use Rattle.ids_core.specs.declared.limits.TheConstants.{MOST_CENTRES}
 use Rattle.dc_talk.specs.declared.links.LinkFault.{LinkFault}
 use Rattle.dc_talk.specs.declared.log.Deed.{Deed}
 use Rattle.dc_talk.specs.Acting.{Acting}
 use Rattle.tx_core.specs.declared.tx.Record.{Record}
-use Rattle.script_text.specs.declared.steps.OperatorStep.{OperatorStep}
 use Rattle.script_text.specs.declared.steps.OperatorStep.TheVariants.{Link}
 use Rattle.script_text.specs.declared.rounds.Role.TheVariants.{Sender, Receiver, Reporter, Pruner}
 use Rattle.script_text.specs.Steps.{IsCount}

@@ -69,7 +69,7 @@ impl Dealt {
         self.operator.as_slice().get((number - 1) as usize).copied()
     }
 
-    /// The steps of the operator.
+    /// The steps of the operator, in order.
     pub fn operator_line(&self) -> &[OperatorStep]
         ensures { result.now ≡ self.now.operator.items }
     {

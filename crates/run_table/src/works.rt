@@ -52,8 +52,8 @@ impl Work {
     }
 }
 
-/// The round of a number of the pruner of a centre: it prunes in each round whose number is a multiple of 8. An `Err` is
-/// want of memory: the centre may have been asked without a note.
+/// The round of a number of the pruner of a centre: it prunes in each round whose number is a multiple of 8, and else it
+/// does nothing. An `Err` is want of memory: the centre may have been asked without a note.
 pub fn prune<D: Door>(door: &mut D, number: u32, centre: u8, log: &mut Log) -> Result<(), NoMemory>
     requires { IsBehind (D.shown door.old) centre }
     ensures place { D.place door.new ≡ D.place door.old }

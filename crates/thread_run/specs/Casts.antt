@@ -21,9 +21,22 @@ use Rattle.thread_run.specs.declared.parts.Parts.{Parts}
 abbrev pub crew_callers : Crew → List Caller
 crew_callers crew = crew.sender.caller ∷ crew.receiver.caller ∷ crew.reporter ∷ crew.pruner ∷ []
 
+-- an operator, clients and crews as callers, in order
+abbrev pub callers_among : Caller → List Player → List Crew → List Caller
+callers_among operator players crews = operator ∷ (map (λ (p : Player). p.caller) players ++ flat_map crew_callers crews)
+
 -- all actors, as callers, in order
 abbrev pub callers_in : Cast → List Caller
-callers_in cast = cast.operator ∷ (map (λ (p : Player). p.caller) cast.clients.items ++ flat_map crew_callers cast.crews.items)
+callers_in cast = callers_among cast.operator cast.clients.items cast.crews.items
+
+-- no parts
+pub record AreNoParts (parts : Parts) : Type 0 where
+  pub rows : parts.rows.items ≡ []
+  pub logs : parts.logs.items ≡ []
+  pub stubs : parts.stubs.items ≡ []
+  pub givers : parts.givers.items ≡ []
+  pub takers : parts.takers.items ≡ []
+  pub inlets : parts.inlets.items ≡ []
 
 -- a caller more
 pub record HasCaller (old : Parts) (caller : Caller) (new : Parts) : Type 0 where
@@ -54,11 +67,15 @@ pub record AreCrewsOf (n : ℕ) (callers : List Caller) (givers : List (Vec (Giv
   pub inlets_are : map (λ (c : Crew). c.receiver.inlets) crews ≡ inlets
 
 -- the actors of so many clients and n centres that have these parts
-pub record IsCastOf (n clients : ℕ) (parts : Parts) (cast : Cast) : Type 0 where
-  pub callers : AreCallersOf parts.rows.items parts.logs.items (callers_in cast)
-  pub numbers : map (λ (p : Player). p.client) cast.clients.items ≡ range_with_len 1 clients
-  pub stubs : map (λ (p : Player). p.stub) cast.clients.items ≡ parts.stubs.items
-  pub crews : AreCrewsOf n (flat_map crew_callers cast.crews.items) parts.givers.items parts.takers.items parts.inlets.items cast.crews.items
+pub record AreActorsOf (n clients : ℕ) (parts : Parts) (operator : Caller) (players : List Player) (staff : List Crew) : Type 0 where
+  pub callers : AreCallersOf parts.rows.items parts.logs.items (callers_among operator players staff)
+  pub numbers : map (λ (p : Player). p.client) players ≡ range_with_len 1 clients
+  pub stubs : map (λ (p : Player). p.stub) players ≡ parts.stubs.items
+  pub crews : AreCrewsOf n (flat_map crew_callers staff) parts.givers.items parts.takers.items parts.inlets.items staff
+
+-- so are those of a cast
+abbrev pub IsCastOf : ℕ → ℕ → Parts → Cast → Type 0
+IsCastOf n clients parts cast = AreActorsOf n clients parts cast.operator cast.clients.items cast.crews.items
 
 -- ---- the closing rounds
 
@@ -74,8 +91,4 @@ pub record HasCrewClosed (scene : Scene) (givers : List (List (GiverView Record)
 pub record HaveParted (scene : Scene) (n clients : ℕ) (old : Cast) (parts : Parts) : Type 0 where
   pub closed : List Crew
   pub crews : AllZip (HasCrewClosed scene (map (λ (givers : Vec (GiverView Record)). givers.items) parts.givers.items)) old.crews.items closed
-  pub cast : Cast
-  pub operator : cast.operator ≡ old.operator
-  pub clients : cast.clients ≡ old.clients
-  pub crews_are : cast.crews.items ≡ closed
-  pub parted : IsCastOf n clients parts cast
+  pub parted : AreActorsOf n clients parts old.operator old.clients.items closed

@@ -1,10 +1,7 @@
 -- The actors of a phase, taken apart around the closing rounds.
-use Rattle.std.specs.Prelude.{◌≡◌, ℕ, map, flat_map, length, List, [], ◌∷◌, ◌++◌}
+use Rattle.std.specs.Prelude.{◌≡◌, map, List, [], ◌∷◌, ◌++◌}
 use Rattle.std.specs.List.{AllZip}
-use Rattle.std.specs.Global.{Vec}
 use Rattle.tx_core.specs.declared.tx.Record.{Record}
-use Rattle.dc_talk.specs.Logs.{Logged}
-use Rattle.dc_host.specs.HostDoors.{CentrePass}
 use Rattle.mail_link.specs.Ends.{GiverView}
 use Rattle.script_text.specs.Steps.{IsCount}
 use Rattle.phase_play.specs.declared.callers.Caller.{Caller}

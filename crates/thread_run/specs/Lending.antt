@@ -1,5 +1,5 @@
 -- The ends of links that are lent to receivers, and given back.
-use Rattle.std.specs.Prelude.{◌≡◌, ◌≢◌, ◌≤◌, ℕ, ◌-◌, length, List, [], slice_index_or, map}
+use Rattle.std.specs.Prelude.{◌≡◌, ◌≢◌, ℕ, ◌-◌, length, List, [], slice_index_or, map}
 use Rattle.std.specs.Global.{Vec}
 use Rattle.tx_core.specs.declared.tx.Record.{Record}
 use Rattle.script_text.specs.Links.{Inlet}

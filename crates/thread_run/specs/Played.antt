@@ -1,5 +1,5 @@
 -- A run of the first sections of a script.
-use Rattle.std.specs.Prelude.{◌≡◌, ℕ, ◌+◌, flat_map, List, []}
+use Rattle.std.specs.Prelude.{◌≡◌, ℕ, flat_map, List}
 use Rattle.dc_host.specs.KeptDoors.{trail_at}
 use Rattle.script_text.specs.declared.script.Script.{Script}
 use Rattle.script_text.specs.declared.steps.Section.{Section}

@@ -1,5 +1,5 @@
 -- A run between two sections, by the parts of its table.
-use Rattle.std.specs.Prelude.{◌≡◌, ℕ, ◌+◌, ◌-◌, map, length, List, ◌++◌, Option, Some, None, unwrap_or, slice_get}
+use Rattle.std.specs.Prelude.{◌≡◌, ℕ, ◌+◌, ◌-◌, map, length, List, ◌++◌, unwrap_or, slice_get}
 use Rattle.std.specs.Option.{option_map}
 use Rattle.dc_talk.specs.declared.log.Note.{Note}
 use Rattle.dc_host.specs.KeptDoors.{trail_at, settings_of}
@@ -11,7 +11,7 @@ use Rattle.script_text.specs.Steps.{IsCount}
 use Rattle.script_text.specs.Deeds.{Progress}
 use Rattle.client_stub.specs.Playing.{StubView}
 use Rattle.run_book.specs.Setups.{setup_of, settings_among}
-use Rattle.run_book.specs.Happenings.{ClientDoes}
+use Rattle.run_book.specs.Happenings.{ClientDoes, IsLinkWithin}
 use Rattle.run_book.specs.Played.{new_progress}
 use Rattle.run_table.specs.declared.table.Table.{Table}
 use Rattle.run_table.specs.Tables.{log_at, AreHistories}
@@ -31,6 +31,10 @@ between_of script table = record {
   come = λ client. unwrap_or (option_map (come_of (notes_at table (client + 1))) (slice_get table.stubs.items (client - 1))) (new_progress script.n client script.cache);
   inlets = λ from to. (post_at table.posts from to).inlet;
 }
+
+-- each client is linked to no centre, or to one that there is
+abbrev pub AreLinked : Script → Table → Type 0
+AreLinked script table = (client : ℕ) → IsCount script.clients client → IsLinkWithin script.n ((between_of script table).come client).client.link
 
 -- the parts are those of a script: a centre for each of its numbers, with its settings and a history, a stub for each
 -- client, and a log for each actor

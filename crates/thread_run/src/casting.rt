@@ -122,12 +122,7 @@ fn crews_of(alloc: Global, n: u8, workers: Workers) -> Result<Vec<Crew>, NoMemor
 }
 
 /// The actors that have these parts, of so many clients and `n` centres. An `Err` is want of memory: the parts are gone.
-pub(crate) fn cast_of(
-    alloc: Global,
-    n: u8,
-    clients: u32,
-    parts: Parts,
-) -> Result<Cast, NoMemory>
+pub(crate) fn cast_of(alloc: Global, n: u8, clients: u32, parts: Parts) -> Result<Cast, NoMemory>
     requires centres { n ≤ MOST_CENTRES }
     requires clients { clients ≤ MOST_CLIENTS }
     requires rows { length parts.rows.items ≡ 1 + clients + 4 * n }

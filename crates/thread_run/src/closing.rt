@@ -1,6 +1,7 @@
 // The closing rounds of the receivers of a phase, and the parts of its actors behind them.
-ghost use Rattle.std.specs.Prelude.{◌≡◌, ◌≤◌, ◌++◌, map, All, length, IfOk, OnOk};
-ghost use Rattle.std.specs.List.{AllZip};
+ghost use Rattle.std.specs.Prelude.{◌≡◌, map, All, IfOk, OnOk};
+ghost use Rattle.std.specs.List.{range_with_len};
+ghost use Rattle.vv_core.specs.Vectors.{centres};
 ghost use Rattle.dc_links.specs.Links.{AreGiverRows, rows_of};
 ghost use Rattle.phase_play.specs.Scenes.{IsScene};
 ghost use Rattle.phase_play.specs.Casts.{IsCrewOf};
@@ -71,7 +72,7 @@ fn close_half<R: Wait, G: Gate>(
     requires scene { IsScene scene }
     requires givers { AreGiverRows scene.links.now (rows_of givers.now) }
     requires half { IsHalfOf scene half }
-    ensures { OnOk result (HasClosedHalf scene (rows_of givers.now) parts.old half parts.new) }
+    ensures { OnOk result (HasClosedHalf scene.entry (rows_of givers.now) parts.old half parts.new) }
 {
     let Half {
         centre,
@@ -117,7 +118,7 @@ fn close_halves<R: Wait, G: Gate>(
     requires scene { IsScene scene }
     requires givers { AreGiverRows scene.links.now (rows_of givers.now) }
     requires halves { All (IsHalfOf scene) halves.items }
-    ensures { OnOk result (HaveClosed scene (rows_of givers.now) parts.old halves.items parts.new) }
+    ensures { OnOk result (HaveClosed scene.entry (rows_of givers.now) parts.old halves.items parts.new) }
 {
     'halves: for half in halves {
         close_half(rt, scene, gate, givers, parts, half)?;
@@ -138,7 +139,7 @@ pub(crate) fn close_and_part<R: Wait, G: Gate>(
     requires crews { All (IsCrewOf scene) cast.crews.items }
     requires centres { map (λ crew. crew.centre) cast.crews.items ≡ centres scene.script.now.n }
     requires clients { map (λ player. player.client) cast.clients.items ≡ range_with_len 1 scene.script.now.clients }
-    ensures { IfOk result (HaveParted scene scene.script.now.n scene.script.now.clients cast) }
+    ensures { IfOk result (HaveParted scene.entry scene.entry.script.now.n scene.entry.script.now.clients cast) }
 {
     let Cast {
         operator,

@@ -24,11 +24,7 @@ fn lend_to(alloc: Global, posts: &mut Posts, n: u8, to: u8) -> Result<Vec<Inlet>
 
 /// The ends of the links to each of the first `n` centres from each of them, in order. What is lent is away from the
 /// links. An `Err` is want of memory: some ends are gone.
-pub(crate) fn lend_all(
-    alloc: Global,
-    posts: &mut Posts,
-    n: u8,
-) -> Result<Vec<Vec<Inlet>>, NoMemory>
+pub(crate) fn lend_all(alloc: Global, posts: &mut Posts, n: u8) -> Result<Vec<Vec<Inlet>>, NoMemory>
     requires { n ≤ MOST_CENTRES }
     ensures { IfOk result (λ rows. AreInlets posts.old n rows.items) }
 {

@@ -1,6 +1,6 @@
 // What the actors of a phase have, each kind by itself.
-ghost use Rattle.std.specs.Prelude.{◌≡◌, ◌++◌, ◌∷◌, [], OnOk};
-ghost use Rattle.thread_run.specs.Casts.{HasCaller};
+ghost use Rattle.std.specs.Prelude.{OnOk};
+ghost use Rattle.thread_run.specs.Casts.{AreNoParts, HasCaller};
 
 use client_stub::Stub;
 use dc_centre::Centre;
@@ -28,7 +28,7 @@ pub struct Parts {
 impl Parts {
     /// No parts.
     pub(crate) fn new(alloc: Global) -> Parts
-        ensures { result ≡ no_parts }
+        ensures { AreNoParts result }
     {
         Parts {
             rows: Vec::new(alloc),

@@ -1,5 +1,5 @@
 -- The book of a world.
-use Rattle.std.proofs.Common.{◌≡◌, ◌≤◌, ℕ, zero, suc, ◌+◌, ◌*◌, List, [], map, length, Option, Some, None, refl, sym, ap, ◌∙◌, subst, arith}
+use Rattle.std.proofs.Common.{◌≡◌, ℕ, zero, suc, List, [], map, length, Option, Some, None, refl, sym, ap, ◌∙◌, subst, arith}
 use Rattle.std.specs.Prelude.{slice_get, Result, Ok, Err, IfOk}
 use Rattle.std.specs.Option.{option_map, unwrap_or}
 use Rattle.std.proofs.lemmas.Option.{slice_get-map, unwrap_or-slice_get}
@@ -18,7 +18,8 @@ use Rattle.run_book.specs.Played.{HavePlayed}
 use Rattle.run_book.proofs.Happenings.Fits.{fits}
 use Rattle.run_book.proofs.Happenings.Timely.{timely}
 use Rattle.run_book.proofs.Happenings.Playing.{scripted}
-use Rattle.world_core.specs.Worlds.{WorldView, IsWorld, log_at}
+use Rattle.run_table.specs.Tables.{log_at}
+use Rattle.world_core.specs.Worlds.{WorldView, IsWorld}
 use Rattle.script_text.specs.Scripts.{IsInRange}
 use Rattle.world_core.specs.Runs.{IsSound, IsWorldBook, HasPlayed, IsRunOf}
 use Rattle.world_core.proofs.Worlds.{centre_count}

@@ -1,14 +1,10 @@
-pub mod Numbered
-pub mod Acting
 pub mod Mail
 pub mod Worlds
 pub mod Turns
-pub mod Links
 pub mod Rounds
 pub mod Books
 pub mod Making
 pub mod Phasing
 pub mod Sectioning
-pub mod Dealt
 pub mod Naming
 pub mod Outside

@@ -1,5 +1,5 @@
 -- What lies on the links of a world was sent.
-use Rattle.std.proofs.Common.{◌≡◌, ◌≤◌, ℕ, ◌*◌, ⊎_elim, List, [], ◌++◌, sym, subst, arith}
+use Rattle.std.proofs.Common.{◌≡◌, ◌≤◌, ℕ, ◌*◌, ⊎_elim, List, [], ◌++◌, subst, arith}
 use Rattle.std.proofs.lemmas.List.{get_or-replicate}
 use Rattle.ids_core.specs.declared.limits.TheConstants.{MOST_CENTRES}
 use Rattle.list_core.specs.Members.{In}
@@ -15,7 +15,8 @@ use Rattle.run_book.specs.Moves.{Does}
 use Rattle.run_book.proofs.Happenings.Sending.{sent_later}
 use Rattle.run_book.proofs.Happenings.Carrying.{last_done, sent_there}
 use Rattle.run_book.proofs.Happenings.Posts.{lies_after}
-use Rattle.world_core.specs.Worlds.{Turn, IsMailSent, HasPosts, notes_in}
+use Rattle.run_table.specs.Tables.{Turn, HasPosts}
+use Rattle.world_core.specs.Worlds.{IsMailSent, notes_in}
 
 -- on new links nothing lies
 pub new_post_at : (n from to : ℕ) → n ≤ MOST_CENTRES → IsCount n from → IsCount n to → post_at new_posts from to ≡ new_post

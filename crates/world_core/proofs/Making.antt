@@ -1,6 +1,6 @@
 -- Moves that a world makes, one behind the other.
-use Rattle.std.proofs.Common.{◌≡◌, ◌≢◌, ◌≤◌, ◌<◌, ℕ, ◌+◌, ◌-◌, cond, inl, inr, ⊎_elim, List, [], ◌∷◌, ◌++◌, map, length, Some, None, refl, sym, ap, ◌∙◌, subst, append_assoc, append-nil, arith}
-use Rattle.std.specs.Prelude.{◌==◌, slice_get, slice_set, fold}
+use Rattle.std.proofs.Common.{◌≡◌, ◌≢◌, ◌≤◌, ◌<◌, ℕ, ◌+◌, ◌-◌, cond, inl, inr, ⊎_elim, List, [], ◌∷◌, ◌++◌, map, Some, None, refl, sym, ap, ◌∙◌, subst, append_assoc, append-nil, arith}
+use Rattle.std.specs.Prelude.{slice_get, slice_set, fold}
 use Rattle.std.proofs.lemmas.Bool.{cases_eq, eq-eqb, ne_eqb}
 use Rattle.std.proofs.lemmas.Option.{same_Some, slice_get_within}
 use Rattle.std.proofs.lemmas.List.Folds.{fold-map}
@@ -16,13 +16,13 @@ use Rattle.script_text.specs.declared.steps.OperatorStep.{OperatorStep}
 use Rattle.script_text.specs.declared.rounds.Role.TheVariants.{Sender, Receiver, Reporter, Pruner}
 use Rattle.script_text.specs.Steps.{IsCount}
 use Rattle.script_text.specs.Deeds.{Progress, StepDeeds, after_all, armed_after, stepped}
-use Rattle.script_text.specs.Mail.{Post, due_in_round, due_at_close}
+use Rattle.script_text.specs.Mail.{due_in_round, due_at_close}
 use Rattle.tx_core.specs.declared.tx.Record.{Record}
 use Rattle.client_stub.specs.Playing.{StubView}
 use Rattle.ids_core.specs.declared.limits.TheConstants.{MOST_CENTRES}
 use Rattle.dc_mail.specs.Posts.{post_at, new_posts}
 use Rattle.run_book.specs.Happenings.{Happened, happening}
-use Rattle.run_book.specs.Moves.{Does, Move, move, client_does, operator_does, worker_does, closes, actor_of}
+use Rattle.run_book.specs.Moves.{Does, Move, move, client_does, operator_does, actor_of}
 use Rattle.run_book.specs.Played.{Stage, new_progress, first_stage, DoesSo, come_after, post_after, stage_after, HavePlayed}
 use Rattle.run_book.proofs.Happenings.Entries.{own_then, other_then, deeds_marked}
 use Rattle.run_book.proofs.Happenings.Playing.{played_none as none_played, played_more, all_at}
@@ -30,14 +30,14 @@ use Rattle.script_text.specs.Rounds.{ReceiverDeeds, Brings, others}
 use Rattle.script_text.specs.Carrying.{InTurn, no_turn, next_turn}
 use Rattle.list_core.specs.Members.{In}
 use Rattle.run_book.proofs.Happenings.WorkerRounds.{others_within}
-use Rattle.world_core.specs.declared.works.Work.{Work}
-use Rattle.world_core.specs.declared.works.Work.TheVariants.{Round, Close}
-use Rattle.world_core.specs.Works.{work_of}
-use Rattle.world_core.specs.Worlds.{WorldView, Turn, IsWorld, HasPosts, Acts, log_at, stub_at, progress_at, notes_in, stage_of}
-use Rattle.world_core.specs.Tables.{new_stub, new_stubs}
+use Rattle.run_table.specs.declared.works.Work.{Work}
+use Rattle.run_table.specs.declared.works.Work.TheVariants.{Round, Close}
+use Rattle.run_table.specs.Works.{work_of}
+use Rattle.world_core.specs.Worlds.{WorldView, IsWorld, Acts, stub_at, progress_at, notes_in, stage_of}
+use Rattle.run_table.specs.Tables.{new_stub, new_stubs, Turn, HasPosts, log_at}
 use Rattle.world_core.specs.Events.{TakesStep, TakesOrder, TakesRound, turn_of}
 use Rattle.world_core.specs.Runs.{HasPlayed, MakesMoves}
-use Rattle.world_core.proofs.Numbered.{get_below, set_else, set_here}
+use Rattle.run_table.proofs.Numbered.{get_below, set_else, set_here}
 use Rattle.world_core.proofs.Mail.{new_post_at}
 use Rattle.world_core.proofs.Rounds.{worker_range}
 use Rattle.world_core.proofs.Worlds.{stub_named, stub_got}

@@ -26,7 +26,8 @@ use Rattle.run_book.specs.Happenings.{notes_by, trail_in, HasAnswer, Happens}
 use Rattle.run_book.proofs.Happenings.Places.{noted, commits}
 use Rattle.run_book.proofs.Happenings.Sending.{sent_before}
 use Rattle.run_book.proofs.Happenings.More.{operator_carries}
-use Rattle.world_core.specs.Worlds.{WorldView, log_at}
+use Rattle.run_table.specs.Tables.{log_at}
+use Rattle.world_core.specs.Worlds.{WorldView}
 use Rattle.world_core.specs.Events.{commit_of, commit_named, records_of, record_named, if_centre, MayAsk}
 use Rattle.world_core.proofs.Naming.{comes}
 

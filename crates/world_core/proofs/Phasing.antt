@@ -1,63 +1,20 @@
 -- A phase by turns: one client, one centre, one turn more.
-use Rattle.std.proofs.Common.{◌≡◌, ◌≤◌, ◌<◌, ℕ, ◌+◌, ◌-◌, Bool, true, false, cond, List, [], ◌∷◌, ◌++◌, map, length, Option, Some, None, refl, sym, ap, ◌∙◌, subst, append-nil, arith}
-use Rattle.std.specs.Prelude.{◌==◌, nat_le, All, flat_map, slice_get}
+use Rattle.std.proofs.Common.{◌≡◌, ◌≤◌, ◌<◌, ℕ, ◌+◌, ◌-◌, Bool, true, false, cond, List, [], ◌∷◌, ◌++◌, map, Some, None, refl, sym, ap, ◌∙◌, subst, append-nil, arith}
+use Rattle.std.specs.Prelude.{◌==◌, nat_le, flat_map, slice_get}
 use Rattle.std.specs.List.{filter_map, range_with_len}
 use Rattle.std.specs.Option.{option_map}
-use Rattle.std.proofs.lemmas.Bool.{eq-eqb, ne_eqb, le-leb, lt-leb, eqb-true}
-use Rattle.std.proofs.lemmas.Option.{none-some, same_Some}
-use Rattle.list_core.specs.Choices.{when}
-use Rattle.list_core.specs.Members.{In}
-use Rattle.list_core.proofs.Gets.{get_In, In_get, all_get}
-use Rattle.list_core.proofs.Passing.{In_from_filter_map}
-use Rattle.script_text.specs.declared.script.Header.{Header}
+use Rattle.std.proofs.lemmas.Bool.{eq-eqb, ne_eqb, le-leb, lt-leb}
 use Rattle.script_text.specs.declared.steps.ClientStep.{ClientStep}
 use Rattle.script_text.specs.declared.steps.OperatorStep.{OperatorStep}
-use Rattle.script_text.specs.declared.steps.Step.{Step}
-use Rattle.script_text.specs.declared.steps.Step.TheVariants.{Client, Operator}
 use Rattle.script_text.specs.declared.steps.Section.{Section}
 use Rattle.script_text.specs.declared.rounds.Role.TheVariants.{Sender, Receiver, Reporter, Pruner}
-use Rattle.script_text.specs.Rows.{IsPhase, IsInPhase}
-use Rattle.script_text.specs.Steps.{IsCount, IsStep, IsOperatorStep, IsStepOf}
-use Rattle.run_book.specs.Moves.{Move, move, client_does, operator_does, worker_does, closes, client_step, operator_step, client_steps, operator_steps, client_turn, operator_turn, one_or_none, worker_turn}
+use Rattle.run_book.specs.Moves.{Move, move, client_does, operator_does, worker_does, closes, client_steps, operator_steps, client_turn, operator_turn, one_or_none, worker_turn}
 use Rattle.run_book.proofs.Moves.{counted_more, client_more}
-use Rattle.world_core.specs.declared.dealing.Dealt.{Dealt}
-use Rattle.world_core.specs.Dealing.{IsDealt, line_of}
+use Rattle.run_table.specs.declared.dealing.Dealt.{Dealt}
+use Rattle.run_table.specs.Dealing.{IsDealt, line_of}
 use Rattle.world_core.specs.Worlds.{WorldView}
 use Rattle.world_core.specs.Runs.{MakesMoves}
 use Rattle.world_core.proofs.Making.{makes_none, makes_then}
-
--- ---- the steps of a phase
-
-module _ (header : Header) (section : Section) (phase : IsPhase header section) where
-  -- a step of it
-  step_in : (step : Step) → In step section.steps → IsStepOf header step
-  step_in step has = let at = In_get section.steps step has in (all_get (λ step. IsStepOf header step × IsInPhase step) section.steps at.0 step phase.steps at.1).0
-
-  -- of a client
-  pub client_step_in : (client place : ℕ) (does : ClientStep) → slice_get (client_steps client section) place ≡ Some does → IsCount header.clients client × IsStep header.n does
-  client_step_in client place does there =
-      let from = In_from_filter_map (client_step client) section.steps does (get_In (client_steps client section) place does there) in
-      its from.0 (step_in from.0 from.1) from.2
-    where
-      its : (step : Step) → IsStepOf header step → client_step client step ≡ Some does → IsCount header.clients client × IsStep header.n does
-      its (Operator step) is gives = absurd (none-some does gives)
-      its (Client other step) is gives =
-          let both = chosen (other == client) step does gives in
-          (subst (IsCount header.clients) (eqb-true other client both.0) is.0, subst (IsStep header.n) both.1 is.1)
-        where
-          chosen : (test : Bool) (step does : ClientStep) → when test step ≡ Some does → (test ≡ true) × (step ≡ does)
-          chosen true step does is = (refl, same_Some step does is)
-          chosen false step does is = absurd (none-some does is)
-
-  -- of the operator
-  pub operator_step_in : (place : ℕ) (does : OperatorStep) → slice_get (operator_steps section) place ≡ Some does → IsOperatorStep header.n does
-  operator_step_in place does there =
-      let from = In_from_filter_map operator_step section.steps does (get_In (operator_steps section) place does there) in
-      its from.0 (step_in from.0 from.1) from.2
-    where
-      its : (step : Step) → IsStepOf header step → operator_step step ≡ Some does → IsOperatorStep header.n does
-      its (Client client step) is gives = absurd (none-some does gives)
-      its (Operator step) is gives = subst (IsOperatorStep header.n) (same_Some step does gives) is
 
 -- ---- clients
 

@@ -1,37 +1,33 @@
 -- A round of a worker in a world.
-use Rattle.std.proofs.Common.{◌≡◌, ◌≢◌, ◌≤◌, ℕ, ◌+◌, ◌-◌, ◌*◌, Bool, false, List, [], ◌∷◌, ◌++◌, map, length, Some, refl, sym, ap, ◌∙◌, subst, arith}
+use Rattle.std.proofs.Common.{◌≡◌, ◌≢◌, ◌≤◌, ℕ, ◌+◌, ◌-◌, ◌*◌, Bool, false, List, map, length, Some, refl, sym, ap, ◌∙◌, subst, arith}
 use Rattle.std.specs.Prelude.{All, slice_set}
 use Rattle.std.proofs.lemmas.Option.{slice_get_within}
-use Rattle.list_core.specs.Members.{In}
-use Rattle.tx_core.specs.declared.tx.Record.{Record}
 use Rattle.dc_talk.specs.declared.log.Deed.{Deed}
 use Rattle.dc_talk.specs.declared.log.Note.{Note}
 use Rattle.dc_talk.specs.Rule.{client_after}
 use Rattle.dc_host.specs.KeptDoors.{shown_of, begun}
 use Rattle.script_text.specs.declared.script.Script.{Script}
-use Rattle.script_text.specs.declared.rounds.Role.{Role}
 use Rattle.script_text.specs.declared.rounds.Role.TheVariants.{Sender, Receiver, Reporter, Pruner}
 use Rattle.script_text.specs.Steps.{IsCount}
 use Rattle.script_text.specs.Mail.{due_in_round, due_at_close}
-use Rattle.script_text.specs.Rounds.{worker_of}
 use Rattle.script_text.proofs.Arriving.{due_lies, close_lies}
 use Rattle.dc_worker.proofs.RoundDeeds.{sender_carries, reporter_carries, pruner_carries}
 use Rattle.dc_mail.specs.Posts.{post_at}
 use Rattle.client_stub.specs.Playing.{StubView}
 use Rattle.run_book.specs.Setups.{setup_of}
-use Rattle.run_book.specs.Happenings.{Happened, notes_by, trails_in, happening, GoesToOneOf, CarrierDoes, IsCarrier, AreTogether}
-use Rattle.run_book.specs.Moves.{Does, worker_does, closes, actor_of}
+use Rattle.run_book.specs.Happenings.{Happened, trails_in, GoesToOneOf, CarrierDoes, IsCarrier, AreTogether}
+use Rattle.run_book.specs.Moves.{actor_of}
 use Rattle.run_book.specs.Played.{DoesSo}
 use Rattle.run_book.proofs.Happenings.Entries.{other_then, deeds_marked}
 use Rattle.run_book.proofs.Happenings.More.{carrier_then}
 use Rattle.run_book.proofs.Happenings.Carrying.{deeds_do}
 use Rattle.run_book.proofs.Happenings.WorkerRounds.{worker_carries, receiver_does}
-use Rattle.world_core.specs.declared.table.Table.{Table}
-use Rattle.world_core.specs.declared.works.Work.{Work}
-use Rattle.world_core.specs.declared.works.Work.TheVariants.{Round, Close}
-use Rattle.world_core.specs.Works.{work_of}
-use Rattle.world_core.specs.Worlds.{Turn, IsWorld, HasPosts, Acts, log_at, stub_at, notes_in, stage_of}
-use Rattle.world_core.specs.Tables.{HasMadeRound, HasWorked, log_in, seen_of, stage_with}
+use Rattle.run_table.specs.declared.table.Table.{Table}
+use Rattle.run_table.specs.declared.works.Work.{Work}
+use Rattle.run_table.specs.declared.works.Work.TheVariants.{Round, Close}
+use Rattle.run_table.specs.Works.{work_of}
+use Rattle.world_core.specs.Worlds.{IsWorld, stub_at, notes_in, stage_of, seen_of}
+use Rattle.run_table.specs.Tables.{HasMadeRound, stage_with, Turn, HasPosts}
 use Rattle.world_core.specs.Events.{TakesRound}
 use Rattle.world_core.proofs.Worlds.{centre_count, HasActed, more, world_then, histories_then, stub_got}
 use Rattle.world_core.proofs.Mail.{mail_after}

@@ -1,11 +1,11 @@
 -- A script's sections, one after another.
-use Rattle.std.proofs.Common.{◌≡◌, ◌≢◌, ◌≤◌, ◌<◌, ⊎_elim, ℕ, ◌+◌, Bool, true, false, cond, true≢false, List, [], ◌∷◌, ◌++◌, map, length, take, get_or, refl, sym, ap, ◌∙◌, subst, arith}
+use Rattle.std.proofs.Common.{◌≡◌, ◌<◌, ⊎_elim, ℕ, ◌+◌, true, false, cond, true≢false, List, [], ◌∷◌, ◌++◌, map, length, take, get_or, sym, ap, ◌∙◌, subst, arith}
 use Rattle.std.specs.Prelude.{All}
 use Rattle.std.proofs.lemmas.List.{take_more, length-take-le}
 use Rattle.script_text.specs.declared.script.Script.{Script}
 use Rattle.script_text.specs.declared.script.Header.{Header}
 use Rattle.script_text.specs.declared.steps.Section.{Section}
-use Rattle.script_text.specs.Rows.{IsLine, IsPhase, IsSection, section_of}
+use Rattle.script_text.specs.Rows.{IsLine, IsPhase, IsSection}
 use Rattle.script_text.specs.Scripts.{header_of}
 use Rattle.run_book.specs.Moves.{phase_moves, section_moves, moves_from, step_move}
 use Rattle.run_book.proofs.Moves.{section_more}

@@ -14,7 +14,7 @@ use Rattle.dc_talk.specs.declared.log.Deed.{Deed}
 use Rattle.dc_talk.specs.declared.log.Deed.TheVariants.{Did, Asked, Told}
 use Rattle.dc_talk.specs.declared.log.Note.{Note}
 use Rattle.dc_talk.specs.Logs.{Logged, marked, noted, entries_made}
-use Rattle.dc_talk.specs.Acting.{IsAskBehind, noted_all}
+use Rattle.dc_talk.specs.Acting.{IsAskBehind}
 use Rattle.dc_talk.specs.Doors.{DoorView, IsBehind, HasDone}
 use Rattle.dc_talk.specs.Clients.{Client, new_client}
 use Rattle.dc_talk.specs.Rule.{after, client_after}
@@ -33,25 +33,17 @@ use Rattle.run_book.proofs.Happenings.Entries.{own_then, other_then, deeds_marke
 use Rattle.run_book.proofs.Happenings.More.{client_then, carrier_then, operator_carries, together_more}
 use Rattle.run_book.proofs.Happenings.OperatorSteps.{order_does}
 use Rattle.run_book.proofs.Happenings.Reach.{link_within}
-use Rattle.world_core.specs.declared.table.Table.{Table}
+use Rattle.run_table.proofs.Allowing.{allows_does}
+use Rattle.run_table.specs.declared.table.Table.{Table}
 use Rattle.run_book.specs.Moves.{operator_does}
-use Rattle.world_core.specs.Worlds.{Turn, IsWorld, HasPosts, Acts, log_at, stub_at, notes_in}
-use Rattle.world_core.specs.Tables.{HasStepped, HasOperated, HasAskedOnce, log_in, outside, seen_of}
+use Rattle.world_core.specs.Worlds.{IsWorld, Acts, stub_at, notes_in, seen_of}
+use Rattle.run_table.specs.Tables.{HasStepped, HasOperated, HasAskedOnce, log_in, outside, Turn, HasPosts, log_at}
 use Rattle.world_core.specs.Events.{TakesStep, TakesOrder, AsksOnce, MayAsk}
-use Rattle.world_core.proofs.Numbered.{set_else, set_here}
+use Rattle.run_table.proofs.Numbered.{set_else, set_here}
 use Rattle.world_core.proofs.Mail.{mail_later, mail_after}
 use Rattle.world_core.proofs.Worlds.{centre_count, HasActed, more, world_then, histories_then, stub_named, stub_got}
 
 -- ---- deeds through the door
-
--- deeds that the session rule allows a client in turn
-allows_does : (turn : Turn) (s : Client) (log : Logged) (deeds : List Deed) → log.section ≡ turn.section → log.step ≡ turn.step → AllowsAll s log deeds → ClientDoes s log.notes (notes_in turn deeds)
-allows_does turn s log [] section step allowed = tt
-allows_does turn s log (deed ∷ deeds) section step allowed =
-    let note : marked log.section log.step deed ≡ marked turn.section turn.step deed = λ i. marked (section i) (step i) deed in (
-      allowed.0,
-      subst (λ (note : Note). ClientDoes (after s deed) (log.notes ++ note ∷ []) (notes_in turn deeds)) note (allows_does turn (after s deed) (noted log deed) deeds section step allowed.1),
-    )
 
 -- asks of centres behind the door go to centres that there are
 pub behind_go : (door : DoorView) (n : ℕ) (turn : Turn) (deeds : List Deed) → door.centres ≡ n → All (IsAskBehind door) deeds → All (GoesToOneOf n) (map (λ (note : Note). note.deed) (notes_in turn deeds))
@@ -109,7 +101,7 @@ module _ (script : Script) (client section number : ℕ) (step : ClientStep) (ol
   }
 
   client_may : ClientDoes h.stub.client (log_at old.logs.items mine.actor).notes (notes_in mine done)
-  client_may = allows_does mine h.stub.client (log_in mine (log_at old.logs.items mine.actor)) done refl refl h.takes.grows.allowed
+  client_may = allows_does mine.section mine.step h.stub.client (log_in mine (log_at old.logs.items mine.actor)) done refl refl h.takes.grows.allowed
 
   -- the client's place
   there : slice_get old.stubs.items (client - 1) ≡ Some h.stub

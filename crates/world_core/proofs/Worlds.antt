@@ -1,7 +1,7 @@
 -- Worlds at first, and worlds in which an actor did more.
 use Rattle.std.proofs.Common.{◌≡◌, ◌≢◌, ◌≤◌, ◌<◌, ℕ, zero, suc, ◌+◌, ◌-◌, ◌*◌, Bool, ⊎_elim, List, [], ◌∷◌, ◌++◌, map, length, Option, Some, None, refl, sym, ap, ◌∙◌, subst, arith}
 use Rattle.std.specs.Prelude.{slice_get, slice_set, slice_index_or}
-use Rattle.std.specs.Option.{option_map, unwrap_or}
+use Rattle.std.specs.Option.{option_map}
 use Rattle.std.specs.List.{range_with_len}
 use Rattle.std.proofs.lemmas.Bool.{cases_eq}
 use Rattle.std.proofs.lemmas.Option.{none-some, same_Some, slice_get-map, slice_get_within}
@@ -16,7 +16,7 @@ use Rattle.dc_talk.specs.Logs.{Logged, entries_made}
 use Rattle.dc_talk.specs.Answers.{History}
 use Rattle.dc_talk.specs.Rule.{client_after}
 use Rattle.dc_host.specs.Centres.{CentreTrail, new_centre, new_centres}
-use Rattle.dc_host.specs.KeptDoors.{centre_at, entries_of, trail_at}
+use Rattle.dc_host.specs.KeptDoors.{entries_of, trail_at}
 use Rattle.ids_core.specs.declared.limits.TheConstants.{MOST_CENTRES}
 use Rattle.script_text.specs.declared.script.Script.{Script}
 use Rattle.script_text.specs.Scripts.{IsInRange}
@@ -27,11 +27,11 @@ use Rattle.run_book.specs.Happenings.{Happened, notes_by, trail_in, happening, A
 use Rattle.run_book.proofs.Happenings.Entries.{own_then, other_then}
 use Rattle.run_book.proofs.Happenings.Steps.{trail_marked}
 use Rattle.run_book.proofs.Happenings.More.{together_none}
-use Rattle.world_core.specs.declared.table.Table.{Table}
-use Rattle.world_core.specs.Worlds.{WorldView, Turn, IsWorld, IsMailSent, Acts, log_at, stub_at, notes_in, log_after}
-use Rattle.world_core.specs.Tables.{AreHistories as AreKept, IsNew, new_stub, new_stubs, new_logs, seen_of}
+use Rattle.run_table.specs.declared.table.Table.{Table}
+use Rattle.world_core.specs.Worlds.{WorldView, IsWorld, IsMailSent, Acts, stub_at, notes_in, log_after, seen_of}
+use Rattle.run_table.specs.Tables.{AreHistories as AreKept, IsNew, new_stub, new_stubs, new_logs, Turn, log_at}
 use Rattle.world_core.specs.Runs.{IsSound}
-use Rattle.world_core.proofs.Numbered.{get_below}
+use Rattle.run_table.proofs.Numbered.{get_below}
 use Rattle.world_core.proofs.Mail.{new_mail}
 
 -- ---- logs and clients by number

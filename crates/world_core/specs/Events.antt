@@ -30,7 +30,8 @@ use Rattle.world_core.specs.declared.event.Event.{Event}
 use Rattle.world_core.specs.declared.event.Event.TheVariants.{Client, Operator, Round, Again, Carry}
 use Rattle.world_core.specs.declared.event.Played.{Played}
 use Rattle.world_core.specs.declared.event.Played.TheVariants.{Done, NoSuch}
-use Rattle.world_core.specs.Worlds.{WorldView, IsWorld, Turn, Acts, log_at, stub_at, progress_at, notes_in, stage_of, HasPosts}
+use Rattle.run_table.specs.Tables.{Turn, log_at, HasPosts}
+use Rattle.world_core.specs.Worlds.{WorldView, IsWorld, Acts, stub_at, progress_at, notes_in, stage_of}
 
 -- ---- what is named
 

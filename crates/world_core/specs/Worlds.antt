@@ -1,5 +1,5 @@
 -- The system on one thread: the centres, the clients, and the logs of all actors.
-use Rattle.std.specs.Prelude.{◌≡◌, ◌≤◌, ℕ, zero, suc, ◌+◌, ◌-◌, ◌*◌, Bool, length, map, List, ◌++◌, Option, Some, None, unwrap_or, slice_get, slice_set, slice_index_or}
+use Rattle.std.specs.Prelude.{◌≡◌, ◌≤◌, ℕ, zero, suc, ◌+◌, ◌-◌, ◌*◌, Bool, length, map, List, ◌++◌, Option, Some, None, unwrap_or, slice_get, slice_set}
 use Rattle.list_core.specs.Members.{In}
 use Rattle.std.specs.Option.{option_map}
 use Rattle.vv_core.specs.Vectors.{centres}
@@ -17,10 +17,10 @@ use Rattle.script_text.specs.Mail.{Post, lying}
 use Rattle.dc_mail.specs.Posts.{post_at}
 use Rattle.client_stub.specs.Playing.{StubView}
 use Rattle.run_book.specs.Setups.{setup_of, settings_among}
-use Rattle.run_book.specs.Parts.{idle_log}
-use Rattle.run_book.specs.Moves.{Does}
-use Rattle.run_book.specs.Played.{Stage, new_progress, posts_after}
+use Rattle.run_book.specs.Played.{Stage, new_progress}
 use Rattle.run_book.specs.Happenings.{Happened, notes_by, trail_in, trails_in, happening, WasSent, AreTogether}
+use Rattle.run_table.specs.declared.table.Table.{Table}
+use Rattle.run_table.specs.Tables.{Turn, log_at}
 
 -- what a world is seen as: the script that it plays; the settings and the trail of each centre; each client with the
 -- fault that is armed for it; the logs of all actors, by their numbers; what lies on the links; and whether the world is
@@ -33,11 +33,6 @@ pub record WorldView : Type 0 where
   pub posts : List Post
   pub spent : Bool
 
--- the log of an actor, counted from 1, and one without notes where there is none
-abbrev pub log_at : List Logged → ℕ → Logged
-log_at logs zero = idle_log 0
-log_at logs (suc place) = slice_index_or logs place (idle_log 0)
-
 -- a client, counted from 1
 abbrev pub stub_at : List StubView → ℕ → Option StubView
 stub_at stubs zero = None
@@ -46,12 +41,6 @@ stub_at stubs (suc place) = slice_get stubs place
 -- how far the client with a number is
 abbrev pub progress_at : WorldView → ℕ → StubView → Progress
 progress_at w client stub = record { client = stub.client; armed = stub.armed; notes = (log_at w.logs (client + 1)).notes }
-
--- whose turn it is, and the section and the step of its notes
-pub record Turn : Type 0 where
-  pub actor : ℕ
-  pub section : ℕ
-  pub step : ℕ
 
 -- the notes of deeds in a turn
 abbrev pub notes_in : Turn → List Deed → List Note
@@ -95,6 +84,6 @@ stage_of w = record {
   posts = post_at w.posts;
 }
 
--- the links between n centres are as something that is done with these deeds leaves them
-abbrev pub HasPosts : ℕ → Does → List Deed → List Post → List Post → Type 0
-HasPosts n does deeds old new = (from to : ℕ) → IsCount n from → IsCount n to → post_at new from to ≡ posts_after does deeds (post_at old) from to
+-- what the world of a table is seen as
+abbrev pub seen_of : Script → Bool → Table → WorldView
+seen_of script spent table = record { script = script; centres = table.door.centres; stubs = table.stubs.items; logs = table.logs.items; posts = table.posts; spent = spent }

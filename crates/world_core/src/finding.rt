@@ -5,15 +5,15 @@ ghost use Rattle.std.specs.Option.{option_map, option_and_then};
 ghost use Rattle.dc_talk.specs.declared.ask.Ask.TheVariants.{Commit, Deliver};
 ghost use Rattle.run_book.specs.Moves.{client_step, operator_step, client_steps, operator_steps};
 ghost use Rattle.dc_host.specs.KeptDoors.{trail_at};
-ghost use Rattle.world_core.specs.Worlds.{log_at};
-ghost use Rattle.world_core.specs.Works.{work_of};
+ghost use Rattle.run_table.specs.Tables.{log_at};
+ghost use Rattle.run_table.specs.Works.{work_of};
 ghost use Rattle.world_core.specs.Events.{numbered, step_named, role_of, work_in, work_named, commit_of, commit_named, records_of, record_named, if_centre};
 
-use crate::works::Work;
 use crate::world::World;
 use dc_talk::{Ask, Deed, Log, Note, Say};
 use hist_lock::Entry;
 use ids_core::NoMemory;
+use run_table::Work;
 use script_text::{ClientStep, OperatorStep, Role, Script, Section, Step};
 
 // What a client does in a step, where the step is the client's.

@@ -2,14 +2,11 @@
 //! and a script step by step; the book of what happened fits in either case.
 #![tactic(auto)]
 
-mod dealing;
 mod event;
 mod finding;
 mod phases;
 mod playing;
 mod sections;
-mod table;
-mod works;
 mod world;
 
 pub use event::{Event, Played};

@@ -5,13 +5,12 @@ ghost use Rattle.vv_core.specs.Vectors.{centres};
 ghost use Rattle.script_text.specs.Rows.{IsPhase};
 ghost use Rattle.script_text.specs.Scripts.{header_of, IsInRange};
 ghost use Rattle.run_book.specs.Moves.{client_turn, operator_turn, one_or_none, worker_turn, turn_moves, phase_moves};
-ghost use Rattle.world_core.specs.Dealing.{IsDealtPhase};
+ghost use Rattle.run_table.specs.Dealing.{IsDealtPhase};
 ghost use Rattle.world_core.specs.Runs.{MakesMoves};
 
-use crate::dealing::{Dealt, deal};
-use crate::works::Work;
 use crate::world::World;
 use ids_core::NoMemory;
+use run_table::{Dealt, Work, deal};
 use script_text::{Role, Section};
 use std::alloc::Global;
 

@@ -3,20 +3,19 @@ ghost use Rattle.std.specs.Prelude.{◌≡◌, ◌≤◌, ◌+◌, true, false, 
 ghost use Rattle.dc_host.specs.Centres.{all_seen};
 ghost use Rattle.script_text.specs.Steps.{IsStep, IsOperatorStep};
 ghost use Rattle.world_core.specs.Worlds.{IsWorld};
-ghost use Rattle.world_core.specs.Tables.{new_stubs};
+ghost use Rattle.run_table.specs.Tables.{new_stubs};
 ghost use Rattle.script_text.specs.Scripts.{IsInRange};
 ghost use Rattle.dc_mail.specs.Posts.{new_posts};
-ghost use Rattle.world_core.specs.Works.{work_of};
+ghost use Rattle.run_table.specs.Works.{work_of};
 ghost use Rattle.world_core.specs.Events.{TakesStep, TakesOrder, TakesRound, AsksOnce, MayAsk, turn_of};
 ghost use Rattle.world_core.specs.Runs.{IsWorldBook};
 
-use crate::table::Table;
-use crate::works::Work;
 use dc_centre::Centre;
 use dc_talk::Ask;
 use hist_lock::Kept;
 use ids_core::NoMemory;
 use run_book::{Book, Logs, Trails};
+use run_table::{Table, Work};
 use script_text::{ClientStep, OperatorStep, Script};
 use std::alloc::Global;
 use std::marker::Model;
@@ -33,8 +32,7 @@ pub struct World<'a> {
 
 impl<'a> Model for World<'a> {
     ghost use Rattle.std.specs.Prelude.{◌≡◌, false};
-    ghost use Rattle.world_core.specs.Worlds.{WorldView};
-    ghost use Rattle.world_core.specs.Tables.{seen_of};
+    ghost use Rattle.world_core.specs.Worlds.{WorldView, seen_of};
     ghost use Rattle.world_core.specs.Runs.{IsSound};
     ghost use Rattle.tx_core.specs.States.{state_codes};
 

@@ -1,9 +1,4 @@
-use Rattle.std.proofs.Common.{◌≡◌, ◌==◌, false, cond, [], refl, sym, subst}
-use Rattle.std.proofs.lemmas.Bool.{ne_eqb}
-use Rattle.dc_talk.specs.declared.ask.Ask.TheVariants.{Prune}
 use Rattle.dc_talk.specs.Acting.{acting}
-use Rattle.script_text.specs.Orders.{Orders}
-use Rattle.dc_worker.proofs.Work.{adds_none}
 use Rattle.run_table.proofs.Links.{prunes_none}
 use Rattle.run_table.proofs.works.prune.Goals as goal
 

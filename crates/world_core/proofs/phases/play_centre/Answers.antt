@@ -1,8 +1,8 @@
-use Rattle.std.proofs.Common.{◌≡◌, ◌≤◌, ◌+◌, sym, ap, ◌∙◌, subst, arith}
+use Rattle.std.proofs.Common.{◌≡◌, ◌≤◌, ◌+◌, sym, ◌∙◌, subst}
 use Rattle.script_text.specs.declared.script.Script.{Script}
 use Rattle.script_text.specs.declared.rounds.Role.TheVariants.{Sender, Receiver, Reporter, Pruner}
 use Rattle.script_text.specs.Steps.{IsCount}
-use Rattle.world_core.specs.declared.works.Work.TheVariants.{Round, Close}
+use Rattle.run_table.specs.declared.works.Work.TheVariants.{Round, Close}
 use Rattle.world_core.specs.Worlds.{WorldView}
 use Rattle.world_core.proofs.Making.{round_makes}
 use Rattle.world_core.proofs.Phasing.{centre_round, centre_close}

@@ -1,4 +1,4 @@
-use Rattle.std.proofs.Common.{◌≡◌, ◌≤◌, ◌+◌, ◌-◌, Some, None, sym, ap, ◌∙◌, subst, rules, arith}
+use Rattle.std.proofs.Common.{◌≡◌, ◌≤◌, ◌+◌, ◌-◌, Some, None, sym, ◌∙◌, subst, rules, arith}
 use Rattle.std.specs.Prelude.{slice_get}
 use Rattle.std.specs.List.{filter_map, range_with_len}
 use Rattle.script_text.specs.declared.script.Script.{Script}
@@ -6,10 +6,11 @@ use Rattle.script_text.specs.Scripts.{header_of}
 use Rattle.script_text.specs.Steps.{IsCount, IsStep}
 use Rattle.run_book.specs.Moves.{client_steps, client_turn}
 use Rattle.world_core.specs.Worlds.{WorldView}
-use Rattle.world_core.specs.Dealing.{line_of}
+use Rattle.run_table.specs.Dealing.{line_of}
 use Rattle.world_core.specs.Runs.{MakesMoves}
 use Rattle.world_core.proofs.Making.{client_makes}
-use Rattle.world_core.proofs.Phasing.{client_step_in, line_is, client_took, client_idle}
+use Rattle.run_table.proofs.Allowing.{client_step_in}
+use Rattle.world_core.proofs.Phasing.{line_is, client_took, client_idle}
 use Rattle.world_core.proofs.phases.play_clients.Goals as goal
 use Rattle.world_core.proofs.phases.play_clients.Goals.{in-Some+in_ok-take, in_default}
 

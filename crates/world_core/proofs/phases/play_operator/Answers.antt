@@ -6,7 +6,8 @@ use Rattle.run_book.specs.Moves.{operator_steps, operator_turn, one_or_none}
 use Rattle.world_core.specs.Events.{TakesOrder}
 use Rattle.world_core.specs.Runs.{MakesMoves}
 use Rattle.world_core.proofs.Making.{order_makes}
-use Rattle.world_core.proofs.Phasing.{operator_step_in, operator_took}
+use Rattle.run_table.proofs.Allowing.{operator_step_in}
+use Rattle.world_core.proofs.Phasing.{operator_took}
 use Rattle.world_core.proofs.phases.play_operator.Goals as goal
 
 pub order-requires-clause-fits : goal.order-requires-clause-fits

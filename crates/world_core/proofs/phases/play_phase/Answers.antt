@@ -1,10 +1,8 @@
-use Rattle.std.proofs.Common.{◌≡◌, ◌≤◌, ◌+◌, ◌∙◌, subst, arith}
+use Rattle.std.proofs.Common.{◌≡◌, ◌+◌, subst, arith}
 use Rattle.script_text.specs.declared.script.Script.{Script}
 use Rattle.run_book.specs.Moves.{turn_moves, most_steps}
-use Rattle.world_core.specs.Worlds.{WorldView}
-use Rattle.world_core.specs.Dealing.{IsDealt}
 use Rattle.world_core.specs.Runs.{MakesMoves}
-use Rattle.world_core.proofs.Dealt.{most_few}
+use Rattle.run_table.proofs.Lines.{most_few}
 use Rattle.world_core.proofs.Phasing.{counted_then}
 use Rattle.world_core.proofs.phases.play_phase.Goals as goal
 

@@ -2,7 +2,6 @@ use Rattle.std.proofs.Common.{◌+◌, subst}
 use Rattle.script_text.specs.declared.script.Script.{Script}
 use Rattle.run_book.specs.Moves.{worker_turn}
 use Rattle.world_core.specs.Runs.{MakesMoves}
-use Rattle.world_core.proofs.Making.{makes_none}
 use Rattle.world_core.proofs.Phasing.{counted_then}
 use Rattle.world_core.proofs.phases.play_workers.Goals as goal
 

@@ -1,7 +1,6 @@
 use Rattle.std.proofs.Common.{map, refl, ap, ◌∙◌, subst}
 use Rattle.dc_host.specs.Centres.{CentreTrail}
-use Rattle.world_core.specs.Worlds.{WorldView}
-use Rattle.world_core.specs.Tables.{seen_of}
+use Rattle.world_core.specs.Worlds.{WorldView, seen_of}
 use Rattle.world_core.specs.Runs.{IsWorldBook}
 use Rattle.world_core.proofs.Books.{world_book}
 use Rattle.world_core.proofs.world.World.finish.Goals as goal

@@ -1,7 +1,6 @@
 use Rattle.std.proofs.Common.{ap, ◌∙◌, subst}
 use Rattle.script_text.specs.Steps.{IsCount, IsStep}
-use Rattle.world_core.specs.Worlds.{WorldView}
-use Rattle.world_core.specs.Tables.{seen_of}
+use Rattle.world_core.specs.Worlds.{WorldView, seen_of}
 use Rattle.world_core.specs.Runs.{IsSound}
 use Rattle.world_core.proofs.Naming.{client_named}
 use Rattle.world_core.proofs.world.World.play_client.Goals as goal

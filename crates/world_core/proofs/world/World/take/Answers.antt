@@ -1,7 +1,6 @@
 use Rattle.std.proofs.Common.{◌≡◌, ◌≤◌, ◌<◌, ◌+◌, ◌-◌, false, length, sym, ap, ◌∙◌, subst, arith}
 use Rattle.script_text.specs.Steps.{IsStep}
-use Rattle.world_core.specs.Worlds.{WorldView}
-use Rattle.world_core.specs.Tables.{seen_of}
+use Rattle.world_core.specs.Worlds.{WorldView, seen_of}
 use Rattle.world_core.specs.Events.{TakesStep}
 use Rattle.world_core.specs.Runs.{IsSound}
 use Rattle.world_core.proofs.Worlds.{centre_count, goes_sound}

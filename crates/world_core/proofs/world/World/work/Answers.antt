@@ -1,8 +1,7 @@
-use Rattle.std.proofs.Common.{◌≡◌, ◌≤◌, false, ◌+◌, ◌*◌, length, sym, ap, ◌∙◌, subst, arith}
+use Rattle.std.proofs.Common.{◌≡◌, false, sym, ap, ◌∙◌, subst}
 use Rattle.script_text.specs.Steps.{IsCount}
-use Rattle.world_core.specs.Works.{work_of}
-use Rattle.world_core.specs.Worlds.{WorldView}
-use Rattle.world_core.specs.Tables.{seen_of}
+use Rattle.run_table.specs.Works.{work_of}
+use Rattle.world_core.specs.Worlds.{WorldView, seen_of}
 use Rattle.world_core.specs.Events.{TakesRound, turn_of}
 use Rattle.world_core.specs.Runs.{IsSound}
 use Rattle.world_core.proofs.Worlds.{centre_count, goes_sound}

@@ -1,0 +1,78 @@
+-- A sender's round over the links to the first centres, and over the next one.
+use Rattle.std.proofs.Common.{◌≡◌, ◌≢◌, ◌≤◌, ◌<◌, ◌⊎◌, inl, inr, ℕ, ◌+◌, ◌-◌, ◌==◌, cond, List, [], ◌++◌, length, get_or, set, append_assoc, sym, ap, ◌∙◌}
+use Rattle.std.proofs.lemmas.Bool.{cases_eq, eq-eqb, ne_eqb}
+use Rattle.std.proofs.lemmas.List.{append-nil}
+use Rattle.tx_core.specs.declared.tx.Record.{Record}
+use Rattle.dc_talk.specs.Acting.{Acting}
+use Rattle.mail_link.specs.Ends.{GiverView}
+use Rattle.script_text.specs.Carrying.{route, no_turn}
+use Rattle.script_text.specs.Rounds.{mailed}
+use Rattle.script_text.proofs.Provenance.{carries_both}
+use Rattle.dc_worker.specs.Links.{Posts, outgoing}
+use Rattle.dc_worker.proofs.Work.{adds_none, adds_then}
+use Rattle.dc_worker.proofs.Mailing.{mailed_over, mailed_then, mails_fresh}
+use Rattle.dc_links.specs.Links.{put_to}
+use Rattle.dc_links.specs.Rounds.{SendsOver, SendsTo}
+use Rattle.dc_links.proofs.Places.{seen_at, seen_here, seen_else, places_apart}
+use Rattle.dc_links.proofs.Turns.{turns_next, turns_self}
+
+-- what was put on one link
+pub sends_to : (i to number : ℕ) (givers : List (GiverView Record)) (giver new : GiverView Record) (a b : Acting) → 1 ≤ to → to - 1 < length givers → giver ≡ get_or givers (to - 1) giver → Posts (route i to) number (outgoing a giver.put) (outgoing b new.put) → SendsTo i to givers (set givers (to - 1) new) a b
+sends_to i to number givers giver new a b low lt is posts = record {
+  items = posts.items;
+  mails = posts.mails;
+  put = seen_here put [] givers (to - 1) new lt ∙ (posts.put ∙ ap (λ before. before ++ posts.items) (sym (seen_at put [] givers (to - 1) giver lt is)));
+  rest = λ j least other. seen_else put [] givers (to - 1) (j - 1) new (places_apart to j low least other);
+}
+  where
+    put : GiverView Record → List Record
+    put giver = giver.put
+
+-- over no links
+pub sent_none : (i : ℕ) (givers : List (GiverView Record)) (a : Acting) → SendsOver 0 i givers givers a a
+sent_none i givers a = record {
+  deeds = [];
+  such = no_turn;
+  adds = adds_none a;
+  carries = tt;
+  put = λ to low. sym (append-nil (put_to givers to));
+}
+
+-- over one link more
+pub sent_next : (k i next : ℕ) (old mid new : List (GiverView Record)) (a b c : Acting) → next ≡ k + 1 → next ≢ i → SendsOver k i old mid a b → SendsTo i next mid new b c → SendsOver next i old new a c
+sent_next k i next old mid new a b c is other before one = record {
+  deeds = before.deeds ++ one.mails.deeds;
+  such = turns_next k i next is before.deeds one.mails.deeds other before.such (one.items, one.mails.such);
+  adds = adds_then a b c before.deeds one.mails.deeds before.adds one.mails.adds;
+  carries = carries_both before.deeds one.mails.deeds before.carries one.mails.carries;
+  put = λ to low. each to low (cases_eq to next);
+}
+  where
+    all : ℕ → List Record
+    all to = mailed to (before.deeds ++ one.mails.deeds)
+
+    -- what is mailed grows by the items of the link
+    grown : (to : ℕ) → all to ≡ mailed to before.deeds ++ cond (next == to) one.items []
+    grown to = mailed_then 0 to before.deeds one.mails.deeds (mails_fresh (route i next) one.mails.deeds one.items one.mails.such) ∙ ap (λ more. mailed to before.deeds ++ more) (mailed_over 0 (route i next) one.mails.deeds one.items to one.mails.such)
+
+    each : (to : ℕ) → 1 ≤ to → (to ≡ next) ⊎ (to ≢ next) → put_to new to ≡ put_to old to ++ all to
+    each to low (inl this) =
+        let now : all to ≡ mailed to before.deeds ++ one.items = grown to ∙ ap (λ test. mailed to before.deeds ++ cond test one.items []) (eq-eqb next to (sym this)) in
+        ap (put_to new) this
+        ∙ (one.put
+        ∙ (ap (λ j. put_to mid j ++ one.items) (sym this)
+        ∙ (ap (λ put. put ++ one.items) (before.put to low)
+        ∙ (append_assoc (put_to old to) (mailed to before.deeds) one.items ∙ ap (λ more. put_to old to ++ more) (sym now)))))
+    each to low (inr else) =
+        let now : all to ≡ mailed to before.deeds = grown to ∙ (ap (λ test. mailed to before.deeds ++ cond test one.items []) (ne_eqb next to (λ same. else (sym same))) ∙ append-nil (mailed to before.deeds)) in
+        one.rest to low else ∙ (before.put to low ∙ ap (λ more. put_to old to ++ more) (sym now))
+
+-- but not to the centre itself
+pub sent_self : (k i next : ℕ) (old mid : List (GiverView Record)) (a b : Acting) → next ≡ k + 1 → next ≡ i → SendsOver k i old mid a b → SendsOver next i old mid a b
+sent_self k i next old mid a b is self before = record {
+  deeds = before.deeds;
+  such = turns_self k i next is before.deeds self before.such;
+  adds = before.adds;
+  carries = before.carries;
+  put = before.put;
+}

@@ -1,0 +1,146 @@
+-- What the calls that begin a phase require.
+use Rattle.std.proofs.Common.{◌≡◌, ℕ, suc, ◌+◌, ◌-◌, ◌*◌, ◌≤◌, ◌<◌, List, [], ◌∷◌, map, length, Option, Some, None, refl, sym, ap, ◌∙◌, subst, arith}
+use Rattle.std.specs.Prelude.{slice_get, unwrap_or, All, IfSome}
+use Rattle.std.specs.Option.{option_map}
+use Rattle.std.proofs.lemmas.List.{length-map}
+use Rattle.std.proofs.lemmas.List.FromFn.{length-map-range_with_len}
+use Rattle.std.proofs.lemmas.List.Elements.{All-weaker}
+use Rattle.std.proofs.lemmas.Option.{slice_get_within}
+use Rattle.list_core.proofs.Gets.{In_get}
+use Rattle.list_core.proofs.Members.{In-All}
+use Rattle.ids_core.specs.declared.limits.TheConstants.{MOST_CENTRES, MOST_CLIENTS}
+use Rattle.dc_talk.specs.declared.calls.Connection.{Connection}
+use Rattle.dc_talk.specs.Logs.{Logged}
+use Rattle.dc_talk.specs.Doors.{DoorView, IsBehind}
+use Rattle.dc_host.specs.HostDoors.{CentreHost, CentrePass, ArePasses}
+use Rattle.dc_host.specs.Hosts.{IsHostOf, new_row, new_rows, rows_of}
+use Rattle.dc_host.proofs.Passes.{zip_long}
+use Rattle.dc_host.proofs.Rows.{are_dealt}
+use Rattle.dc_links.specs.Links.{AreGivers, AreTakers}
+use Rattle.mail_link.specs.Ends.{GiverView, TakerView}
+use Rattle.tx_core.specs.declared.tx.Record.{Record}
+use Rattle.script_text.specs.declared.script.Header.{Header}
+use Rattle.script_text.specs.declared.steps.Section.{Section}
+use Rattle.script_text.specs.declared.steps.Step.{Step}
+use Rattle.script_text.specs.declared.steps.Step.TheVariants.{Client, Operator}
+use Rattle.script_text.specs.declared.rounds.Role.{Role}
+use Rattle.script_text.specs.declared.rounds.Role.TheVariants.{Sender, Receiver, Reporter, Pruner}
+use Rattle.script_text.specs.Deeds.{Progress}
+use Rattle.script_text.specs.Steps.{IsCount, IsStepOf}
+use Rattle.script_text.specs.Rows.{IsPhase, IsInPhase}
+use Rattle.script_text.specs.Rounds.{worker_of}
+use Rattle.script_text.specs.Scripts.{header_of, IsInRange}
+use Rattle.script_text.specs.declared.script.Script.{Script}
+use Rattle.run_book.specs.Happenings.{IsLinkWithin}
+use Rattle.run_book.specs.Played.{new_progress}
+use Rattle.run_book.proofs.Happenings.WorkerRounds.{worker_carries}
+use Rattle.run_table.specs.declared.table.Table.{Table}
+use Rattle.run_table.specs.Dealing.{IsOf}
+use Rattle.run_table.specs.Tables.{log_at}
+use Rattle.run_sections.specs.Sections.{actors_of}
+use Rattle.run_sections.proofs.Actors.{carrier_acts, client_acts}
+use Rattle.phase_play.specs.declared.callers.Caller.{Caller}
+use Rattle.phase_play.specs.declared.crews.Crew.{Crew}
+use Rattle.phase_play.specs.declared.clients.Player.{Player}
+use Rattle.phase_play.specs.declared.scene.Scene.{Scene}
+use Rattle.phase_play.specs.Scenes.{IsScene}
+use Rattle.phase_play.specs.Playing.{seen_by}
+use Rattle.phase_play.specs.Casts.{IsCallerOf, IsSenderOf, IsReceiverOf, IsCrewOf, IsPlayerOf, IsCast}
+use Rattle.thread_run.specs.Tables.{notes_at, come_of, between_of}
+use Rattle.thread_run.proofs.Zips.{get_image}
+use Rattle.thread_run.proofs.Callers.{Stands, caller_as, player_stands, worker_stands}
+use Rattle.thread_run.proofs.Redeeming.{rows_in, new_at}
+use Rattle.thread_run.proofs.Carrying.{row_there}
+use Rattle.thread_run.proofs.Playing.{IsPhaseBegun, numbered, count_of, centres_count, before, log_before}
+
+-- the steps of a phase are of its clients and its operator
+pub steps_dealt : (script : Script) (section : Section) → IsPhase (header_of script) section → All (IsOf script.clients) section.steps
+steps_dealt script section phase = All-weaker (λ step. IsStepOf (header_of script) step × IsInPhase step) (IsOf script.clients) each section.steps phase.steps
+  where
+    each : (step : Step) → IsStepOf (header_of script) step × IsInPhase step → IsOf script.clients step
+    each (Client client step) is = is.0.0
+    each (Operator step) is = tt
+
+-- there are callers, and no more than a host may have
+pub actors_few : (script : Script) → IsInRange script → (1 ≤ actors_of script) × (actors_of script ≤ 4096)
+actors_few script range = (omega arith, omega (arith, range.header.clients.1, range.header.n.1))
+
+-- a link to one of so many centres is behind a door to all of them
+link_behind : (n : ℕ) (door : DoorView) (link : Option Connection) → door.centres ≡ n → IsLinkWithin n link → IfSome link (λ link. IsBehind door link.centre)
+link_behind n door None count within = tt
+link_behind n door (Some link) count within = (within.0, omega (arith, within.1, count))
+
+module _ (scene : Scene) (old : Table) (b : IsPhaseBegun scene old) where
+  -- there is a host for each centre
+  pub hosts_count : length scene.hosts.now.hosts ≡ scene.script.now.n
+  hosts_count = sym (zip_long IsHostOf old.door.centres scene.hosts.now.hosts b.opened) ∙ centres_count scene old b
+
+  pub is_scene : IsScene scene
+  is_scene = record { phase = record { range = b.range; phase = b.phase; steps_are = b.dealt }; hosts = hosts_count; links = b.links }
+
+  -- an actor begins with new passes of its number
+  begins_new : (a : ℕ) (c : Caller) → 1 ≤ a → Stands (before scene old b) a c → c.row.items ≡ new_row scene.hosts.now.hosts a
+  begins_new a c low there =
+      let place : 1 + (a - 1) ≡ a = omega (arith, low) in
+      let rows : rows_in (before scene old b) ≡ new_rows scene.hosts.now.hosts 1 (actors_of scene.script.now) = ap rows_of b.cast_is.callers.rows_are ∙ b.rows_new in
+      subst (λ k. c.row.items ≡ new_row scene.hosts.now.hosts k) place (new_at scene.hosts.now.hosts (actors_of scene.script.now) (before scene old b) [] rows (a - 1) c there)
+
+  -- so it is a caller of the hosts
+  caller_is : (a : ℕ) (c : Caller) → IsCount (actors_of scene.script.now) a → Stands (before scene old b) a c → IsCallerOf scene c
+  caller_is a c range there =
+      let actor : c.log.actor ≡ a = sym (ap (λ (log : Logged). log.actor) (log_before scene old b a c range.0 there)) ∙ b.table.actors a range in
+      subst (λ k. ArePasses scene.hosts.now.hosts k c.row.items) (sym actor) (are_dealt scene.hosts.now.hosts a c.row.items (begins_new a c range.0 there))
+
+  -- a worker is one
+  worker_is : (i : ℕ) (role : Role) (crew : Crew) → IsCount scene.script.now.n i → slice_get b.cast.crews.items (i - 1) ≡ Some crew → IsCallerOf scene (caller_as role crew)
+  worker_is i role crew range there =
+      let a : ℕ = worker_of scene.script.now.clients i role in
+      caller_is a (caller_as role crew) (carrier_acts scene.script.now a (worker_carries scene.script.now.n scene.script.now.clients i role range))
+      (worker_stands b.cast.operator b.cast.clients.items b.cast.crews.items scene.script.now.clients i role crew (count_of (λ (p : Player). p.client) b.cast.clients.items scene.script.now.clients b.cast_is.numbers) there)
+
+  -- the workers of a centre
+  crew_is : (i : ℕ) (crew : Crew) → IsCount scene.script.now.n i → slice_get b.cast.crews.items (i - 1) ≡ Some crew → IsCrewOf scene crew
+  crew_is i crew range there =
+      let number : crew.centre ≡ i = numbered (λ (c : Crew). c.centre) b.cast.crews.items scene.script.now.n i crew b.cast_is.crews.numbers range there in
+      let among : IsCount (length scene.links.now) i = (range.0, omega (arith, range.1, b.links)) in
+      let givers : AreGivers scene.links.now i crew.sender.givers.items = subst (λ (row : List (GiverView Record)). AreGivers scene.links.now i row) (row_there (λ (c : Crew). c.sender.givers) b.cast.crews.items b.parts.givers.items (i - 1) crew b.cast_is.crews.givers_are there) (b.givers.each i among) in
+      let takers : AreTakers scene.links.now i crew.receiver.takers.items = subst (λ (row : List (TakerView Record)). AreTakers scene.links.now i row) (row_there (λ (c : Crew). c.receiver.takers) b.cast.crews.items b.parts.takers.items (i - 1) crew b.cast_is.crews.takers_are there) (b.takers.each i among) in
+      let inlets : length crew.receiver.inlets.items ≡ scene.script.now.n = sym (ap length (row_there (λ (c : Crew). c.receiver.inlets) b.cast.crews.items b.parts.inlets.items (i - 1) crew b.cast_is.crews.inlets_are there)) ∙ b.lent.rows_are i range in
+      record {
+        centre = subst (IsCount scene.script.now.n) (sym number) range;
+        sender = subst (λ k. IsSenderOf scene k crew.sender) (sym number) (record { caller = worker_is i Sender crew range there; givers = givers });
+        receiver = subst (λ k. IsReceiverOf scene k crew.receiver) (sym number) (record { caller = worker_is i Receiver crew range there; takers = takers; inlets = inlets });
+        reporter = worker_is i Reporter crew range there;
+        pruner = worker_is i Pruner crew range there;
+      }
+
+  -- a client
+  player_is : (client : ℕ) (player : Player) → IsCount scene.script.now.clients client → slice_get b.cast.clients.items (client - 1) ≡ Some player → IsPlayerOf scene player
+  player_is client player range there =
+      let number : player.client ≡ client = numbered (λ (p : Player). p.client) b.cast.clients.items scene.script.now.clients client player b.cast_is.numbers range there in
+      let stands : Stands (before scene old b) (client + 1) player.caller = player_stands b.cast.operator b.cast.clients.items b.cast.crews.items client player range.0 there in
+      let stub : slice_get old.stubs.items (client - 1) ≡ Some player.stub = ap (λ stubs. slice_get stubs (client - 1)) (sym b.stubs_are ∙ sym b.cast_is.stubs) ∙ get_image (λ (p : Player). p.stub) b.cast.clients.items (client - 1) player there in
+      let come : (between_of scene.script.now old).come client ≡ come_of (notes_at old (client + 1)) player.stub = ap (λ found. unwrap_or (option_map (come_of (notes_at old (client + 1))) found) (new_progress scene.script.now.n client scene.script.now.cache)) stub in
+      let link : IsLinkWithin scene.script.now.n player.stub.client.link = subst (λ (c : Progress). IsLinkWithin scene.script.now.n c.client.link) come (b.linked client range) in
+      let count : length player.caller.row.items ≡ scene.script.now.n = ap length (begins_new (client + 1) player.caller (omega arith) stands) ∙ (length-map scene.hosts.now.hosts _ ∙ hosts_count) in
+      record {
+        client = subst (IsCount scene.script.now.clients) (sym number) range;
+        caller = caller_is (client + 1) player.caller (client_acts scene.script.now client range) stands;
+        linked = link_behind scene.script.now.n (seen_by player.caller).door player.stub.client.link count link;
+      }
+
+  -- all actors
+  pub is_cast : IsCast scene b.cast
+  is_cast = record {
+    operator = caller_is 1 b.cast.operator (omega arith, omega arith) refl;
+    clients = In-All (IsPlayerOf scene) b.cast.clients.items (λ player there.
+        let at = In_get b.cast.clients.items player there in
+        let count = count_of (λ (p : Player). p.client) b.cast.clients.items scene.script.now.clients b.cast_is.numbers in
+        let place : at.0 ≡ at.0 + 1 - 1 = omega arith in
+        player_is (at.0 + 1) player (omega arith, omega (arith, slice_get_within b.cast.clients.items at.0 player at.1, count)) (subst (λ k. slice_get b.cast.clients.items k ≡ Some player) place at.1));
+    crews = In-All (IsCrewOf scene) b.cast.crews.items (λ crew there.
+        let at = In_get b.cast.crews.items crew there in
+        let count = count_of (λ (c : Crew). c.centre) b.cast.crews.items scene.script.now.n b.cast_is.crews.numbers in
+        let place : at.0 ≡ at.0 + 1 - 1 = omega arith in
+        crew_is (at.0 + 1) crew (omega arith, omega (arith, slice_get_within b.cast.crews.items at.0 crew at.1, count)) (subst (λ k. slice_get b.cast.crews.items k ≡ Some crew) place at.1));
+  }

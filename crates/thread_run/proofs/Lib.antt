@@ -1,0 +1,12 @@
+pub mod Zips
+pub mod Callers
+pub mod Redeeming
+pub mod Carrying
+pub mod Playing
+pub mod Sectioning
+pub mod PlayedPhases
+pub mod Beginning
+pub mod Ending
+pub mod Crews
+pub mod Ends
+pub mod Halving

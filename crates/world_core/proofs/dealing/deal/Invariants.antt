@@ -1,6 +1,0 @@
-use Rattle.std.proofs.Common.{take}
-use Rattle.world_core.specs.Dealing.{IsDealt}
-use Rattle.world_core.proofs.dealing.deal.Given as goal
-
-abbrev pub invariant-steps : goal.invariant-steps
-invariant-steps l = IsDealt l.clients (take l.step-index l.steps) l.dealt

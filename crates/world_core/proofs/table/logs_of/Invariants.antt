@@ -1,6 +1,0 @@
-use Rattle.std.proofs.Common.{◌≡◌, ◌-◌}
-use Rattle.world_core.specs.Tables.{new_logs}
-use Rattle.world_core.proofs.table.logs_of.Given as goal
-
-abbrev pub invariant-actors : goal.invariant-actors
-invariant-actors l = l.logs.items ≡ new_logs (l.actor - 1)
