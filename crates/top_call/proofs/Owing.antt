@@ -195,18 +195,17 @@ end_met form new bytes past owed play limits whole (Done d) zero =
 end_met form new bytes past owed play limits whole (Refused r) zero = absurd (omega (arith, zero, r.status))
 end_met form new bytes past owed play limits whole (Misused u) zero = absurd (omega (arith, zero, u.status))
 
--- a run of what a source had left, by a form that is the same
-run_left : (form again : Form) (left other : Option (List ℕ)) (book : Book) → form ≡ again → left ≡ other → IsCausalRun form left book → IsCausalRun again other book
-run_left form again left other book same_form same run = subst (λ f. IsCausalRun f other book) same_form (subst (λ l. IsCausalRun form l book) same run)
+-- a run of what a source had left
+abbrev run_left : (form : Form) (left other : Option (List ℕ)) (book : Book) → left ≡ other → IsCausalRun form left book → IsCausalRun form other book
+run_left form left other book same run = record { bytes = run.bytes; input = subst (λ l. IfSome l (λ all. all ≡ run.bytes)) same run.input; script = run.script; spelled = run.spelled; run = run.run; causal = run.causal }
 
--- what is owed for a script is owed for the words that play it, whatever the sink has
-pub owed_given : (form : Form) (given : Given) (left : Option (List ℕ)) (owed : Owed) → IsPlay form → given.words ≡ spelled form → given.left ≡ left → IsOwed (given_form form left) owed → IsOwed given owed
-owed_given form given left owed play spells same (Done d) = Done (Played (record { asked = p.asked; form = spells ∙ p.form; status = p.status; run = run_left p.asked p.asked left given.left owed.book refl (sym same) p.run; text = p.text; sound = p.sound }))
-  where
-    p : IsPlayed (given_form form left) owed
-    p = played_of (given_form form left) owed (plays_by (spelled form) form refl play) d
-owed_given form given left owed play spells same (Refused r) = Refused (record { form = plays_by given.words form spells play; status = r.status; line = r.line; cause = r.cause; refused = subst (λ l. IsRefusedAt l r.line r.cause) (sym same) r.refused; text = r.text; book = r.book; told = r.told })
-owed_given form given left owed play spells same (Misused u) = absurd (u.form form (play_known form play) refl)
+-- what is owed for the words of a form is owed whatever the sink has
+pub owed_given : (form : Form) (given : Given) (left : Option (List ℕ)) (owed : Owed) → given.words ≡ spelled form → given.left ≡ left → IsOwed (given_form form left) owed → IsOwed given owed
+owed_given form given left owed spells same (Done (Played p)) = Done (Played (record { asked = p.asked; form = spells ∙ p.form; status = p.status; run = run_left p.asked left given.left owed.book (sym same) p.run; text = p.text; sound = p.sound }))
+owed_given form given left owed spells same (Done (Made m)) = Done (Made (record { num = m.num; known = m.known; form = spells ∙ m.form; status = m.status; text = m.text; book = m.book; sound = m.sound }))
+owed_given form given left owed spells same (Done (Told t)) = Done (Told (record { question = t.question; form = spells ∙ t.form; status = t.status; text = t.text; book = t.book; sound = t.sound }))
+owed_given form given left owed spells same (Refused r) = Refused (record { form = record { asked = r.form.asked; plays = r.form.plays; form = spells ∙ r.form.form }; status = r.status; line = r.line; cause = r.cause; refused = subst (λ l. IsRefusedAt l r.line r.cause) (sym same) r.refused; text = r.text; book = r.book; told = r.told })
+owed_given form given left owed spells same (Misused u) = Misused (record { form = λ other known is. u.form other known (sym spells ∙ is); status = u.status; text = u.text; book = u.book; sound = u.sound })
 
 -- ---- the ends
 
@@ -310,7 +309,7 @@ ends_complete given ended taken asks no_read no_write ends = by_status ends.stat
 
 -- where a script was to be played and the run ended well, its book is causal
 pub ends_causal : (given : Given) (ended : Ended) (taken : Option (List ℕ)) → EndsSo given ended taken → ended.status ≡ 0 → (play : Plays given.words) → IsCausalRun play.asked given.left ended.book
-ends_causal given ended taken ends zero play = subst (IsCausalRun play.asked given.left) (sym wrote.book) (run_left p.asked play.asked given.left given.left wrote.owed.book same refl p.run)
+ends_causal given ended taken ends zero play = subst (IsCausalRun play.asked given.left) (sym wrote.book) (subst (λ form. IsCausalRun form given.left wrote.owed.book) same p.run)
   where
     wrote : Wrote IsDone given ended taken
     wrote = ends.done zero

@@ -184,8 +184,8 @@ pub fn swift_main<R: Threads + Wait + Sync, S: Source, W: Sink, G: Gate>(
     // 0: the words have a form. Where it is one that plays a script, all that the source had is a script that was
     // played, the book is one that the form leaves of it, and the sink took the text of that book, and of its trails
     // where they were asked for. `serial` leaves a run on one thread; `run` one section by section, where the actors of
-    // a phase did all that is theirs and no more, each in its order, in whatever order among them. Of a number the sink took the script that is made of it, and of a question the text that answers it;
-    // then the book is empty.
+    // a phase did all that is theirs and no more, each in its order, in whatever order among them. Of a number the sink
+    // took the script that is made of it, and of a question the text that answers it; then the book is empty.
     ensures success { result.status ≡ 0 → Wrote IsDone (given_by words.now (S.left source.old) (W.taken sink.old)) result (W.taken sink.new) }
 
     ensures read_to_end { result.status ≡ 0 → Plays (texts words.now) → IfSome (S.left source.new) (λ rest. rest ≡ []) }

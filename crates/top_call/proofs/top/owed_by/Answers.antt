@@ -1,0 +1,6 @@
+use Rattle.top_call.proofs.Owing.{owed_given}
+use Rattle.top_call.proofs.top.owed_by.Goals as goal
+
+pub returns-in_ok-owed-in-Run-clause-owed : goal.returns-in_ok-owed-in-Run-clause-owed
+returns-in_ok-owed-in-Run-clause-owed g c given words left =
+    owed_given c.args.form given (g.S.Source.left c.args.source.now) c.in_ok-owed-in-Run.owed words left c.in_ok-owed-in-Run.ensures.owed
