@@ -2,7 +2,9 @@
 use io_edge::{FreeGate, MemorySink, MemorySource, SteadySink, SteadySource};
 use script_reader::Cause;
 use std::alloc::{AllocError, Global};
+use std::sync::Wait;
 use std::test::Fail;
+use std::thread::Threads;
 use top_call::{Ended, Fault, swift_main};
 
 const FIRST_PATH: &[u8] =
@@ -32,18 +34,22 @@ fn serial(alloc: Global) -> Result<Vec<String>, AllocError> {
 }
 
 // A run of a script into a sink, where no read fails.
-fn played(rt: HostRuntime, script: &[u8], sink: &mut MemorySink) -> Result<Ended, AllocError> {
-    let alloc = rt.alloc();
+fn played<R: Threads + Wait + Sync>(
+    rt: &R,
+    alloc: Global,
+    script: &[u8],
+    sink: &mut MemorySink,
+) -> Result<Ended, AllocError> {
     let words = serial(alloc)?;
     let mut source = SteadySource::new(Vec::from_slice(alloc, script)?);
-    Ok(swift_main(&rt, alloc, &words, &mut source, sink, &FreeGate))
+    Ok(swift_main(rt, alloc, &words, &mut source, sink, &FreeGate))
 }
 
 #[test]
 fn a_block_is_played_from_begin_to_refresh(rt: HostRuntime) -> Result<(), Fail> {
     let alloc = rt.alloc();
     let mut sink = MemorySink::new(alloc, 64, Vec::new(alloc));
-    let ended = played(rt, FIRST_PATH, &mut sink)?;
+    let ended = played(&rt, alloc, FIRST_PATH, &mut sink)?;
     assert_eq!(rt; ended.status, 0);
     assert_eq!(rt; sink.bytes(), FIRST_TEXT);
     assert_eq!(rt; ended.book.trails.as_slice().len(), 1);
@@ -92,7 +98,7 @@ fn a_number_is_answered_without_an_input(rt: HostRuntime) -> Result<(), Fail> {
 #[test]
 fn an_input_that_is_no_script_is_refused(rt: HostRuntime) -> Result<(), Fail> {
     let mut sink = MemorySink::new(rt.alloc(), 64, Vec::new(rt.alloc()));
-    let ended = played(rt, b"centres 1 k 1\n", &mut sink)?;
+    let ended = played(&rt, rt.alloc(), b"centres 1 k 1\n", &mut sink)?;
     assert_eq!(rt; ended.status, 3);
     assert_eq!(rt; sink.bytes(), b"refused line 2 place\n".as_slice());
     assert!(rt;
@@ -133,13 +139,17 @@ fn reading_stops_past_the_limits(rt: HostRuntime) -> Result<(), Fail> {
 
 // A run of the first path whose source moves so many bytes a call and fails at one of them: nothing is
 // written, and no call follows that one.
-fn stops_reading(rt: HostRuntime, step: usize, call: u64) -> Result<bool, AllocError> {
-    let alloc = rt.alloc();
+fn stops_reading<R: Threads + Wait + Sync>(
+    rt: &R,
+    alloc: Global,
+    step: usize,
+    call: u64,
+) -> Result<bool, AllocError> {
     let words = serial(alloc)?;
     let fails = vec![in alloc; call]?;
     let mut source = MemorySource::new(Vec::from_slice(alloc, FIRST_PATH)?, step.max(1), fails);
     let mut sink = MemorySink::new(alloc, 64, Vec::new(alloc));
-    let ended = swift_main(&rt, alloc, &words, &mut source, &mut sink, &FreeGate);
+    let ended = swift_main(rt, alloc, &words, &mut source, &mut sink, &FreeGate);
     Ok(ended.status == 4 && source.calls() == call && sink.calls() == 0)
 }
 
@@ -148,7 +158,7 @@ fn each_read_may_fail(rt: HostRuntime) -> Result<(), Fail> {
     // The script has 100 bytes, and one more read finds the end.
     for (step, last) in [(1, 101), (7, 16), (16, 8)] {
         for call in 1..=last {
-            assert!(rt; stops_reading(rt, step, call)?);
+            assert!(rt; stops_reading(&rt, rt.alloc(), step, call)?);
         }
     }
     Ok(())
@@ -156,16 +166,16 @@ fn each_read_may_fail(rt: HostRuntime) -> Result<(), Fail> {
 
 // A run of the first path whose sink takes so many bytes a call and fails at one of them: it has the
 // bytes of the calls before, and no call follows that one.
-fn stops_writing(
-    rt: HostRuntime,
+fn stops_writing<R: Threads + Wait + Sync>(
+    rt: &R,
+    alloc: Global,
     step: usize,
     call: u64,
     taken: usize,
 ) -> Result<bool, AllocError> {
-    let alloc = rt.alloc();
     let fails = vec![in alloc; call]?;
     let mut sink = MemorySink::new(alloc, step.max(1), fails);
-    let ended = played(rt, FIRST_PATH, &mut sink)?;
+    let ended = played(rt, alloc, FIRST_PATH, &mut sink)?;
     let front = match FIRST_TEXT.get(..taken) {
         Some(front) => sink.bytes() == front,
         None => false,
@@ -179,7 +189,7 @@ fn each_write_may_fail(rt: HostRuntime) -> Result<(), Fail> {
     for (step, last) in [(1, 70), (7, 10), (16, 5), (20, 4)] {
         let mut taken = 0;
         for call in 1..=last {
-            assert!(rt; stops_writing(rt, step, call, taken)?);
+            assert!(rt; stops_writing(&rt, rt.alloc(), step, call, taken)?);
             taken = taken.saturating_add(step);
         }
     }
