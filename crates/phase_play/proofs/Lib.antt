@@ -1,3 +1,4 @@
 pub mod Growing
 pub mod Rounds
 pub mod Turns
+pub mod Passing

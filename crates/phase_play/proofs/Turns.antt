@@ -17,10 +17,12 @@ use Rattle.client_stub.specs.Playing.{StubView, beside, Takes, IsLinkBehind}
 use Rattle.run_book.specs.Moves.{client_steps}
 use Rattle.run_book.specs.Happenings.{ClientDoes}
 use Rattle.run_table.proofs.Allowing.{allows_does}
-use Rattle.run_sections.specs.Orders.{deeds_of, ClientGoes}
+use Rattle.run_book.proofs.Happenings.Playing.{all_at}
+use Rattle.run_sections.specs.Orders.{deeds_of, none_left, ClientGoes}
+use Rattle.run_sections.proofs.Orders.{order_more}
 use Rattle.run_sections.proofs.InTurn.{client_behind, client_comes}
 use Rattle.phase_play.specs.Clients.{ClientAt, client_at, come_to, PlaysClient, HasTurned}
-use Rattle.phase_play.proofs.Growing.{log_at_step, marked_all, turn_deeds, plays_none, plays_more}
+use Rattle.phase_play.proofs.Growing.{acted_none, acted_more, log_at_step, marked_all, turn_deeds}
 
 -- ---- the first steps of a list
 
@@ -102,14 +104,18 @@ module _ (section : Section) (number turn client : ℕ) (first : ClientAt) (stub
       let may : ClientDoes stub.client log.notes mine = allows_does number turn stub.client (log_at_step number turn log) deeds refl refl takes.grows.allowed in
       subst (λ steps. PlaysClient number steps first last) longer (record {
         client = was.client;
-        plays = plays_more ClientGoes number turn (come_to first) (come_to mid) (come_to last) (take (turn - 1) steps) step first.acting mid.acting last.acting deeds place was.plays leaves goes;
+        plays = record {
+          mine = was.plays.mine ++ mine;
+          acted = acted_more number turn first.acting mid.acting last.acting was.plays.mine deeds was.plays.acted leaves;
+          order = order_more ClientGoes number 1 turn (come_to first) (come_to mid) (come_to last) (take (turn - 1) steps) step was.plays.mine mine place was.plays.order (all_at number turn deeds) goes;
+        };
         allowed = does_then first.stub.client first.acting.log.notes was.plays.mine mine was.allowed (subst (λ s. ClientDoes s (first.acting.log.notes ++ was.plays.mine) mine) before.0 (subst (λ notes. ClientDoes stub.client notes mine) was.plays.acted.log may));
         linked = linked;
       })
 
 -- no turn was taken yet
 pub turn_none : (section : Section) (number : ℕ) (c : ClientAt) → IsLinkBehind c.acting.door c.stub.client → HasTurned section number 0 c c
-turn_none section number c linked = record { client = refl; plays = plays_none ClientGoes number (come_to c) c.acting; allowed = tt; linked = linked }
+turn_none section number c linked = record { client = refl; plays = record { mine = []; acted = acted_none c.acting; order = none_left }; allowed = tt; linked = linked }
 
 -- all turns that a client has were taken
 pub turns_all : (section : Section) (number turns : ℕ) (a b : ClientAt) → length (client_steps a.client section) ≤ turns → HasTurned section number turns a b → PlaysClient number (client_steps a.client section) a b

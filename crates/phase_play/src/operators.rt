@@ -14,23 +14,24 @@ use dc_host::HostDoor;
 use dc_talk::{Door, Log};
 use ids_core::NoMemory;
 use io_edge::Gate;
-use script_text::OperatorStep;
+use run_table::Dealt;
 use std::sync::Wait;
 
-// The steps of the operator of `n` centres through a door, one after another.
+// The steps that were dealt to the operator of `n` centres, through a door, one after another.
 fn take_orders<D: Door>(
     door: &mut D,
     n: u8,
     section: u32,
-    steps: &[OperatorStep],
+    dealt: &Dealt,
     log: &mut Log,
 ) -> Result<(), NoMemory>
     requires centres { (D.shown door.old).centres ≡ n }
-    requires steps { All (IsOperatorStep n) steps.now }
-    requires few { length steps.now < 2 ^ 32 }
+    requires steps { All (IsOperatorStep n) dealt.now.operator.items }
+    requires few { length dealt.now.operator.items < 2 ^ 32 }
     ensures place { D.place door.new ≡ D.place door.old }
-    ensures plays { OnOk result (PlaysOperator n section steps.now (acting (D.shown door.old) log.old) (acting (D.shown door.new) log.new)) }
+    ensures plays { OnOk result (PlaysOperator n section dealt.now.operator.items (acting (D.shown door.old) log.old) (acting (D.shown door.new) log.new)) }
 {
+    let steps = dealt.operator_line();
     let mut number = 0;
     'steps: for step in steps {
         number += 1;
@@ -57,7 +58,7 @@ pub(crate) fn operate_through<R: Wait, G: Gate>(
         &mut door,
         scene.script.n,
         scene.number,
-        scene.dealt.operator_line(),
+        scene.dealt,
         &mut log,
     )?;
     let row = door.part();
