@@ -56,6 +56,10 @@ seated seat = client_at seat.client seat.stub (shown_over seat.door) seat.log
 abbrev pub seat_of : Player → SeatView
 seat_of p = record { client = p.client; stub = p.stub; door = record { actor = p.caller.log.actor; passes = p.caller.row.items }; log = p.caller.log }
 
+-- the player that got up from a seat, whose door is the actor's of its log
+abbrev pub HasStood : SeatView → Player → Type 0
+HasStood seat player = seat.door.actor ≡ seat.log.actor → seat_of player ≡ seat
+
 -- a client of so many, before so many centres
 pub record IsSeat (n clients : ℕ) (seat : SeatView) : Type 0 where
   pub client : IsCount clients seat.client

@@ -1,10 +1,10 @@
 // The clients of a phase, some of them in one thread, which take their steps in turns.
-ghost use Rattle.std.specs.Prelude.{◌≡◌, ◌≤◌, ◌-◌, IfOk, OnOk, All};
+ghost use Rattle.std.specs.Prelude.{◌≡◌, ◌≤◌, ◌-◌, map, IfOk, OnOk, All};
 ghost use Rattle.std.specs.List.{AllZip};
 ghost use Rattle.script_text.specs.Steps.{IsCount};
 ghost use Rattle.client_stub.specs.Playing.{IsLinkBehind};
 ghost use Rattle.phase_play.specs.Scenes.{IsScene};
-ghost use Rattle.phase_play.specs.Clients.{ClientAt, client_at, HasTurned, seat_of};
+ghost use Rattle.phase_play.specs.Clients.{ClientAt, client_at, HasTurned, seat_of, HasStood};
 ghost use Rattle.phase_play.specs.Casts.{IsPlayerOf, HasTakenSteps, IsSeatOf, HasTurnedSeat, HasSeatCome};
 
 use crate::callers::Caller;
@@ -165,7 +165,7 @@ fn sit<'a, R: Wait, G: Gate>(
 
 // Its passes, its log and its stub back.
 fn stand<R, G: Gate>(seat: Seat<'_, R, G>) -> Player
-    ensures { seat_of result ≡ seat.entry }
+    ensures { HasStood seat.entry result }
 {
     let Seat {
         client,
@@ -183,6 +183,37 @@ fn stand<R, G: Gate>(seat: Seat<'_, R, G>) -> Player
     }
 }
 
+// All of them before new doors.
+fn sit_all<'a, R: Wait, G: Gate>(
+    rt: &'a R,
+    alloc: Global,
+    scene: Scene<'a>,
+    gate: &'a G,
+    players: Vec<Player>,
+) -> Result<Vec<Seat<'a, R, G>>, NoMemory>
+    requires scene { IsScene scene }
+    requires players { All (IsPlayerOf scene) players.items }
+    ensures are { IfOk result (λ seats. All (IsSeatOf scene.entry) seats.items) }
+    ensures seats { IfOk result (λ seats. seats.items ≡ map seat_of players.items) }
+{
+    let mut seats = Vec::with_capacity(alloc, players.len())?;
+    'players: for player in players {
+        seats.push(sit(rt, scene, gate, player))?;
+    }
+    Ok(seats)
+}
+
+// The players of all seats.
+fn stand_all<R, G: Gate>(alloc: Global, seats: Vec<Seat<'_, R, G>>) -> Result<Vec<Player>, NoMemory>
+    ensures { IfOk result (λ players. AllZip HasStood seats.entry.items players.items) }
+{
+    let mut players = Vec::with_capacity(alloc, seats.len())?;
+    'seats: for seat in seats {
+        players.push(stand(seat))?;
+    }
+    Ok(players)
+}
+
 /// The steps of some clients over the hosts, taken in turns in one thread: each client is a caller of its own. After an
 /// `Err`, want of memory, their passes are gone.
 pub(crate) fn play_clients<R: Wait, G: Gate>(
@@ -196,14 +227,7 @@ pub(crate) fn play_clients<R: Wait, G: Gate>(
     requires players { All (IsPlayerOf scene) players.items }
     ensures { IfOk result (λ played. AllZip (HasTakenSteps scene.entry) players.items played.items) }
 {
-    let mut seats = Vec::with_capacity(alloc, players.len())?;
-    'players: for player in players {
-        seats.push(sit(rt, scene, gate, player))?;
-    }
+    let seats = sit_all(rt, alloc, scene, gate, players)?;
     let seats = take_turns(alloc, scene, scene.dealt.longest() as u32, seats)?;
-    let mut played = Vec::with_capacity(alloc, seats.len())?;
-    'seats: for seat in seats {
-        played.push(stand(seat))?;
-    }
-    Ok(played)
+    stand_all(alloc, seats)
 }
