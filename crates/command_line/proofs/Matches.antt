@@ -1,26 +1,30 @@
 -- What `clap` makes of the words that spell a command.
-use Rattle.std.proofs.Common.{◌≡◌, ◌<◌, ◌≤◌, ◌∙◌, ℕ, Bool, true, false, List, [], ◌∷◌, Option, Some, None, unwrap_or, get_or, arith, inl, inr, ◌⊎◌, true≢false, is_some, refl, sym, ap, subst, codes, decimal}
+use Rattle.std.proofs.Common.{◌≡◌, ◌<◌, ◌≤◌, ◌∙◌, ℕ, Bool, true, false, List, [], ◌∷◌, Option, Some, None, unwrap_or, get_or, arith, refl, sym, ap, subst, codes, decimal}
 use Rattle.clap.specs.Words.{Row, Text, first_of, one_of, subcommand_name_of, subcommand_of, subcommand_rows_of, takes}
 use Rattle.clap.specs.declared.parser.matches.ArgMatches.{ArgMatches}
 use Rattle.clap.specs.declared.parser.matches.ArgMatches.TheViews.{out-ArgMatches}
 use Rattle.clap.proofs.OnLiterals.{clap_on_literals}
 use Rattle.std.specs.Option.{option_map}
+use Rattle.std.proofs.lemmas.Option.{none-some}
 use Rattle.command_line.specs.Apps.{program_app}
 use Rattle.command_line.specs.Forms.{IsCommand, flag_text, spelled}
 use Rattle.command_line.specs.declared.form.Form.{Form}
-use Rattle.command_line.specs.declared.form.Form.TheVariants.{Serial, Make, Help, Version}
+use Rattle.command_line.specs.declared.form.Form.TheVariants.{Run, Serial, Make, Help, Version}
 use Rattle.command_line.proofs.Numbers.{begins, by_digit}
 
 abbrev make_words : Text → List Text
 make_words num = codes "make" ∷ num ∷ []
 
-pub serial_taken : takes program_app (codes "serial" ∷ []) ≡ true
+-- `clap` takes `run` and `serial`, with the flag or without
+run_taken : (trail : Bool) → takes program_app (spelled (Run trail)) ≡ true
 unfolding clap_on_literals
-serial_taken = refl
+run_taken true = refl
+run_taken false = refl
 
-pub trail_taken : takes program_app (codes "serial" ∷ codes "--trail" ∷ []) ≡ true
+serial_taken : (trail : Bool) → takes program_app (spelled (Serial trail)) ≡ true
 unfolding clap_on_literals
-trail_taken = refl
+serial_taken true = refl
+serial_taken false = refl
 
 abbrev IsMakeTaken : ℕ → Type 0
 IsMakeTaken d = (ds : List ℕ) → takes program_app (make_words (d ∷ ds)) ≡ true
@@ -65,7 +69,12 @@ make_found num one most =
     let text = begins num one most in
     subst (λ word. Finds (make_words word) (codes "make") num_in word) (sym text.is) (finds_at text.digit text.above text.below text.rest)
 
--- `serial` finds whether its flag is there
+-- `run` and `serial` find whether their flag is there
+run_found : (trail : Bool) → Finds (spelled (Run trail)) (codes "run") trail_in (flag_text trail)
+unfolding clap_on_literals
+run_found true = (refl, refl)
+run_found false = (refl, refl)
+
 serial_found : (trail : Bool) → Finds (spelled (Serial trail)) (codes "serial") trail_in (flag_text trail)
 unfolding clap_on_literals
 serial_found true = (refl, refl)
@@ -73,8 +82,8 @@ serial_found false = (refl, refl)
 
 -- `clap` takes the words of each command
 pub command_taken : (form : Form) → IsCommand form → takes program_app (spelled form) ≡ true
-command_taken (Serial true) fits = trail_taken
-command_taken (Serial false) fits = serial_taken
+command_taken (Run trail) fits = run_taken trail
+command_taken (Serial trail) fits = serial_taken trail
 command_taken (Make num) fits = make_taken num fits.0 fits.1
 command_taken Help fits = absurd fits
 command_taken Version fits = absurd fits
@@ -90,17 +99,47 @@ some_inj x y e = ap (λ o. unwrap_or o x) e
 pub name_is : (m : ArgMatches) → subcommand_name_of m ≡ name_in (subcommand_rows_of m)
 name_is m = map_twice _ _ (out-ArgMatches m).subcommand
 
-differ : codes "serial" ≡ codes "make" → ⊥
-differ e = let bad : 115 ≡ 109 = ap (λ (t : List ℕ). get_or t 0 0) e in absurd (omega (arith, bad))
+-- the name of a command, the first of its words
+abbrev name_of : Form → Text
+name_of form = get_or (spelled form) 0 []
 
--- where `serial` was found, the words spell it with the flag or without
+-- of the words of a command its name is found
+finds_name : (form : Form) → IsCommand form → name_in (subcommand_of program_app (spelled form)) ≡ Some (name_of form)
+finds_name (Run trail) fits = (run_found trail).0
+finds_name (Serial trail) fits = (serial_found trail).0
+finds_name (Make num) fits = (make_found num fits.0 fits.1).0
+finds_name Help fits = absurd fits
+finds_name Version fits = absurd fits
+
+-- the name that was found is that of the command
+named_so : (form : Form) → IsCommand form → (found : Option (Text × List Row)) → found ≡ subcommand_of program_app (spelled form) → (name : Text) → Some name ≡ name_in found → name ≡ name_of form
+named_so form fits found is name named = some_inj name (name_of form) (named ∙ ap name_in is ∙ finds_name form fits)
+
+-- the first bytes of two names that are one
+differ : (name one two : Text) → name ≡ one → name ≡ two → get_or one 0 0 ≡ get_or two 0 0
+differ name one two is too = ap (λ (t : Text). get_or t 0 0) (sym is ∙ too)
+
+-- what the rows say of the flag
+flag_found : (words : List Text) (name : Text) (found : Option (Text × List Row)) → found ≡ subcommand_of program_app words → (trail : Bool) → Finds words name trail_in (flag_text trail) → (rows : List Row) → Some rows ≡ rows_in found → trail_in rows ≡ Some (flag_text trail)
+flag_found words name found is trail finds rows at = some_inj (trail_in rows) (Some (flag_text trail)) (ap (option_map trail_in) (at ∙ ap rows_in is) ∙ finds.1)
+
+-- where `run` was found, the words spell it with the flag or without
+pub run_form : (form : Form) → IsCommand form → (found : Option (Text × List Row)) → found ≡ subcommand_of program_app (spelled form) → (name : Text) → name ≡ codes "run"
+    → Some name ≡ name_in found → (rows : List Row) → Some rows ≡ rows_in found → (has : Bool) → ((trail : Bool) → trail_in rows ≡ Some (flag_text trail) → has ≡ trail)
+    → Some (Run has) ≡ Some form
+run_form (Run trail) fits found is name run named rows at has reads = ap (λ t. Some (Run t)) (reads trail (flag_found (spelled (Run trail)) (codes "run") found is trail (run_found trail) rows at))
+run_form (Serial trail) fits found is name run named rows at has reads = absurd (let bad : 114 ≡ 115 = differ name (codes "run") (codes "serial") run (named_so (Serial trail) fits found is name named) in omega (arith, bad))
+run_form (Make num) fits found is name run named rows at has reads = absurd (let bad : 114 ≡ 109 = differ name (codes "run") (codes "make") run (named_so (Make num) fits found is name named) in omega (arith, bad))
+run_form Help fits found is name run named rows at has reads = absurd fits
+run_form Version fits found is name run named rows at has reads = absurd fits
+
+-- and so where `serial` was found
 pub serial_form : (form : Form) → IsCommand form → (found : Option (Text × List Row)) → found ≡ subcommand_of program_app (spelled form) → (name : Text) → name ≡ codes "serial"
     → Some name ≡ name_in found → (rows : List Row) → Some rows ≡ rows_in found → (has : Bool) → ((trail : Bool) → trail_in rows ≡ Some (flag_text trail) → has ≡ trail)
     → Some (Serial has) ≡ Some form
-serial_form (Serial trail) fits found is name serial named rows at has reads =
-    ap (λ t. Some (Serial t)) (reads trail (some_inj (trail_in rows) (Some (flag_text trail)) (ap (option_map trail_in) (at ∙ ap rows_in is) ∙ (serial_found trail).1)))
-serial_form (Make num) fits found is name serial named rows at has reads =
-    absurd (differ (sym serial ∙ some_inj name (codes "make") (named ∙ ap name_in is ∙ (make_found num fits.0 fits.1).0)))
+serial_form (Run trail) fits found is name serial named rows at has reads = absurd (let bad : 115 ≡ 114 = differ name (codes "serial") (codes "run") serial (named_so (Run trail) fits found is name named) in omega (arith, bad))
+serial_form (Serial trail) fits found is name serial named rows at has reads = ap (λ t. Some (Serial t)) (reads trail (flag_found (spelled (Serial trail)) (codes "serial") found is trail (serial_found trail) rows at))
+serial_form (Make num) fits found is name serial named rows at has reads = absurd (let bad : 115 ≡ 109 = differ name (codes "serial") (codes "make") serial (named_so (Make num) fits found is name named) in omega (arith, bad))
 serial_form Help fits found is name serial named rows at has reads = absurd fits
 serial_form Version fits found is name serial named rows at has reads = absurd fits
 
@@ -108,33 +147,13 @@ serial_form Version fits found is name serial named rows at has reads = absurd f
 pub make_form : (form : Form) → IsCommand form → (found : Option (Text × List Row)) → found ≡ subcommand_of program_app (spelled form) → (name : Text) → name ≡ codes "make"
     → Some name ≡ name_in found → (rows : List Row) → Some rows ≡ rows_in found → (made : Option Form)
     → ((num : ℕ) → 1 ≤ num → num ≤ 999999999 → num_in rows ≡ Some (decimal num) → made ≡ Some (Make num)) → made ≡ Some form
-make_form (Serial trail) fits found is name make named rows at made reads =
-    absurd (differ (sym (some_inj name (codes "serial") (named ∙ ap name_in is ∙ (serial_found trail).0)) ∙ make))
+make_form (Run trail) fits found is name make named rows at made reads = absurd (let bad : 109 ≡ 114 = differ name (codes "make") (codes "run") make (named_so (Run trail) fits found is name named) in omega (arith, bad))
+make_form (Serial trail) fits found is name make named rows at made reads = absurd (let bad : 109 ≡ 115 = differ name (codes "make") (codes "serial") make (named_so (Serial trail) fits found is name named) in omega (arith, bad))
 make_form (Make num) fits found is name make named rows at made reads =
     reads num fits.0 fits.1 (some_inj (num_in rows) (Some (decimal num)) (ap (option_map num_in) (at ∙ ap rows_in is) ∙ (make_found num fits.0 fits.1).1))
 make_form Help fits found is name make named rows at made reads = absurd fits
 make_form Version fits found is name make named rows at made reads = absurd fits
 
-name_of_form : (form : Form) → IsCommand form → (name_in (subcommand_of program_app (spelled form)) ≡ Some (codes "serial")) ⊎ (name_in (subcommand_of program_app (spelled form)) ≡ Some (codes "make"))
-name_of_form (Serial trail) fits = inl (serial_found trail).0
-name_of_form (Make num) fits = inr (make_found num fits.0 fits.1).0
-name_of_form Help fits = absurd fits
-name_of_form Version fits = absurd fits
-
-pub some≢none : {X : Type 0} (x : X) → Some x ≡ None → ⊥
-some≢none x e = true≢false (ap is_some e)
-
 -- where no command was found, the words spell none
 pub no_form : (form : Form) → IsCommand form → (found : Option (Text × List Row)) → found ≡ subcommand_of program_app (spelled form) → None ≡ name_in found → ⊥
-no_form form fits found is none = elim (name_of_form form fits) [
-  | inl named ↦ some≢none (codes "serial") (sym (none ∙ ap name_in is ∙ named))
-  | inr named ↦ some≢none (codes "make") (sym (none ∙ ap name_in is ∙ named))
-]
-
--- and so where another was found
-pub other_form : (form : Form) → IsCommand form → (found : Option (Text × List Row)) → found ≡ subcommand_of program_app (spelled form) → (name : Text) → (name ≡ codes "serial" → ⊥)
-    → (name ≡ codes "make" → ⊥) → Some name ≡ name_in found → ⊥
-other_form form fits found is name serial make named = elim (name_of_form form fits) [
-  | inl known ↦ serial (some_inj name (codes "serial") (named ∙ ap name_in is ∙ known))
-  | inr known ↦ make (some_inj name (codes "make") (named ∙ ap name_in is ∙ known))
-]
+no_form form fits found is none = none-some (name_of form) (none ∙ ap name_in is ∙ finds_name form fits)

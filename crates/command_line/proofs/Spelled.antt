@@ -1,35 +1,48 @@
 -- Words spell one form.
-use Rattle.std.proofs.Common.{◌≡◌, ℕ, Bool, true, false, List, [], length, get_or, refl, ap, arith}
+use Rattle.std.proofs.Common.{◌≡◌, ℕ, Bool, true, false, List, [], length, drop, get_or, refl, ap, arith}
 use Rattle.std.proofs.lemmas.Fmt.{decimal_injective}
-use Rattle.command_line.specs.Forms.{IsForm, spelled}
+use Rattle.command_line.specs.Forms.{IsForm, spelled, trail_flag}
 use Rattle.command_line.specs.declared.form.Form.{Form}
-use Rattle.command_line.specs.declared.form.Form.TheVariants.{Serial, Make, Help, Version}
+use Rattle.command_line.specs.declared.form.Form.TheVariants.{Run, Serial, Make, Help, Version}
 
 -- the third byte of the first word, by which the forms differ
 abbrev pub third : List (List ℕ) → ℕ
 third words = get_or (get_or words 0 []) 2 0
 
+-- the words behind the first
+abbrev flag_in : List (List ℕ) → List (List ℕ)
+flag_in words = drop 1 words
+
 -- the flag stands there or not
-pub one_flag : (b c : Bool) → spelled (Serial b) ≡ spelled (Serial c) → b ≡ c
+pub one_flag : (b c : Bool) → trail_flag b ≡ trail_flag c → b ≡ c
 one_flag true true same = refl
-one_flag true false same = absurd (let bad : 2 ≡ 1 = ap length same in omega (arith, bad))
-one_flag false true same = absurd (let bad : 1 ≡ 2 = ap length same in omega (arith, bad))
+one_flag true false same = absurd (let bad : 1 ≡ 0 = ap length same in omega (arith, bad))
+one_flag false true same = absurd (let bad : 0 ≡ 1 = ap length same in omega (arith, bad))
 one_flag false false same = refl
 
 -- two forms that the same words spell are one
 pub one_form : (f g : Form) → IsForm f → IsForm g → spelled f ≡ spelled g → f ≡ g
-one_form (Serial b) (Serial c) known too same = ap Serial (one_flag b c same)
+one_form (Run b) (Run c) known too same = ap Run (one_flag b c (ap flag_in same))
+one_form (Run b) (Serial c) known too same = absurd (let bad : 110 ≡ 114 = ap third same in omega (arith, bad))
+one_form (Run b) (Make n) known too same = absurd (let bad : 110 ≡ 107 = ap third same in omega (arith, bad))
+one_form (Run b) Help known too same = absurd (let bad : 110 ≡ 104 = ap third same in omega (arith, bad))
+one_form (Run b) Version known too same = absurd (let bad : 110 ≡ 118 = ap third same in omega (arith, bad))
+one_form (Serial b) (Run c) known too same = absurd (let bad : 114 ≡ 110 = ap third same in omega (arith, bad))
+one_form (Serial b) (Serial c) known too same = ap Serial (one_flag b c (ap flag_in same))
 one_form (Serial b) (Make n) known too same = absurd (let bad : 114 ≡ 107 = ap third same in omega (arith, bad))
 one_form (Serial b) Help known too same = absurd (let bad : 114 ≡ 104 = ap third same in omega (arith, bad))
 one_form (Serial b) Version known too same = absurd (let bad : 114 ≡ 118 = ap third same in omega (arith, bad))
+one_form (Make m) (Run c) known too same = absurd (let bad : 107 ≡ 110 = ap third same in omega (arith, bad))
 one_form (Make m) (Serial c) known too same = absurd (let bad : 107 ≡ 114 = ap third same in omega (arith, bad))
 one_form (Make m) (Make n) known too same = ap Make (decimal_injective m n (omega (arith, known.1)) (omega (arith, too.1)) (ap (λ (words : List (List ℕ)). get_or words 1 []) same))
 one_form (Make m) Help known too same = absurd (let bad : 107 ≡ 104 = ap third same in omega (arith, bad))
 one_form (Make m) Version known too same = absurd (let bad : 107 ≡ 118 = ap third same in omega (arith, bad))
+one_form Help (Run c) known too same = absurd (let bad : 104 ≡ 110 = ap third same in omega (arith, bad))
 one_form Help (Serial c) known too same = absurd (let bad : 104 ≡ 114 = ap third same in omega (arith, bad))
 one_form Help (Make n) known too same = absurd (let bad : 104 ≡ 107 = ap third same in omega (arith, bad))
 one_form Help Help known too same = refl
 one_form Help Version known too same = absurd (let bad : 104 ≡ 118 = ap third same in omega (arith, bad))
+one_form Version (Run c) known too same = absurd (let bad : 118 ≡ 110 = ap third same in omega (arith, bad))
 one_form Version (Serial c) known too same = absurd (let bad : 118 ≡ 114 = ap third same in omega (arith, bad))
 one_form Version (Make n) known too same = absurd (let bad : 118 ≡ 107 = ap third same in omega (arith, bad))
 one_form Version Help known too same = absurd (let bad : 118 ≡ 104 = ap third same in omega (arith, bad))

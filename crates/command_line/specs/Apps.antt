@@ -1,5 +1,5 @@
 -- The command line as `clap` sees it.
-use Rattle.std.specs.Prelude.{Some, true, codes}
+use Rattle.std.specs.Prelude.{ℕ, List, Some, true, codes}
 use Rattle.clap.specs.Words.{App, Rule, new_app, new_rule, with_rule, with_subcommand}
 use Rattle.clap.specs.declared.builder.action.ArgAction.TheVariants.{Set, SetTrue}
 
@@ -11,9 +11,9 @@ trail_rule = record (new_rule (codes "trail")) { long = Some (codes "trail"); ac
 abbrev pub num_rule : Rule
 num_rule = record (new_rule (codes "num")) { required = true; action = Some Set }
 
--- `serial` with its flag
-abbrev pub serial_app : App
-serial_app = with_rule (new_app (codes "serial")) trail_rule
+-- a command of this name that plays a script, with its flag
+abbrev pub play_app : List ℕ → App
+play_app name = with_rule (new_app name) trail_rule
 
 -- `make` with its value
 abbrev pub make_app : App
@@ -24,6 +24,6 @@ abbrev pub bare_app : App
 bare_app = let app = new_app (codes "swift_sim") in
     record app { top = record app.top { no_binary_name = true; disable_help_flag = true; disable_help_subcommand = true } }
 
--- the program with its two subcommands
+-- the program with its three subcommands
 abbrev pub program_app : App
-program_app = with_subcommand (with_subcommand bare_app serial_app.top) make_app.top
+program_app = with_subcommand (with_subcommand (with_subcommand bare_app (play_app (codes "run")).top) (play_app (codes "serial")).top) make_app.top

@@ -1,7 +1,7 @@
 -- Which words ask for which form.
 use Rattle.std.specs.Prelude.{◌≡◌, ◌≢◌, ◌≤◌, ⊤, ℕ, Bool, true, false, List, [], ◌∷◌, Option, Some, None, codes, decimal}
 use Rattle.command_line.specs.declared.form.Form.{Form}
-use Rattle.command_line.specs.declared.form.Form.TheVariants.{Serial, Make, Help, Version}
+use Rattle.command_line.specs.declared.form.Form.TheVariants.{Run, Serial, Make, Help, Version}
 
 -- the greatest number of which a script is made
 abbrev pub most_num : ℕ
@@ -14,6 +14,7 @@ trail_flag false = []
 
 -- the words that spell a form; numbers are decimal, with no sign and no zero in front
 abbrev pub spelled : Form → List (List ℕ)
+spelled (Run trail) = codes "run" ∷ trail_flag trail
 spelled (Serial trail) = codes "serial" ∷ trail_flag trail
 spelled (Make num) = codes "make" ∷ decimal num ∷ []
 spelled Help = codes "--help" ∷ []
@@ -26,9 +27,9 @@ IsForm _ = ⊤
 
 -- a form that is a command of the program with a name of its own
 abbrev pub IsCommand : Form → Type 0
-IsCommand (Serial trail) = ⊤
-IsCommand (Make num) = (1 ≤ num) × (num ≤ most_num)
-IsCommand _ = ⊥
+IsCommand Help = ⊥
+IsCommand Version = ⊥
+IsCommand form = IsForm form
 
 -- the form that words spell, where they spell one
 abbrev pub IsFormOf : List (List ℕ) → Option Form → Type 0

@@ -1,25 +1,46 @@
 // The program's command line, as `clap` is told it.
-ghost use Rattle.std.specs.Prelude.{◌≡◌, IfOk};
+ghost use Rattle.std.specs.Prelude.{◌≡◌, IfOk, false};
 ghost use Rattle.clap.specs.Words.{app_of};
-ghost use Rattle.command_line.specs.Apps.{program_app};
+ghost use Rattle.clap.specs.declared.builder.command.Command.TheViews.{out-Command as fields_of};
+ghost use Rattle.command_line.specs.Apps.{make_app, play_app, program_app};
 
 use clap::{Arg, ArgAction, Command};
 use std::alloc::{AllocError, Global};
 
-/// Two subcommands: `serial` with one flag, and `make` with one value. The words come without the
-/// program's name, and help is no business of `clap`.
-pub fn program<'a>(alloc: Global) -> Result<Command<'a>, AllocError>
-    ensures { IfOk result (λ command. app_of command ≡ program_app) }
+// A subcommand that plays a script, with the flag `--trail`.
+fn player<'a>(alloc: Global, name: &'a str) -> Result<Command<'a>, AllocError>
+    ensures app { IfOk result (λ command. app_of command ≡ play_app name.now) }
+    ensures local { IfOk result (λ command. (fields_of command).has_globals ≡ false) }
 {
     let trail = Arg::new(alloc, "trail")
         .long("trail")
         .action(ArgAction::SetTrue);
+    Command::new(alloc, name).arg(trail)
+}
+
+// The subcommand `make`, with the value NUM.
+fn maker<'a>(alloc: Global) -> Result<Command<'a>, AllocError>
+    ensures app { IfOk result (λ command. app_of command ≡ make_app) }
+    ensures local { IfOk result (λ command. (fields_of command).has_globals ≡ false) }
+{
     let num = Arg::new(alloc, "num").required(true).action(ArgAction::Set);
-    let serial = Command::new(alloc, "serial").arg(trail)?;
-    let make = Command::new(alloc, "make").arg(num)?;
+    Command::new(alloc, "make").arg(num)
+}
+
+/// Three subcommands: `run` and `serial` with one flag each, and `make` with one value. The words come without the
+/// program's name, and help is no business of `clap`.
+pub fn program<'a>(alloc: Global) -> Result<Command<'a>, AllocError>
+    ensures { IfOk result (λ command. app_of command ≡ program_app) }
+{
+    let run = player(alloc, "run")?;
+    let serial = player(alloc, "serial")?;
+    let make = maker(alloc)?;
     let program = Command::new(alloc, "swift_sim")
         .no_binary_name(true)
         .disable_help_flag(true)
         .disable_help_subcommand(true);
-    program.subcommand(serial)?.subcommand(make)
+    program
+        .subcommand(run)?
+        .subcommand(serial)?
+        .subcommand(make)
 }

@@ -6,8 +6,10 @@ pub const MOST_NUM: u32 = 999_999_999;
 /// What a list of words asks of the program.
 #[derive(Clone, Copy)]
 pub enum Form {
-    /// `serial`: to play a script on one thread. With `--trail` the trails of the centres and the bases
-    /// of the reads follow the text.
+    /// `run`: to play a script with threads in its phases. With `--trail` the trails of the centres and
+    /// the bases of the reads follow the text.
+    Run { trail: bool },
+    /// `serial`: to play a script on one thread, with `--trail` as above.
     Serial { trail: bool },
     /// `make NUM`: to write the script that is made of the number, 1 to [`MOST_NUM`].
     Make { num: u32 },

@@ -1,5 +1,5 @@
 // The form that `clap` found.
-ghost use Rattle.std.specs.Prelude.{◌≡◌, ◌≤◌, ℕ, Bool, Some, IfSome, codes, decimal};
+ghost use Rattle.std.specs.Prelude.{◌≡◌, ◌≤◌, ℕ, Bool, Some, None, IfSome, codes, decimal};
 ghost use Rattle.clap.specs.Words.{first_of, found_of, one_of, rows_of, subcommand_of, subcommand_rows_of};
 ghost use Rattle.command_line.specs.Apps.{program_app};
 ghost use Rattle.command_line.specs.Forms.{IsCommand, IsForm, flag_text, most_num, spelled};
@@ -9,7 +9,7 @@ use crate::form::Form;
 use crate::num::num_of;
 use clap::ArgMatches;
 
-// Whether the rows of `serial` have the flag.
+// Whether the rows of `run` or `serial` have the flag.
 fn has_trail(rows: &ArgMatches<'_>) -> bool
     ensures { (trail : Bool) → one_of (codes "trail") (rows_of (found_of rows.now)) ≡ Some (flag_text trail) → result ≡ trail }
 {
@@ -31,14 +31,20 @@ fn made(rows: &ArgMatches<'_>) -> Option<Form>
     }
 }
 
-/// The form of the command that was found. Where words that spell a command were read, it is that one.
+/// The form of the command that was found. Where words that spell a command were read, it is that one, and where no
+/// command was found there is none.
 pub fn form_in(matches: &ArgMatches<'_>) -> Option<Form>
     ensures found { (form : Form) → IsCommand form → subcommand_rows_of matches.now ≡ subcommand_of program_app (spelled form) → result ≡ Some form }
+    ensures none { subcommand_rows_of matches.now ≡ None → result ≡ None }
     ensures known { IfSome result IsForm }
 {
     match matches.subcommand() {
         Some((name, rows)) => {
-            if name == "serial" {
+            if name == "run" {
+                Some(Form::Run {
+                    trail: has_trail(rows),
+                })
+            } else if name == "serial" {
                 Some(Form::Serial {
                     trail: has_trail(rows),
                 })

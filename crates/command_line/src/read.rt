@@ -56,6 +56,8 @@ fn are_spelled(words: &[String], form: Form) -> bool
     ensures { IsTrue result ↔ (map string_bytes words.now ≡ spelled form) }
 {
     match form {
+        Form::Run { trail: true } => are_two(words, "run", "--trail"),
+        Form::Run { trail: false } => is_one(words, "run"),
         Form::Serial { trail: true } => are_two(words, "serial", "--trail"),
         Form::Serial { trail: false } => is_one(words, "serial"),
         Form::Make { num } => are_make(words, num),

@@ -32,6 +32,8 @@ forms:
   swift_sim serial < SCRIPT          plays the script on one thread and writes the answers of its steps
   swift_sim serial --trail < SCRIPT  and then what each centre was asked and said, in order, and the
                                      transactions on which each value read stands
+  swift_sim run < SCRIPT             plays the script with threads in its phases and writes the answers
+  swift_sim run --trail < SCRIPT     and then the trails and transactions, as serial --trail does
   swift_sim make NUM                 writes a script made from the number, 1 to 999999999
   swift_sim --help                   writes this text
   swift_sim --version                writes the version

@@ -40,14 +40,42 @@ fn carry<R: Threads + Wait + Sync, G: Gate>(
     ensures sender { IfOk result.0 (HasSent scene.entry centre sender) }
     ensures receiver { IfOk result.1 (HasReceived scene.entry centre receiver) }
 {
+    let Scene {
+        script,
+        section,
+        number,
+        dealt,
+        hosts,
+        links,
+    } = scene;
     let sends = move || -> Result<SenderEnd, NoMemory>
-        requires { IsScene scene × IsCount scene.script.now.n centre × IsSenderOf scene centre sender }
-        ensures { IfOk result (HasSent scene.entry centre sender) }
-    { send_through(rt, scene, gate, centre, sender) };
+        requires { IsScene (record { script = script; section = section; number = number; dealt = dealt; hosts = hosts; links = links }) × IsCount script.now.n centre × IsSenderOf (record { script = script; section = section; number = number; dealt = dealt; hosts = hosts; links = links }) centre sender }
+        ensures { IfOk result (HasSent (record { script = script.entry; section = section.entry; number = number; dealt = dealt.entry; hosts = hosts.entry; links = links.entry }) centre sender) }
+    {
+        let scene = Scene {
+            script,
+            section,
+            number,
+            dealt,
+            hosts,
+            links,
+        };
+        send_through(rt, scene, gate, centre, sender)
+    };
     let receives = move || -> Result<ReceiverEnd, NoMemory>
-        requires { IsScene scene × IsCount scene.script.now.n centre × IsReceiverOf scene centre receiver }
-        ensures { IfOk result (HasReceived scene.entry centre receiver) }
-    { receive_through(rt, scene, gate, centre, receiver) };
+        requires { IsScene (record { script = script; section = section; number = number; dealt = dealt; hosts = hosts; links = links }) × IsCount script.now.n centre × IsReceiverOf (record { script = script; section = section; number = number; dealt = dealt; hosts = hosts; links = links }) centre receiver }
+        ensures { IfOk result (HasReceived (record { script = script.entry; section = section.entry; number = number; dealt = dealt.entry; hosts = hosts.entry; links = links.entry }) centre receiver) }
+    {
+        let scene = Scene {
+            script,
+            section,
+            number,
+            dealt,
+            hosts,
+            links,
+        };
+        receive_through(rt, scene, gate, centre, receiver)
+    };
     join(rt, sends, receives)
 }
 
@@ -67,14 +95,42 @@ fn tend<R: Threads + Wait + Sync, G: Gate>(
     ensures reporter { IfOk result.0 (HasReported scene.entry centre reporter) }
     ensures pruner { IfOk result.1 (HasPruned scene.entry centre pruner) }
 {
+    let Scene {
+        script,
+        section,
+        number,
+        dealt,
+        hosts,
+        links,
+    } = scene;
     let reports = move || -> Result<Caller, NoMemory>
-        requires { IsScene scene × IsCount scene.script.now.n centre × IsCallerOf scene reporter }
-        ensures { IfOk result (HasReported scene.entry centre reporter) }
-    { report_through(rt, scene, gate, centre, reporter) };
+        requires { IsScene (record { script = script; section = section; number = number; dealt = dealt; hosts = hosts; links = links }) × IsCount script.now.n centre × IsCallerOf (record { script = script; section = section; number = number; dealt = dealt; hosts = hosts; links = links }) reporter }
+        ensures { IfOk result (HasReported (record { script = script.entry; section = section.entry; number = number; dealt = dealt.entry; hosts = hosts.entry; links = links.entry }) centre reporter) }
+    {
+        let scene = Scene {
+            script,
+            section,
+            number,
+            dealt,
+            hosts,
+            links,
+        };
+        report_through(rt, scene, gate, centre, reporter)
+    };
     let prunes = move || -> Result<Caller, NoMemory>
-        requires { IsScene scene × IsCount scene.script.now.n centre × IsCallerOf scene pruner }
-        ensures { IfOk result (HasPruned scene.entry centre pruner) }
-    { prune_through(rt, scene, gate, centre, pruner) };
+        requires { IsScene (record { script = script; section = section; number = number; dealt = dealt; hosts = hosts; links = links }) × IsCount script.now.n centre × IsCallerOf (record { script = script; section = section; number = number; dealt = dealt; hosts = hosts; links = links }) pruner }
+        ensures { IfOk result (HasPruned (record { script = script.entry; section = section.entry; number = number; dealt = dealt.entry; hosts = hosts.entry; links = links.entry }) centre pruner) }
+    {
+        let scene = Scene {
+            script,
+            section,
+            number,
+            dealt,
+            hosts,
+            links,
+        };
+        prune_through(rt, scene, gate, centre, pruner)
+    };
     join(rt, reports, prunes)
 }
 
@@ -97,14 +153,42 @@ pub(crate) fn play_crew<R: Threads + Wait + Sync, G: Gate>(
         reporter,
         pruner,
     } = crew;
+    let Scene {
+        script,
+        section,
+        number,
+        dealt,
+        hosts,
+        links,
+    } = scene;
     let carries = move || -> (Result<SenderEnd, NoMemory>, Result<ReceiverEnd, NoMemory>)
-        requires { IsScene scene × IsCount scene.script.now.n centre × IsSenderOf scene centre sender × IsReceiverOf scene centre receiver }
-        ensures { IfOk result.0 (HasSent scene.entry centre sender) × IfOk result.1 (HasReceived scene.entry centre receiver) }
-    { carry(rt, scene, gate, centre, sender, receiver) };
+        requires { IsScene (record { script = script; section = section; number = number; dealt = dealt; hosts = hosts; links = links }) × IsCount script.now.n centre × IsSenderOf (record { script = script; section = section; number = number; dealt = dealt; hosts = hosts; links = links }) centre sender × IsReceiverOf (record { script = script; section = section; number = number; dealt = dealt; hosts = hosts; links = links }) centre receiver }
+        ensures { IfOk result.0 (HasSent (record { script = script.entry; section = section.entry; number = number; dealt = dealt.entry; hosts = hosts.entry; links = links.entry }) centre sender) × IfOk result.1 (HasReceived (record { script = script.entry; section = section.entry; number = number; dealt = dealt.entry; hosts = hosts.entry; links = links.entry }) centre receiver) }
+    {
+        let scene = Scene {
+            script,
+            section,
+            number,
+            dealt,
+            hosts,
+            links,
+        };
+        carry(rt, scene, gate, centre, sender, receiver)
+    };
     let tends = move || -> (Result<Caller, NoMemory>, Result<Caller, NoMemory>)
-        requires { IsScene scene × IsCount scene.script.now.n centre × IsCallerOf scene reporter × IsCallerOf scene pruner }
-        ensures { IfOk result.0 (HasReported scene.entry centre reporter) × IfOk result.1 (HasPruned scene.entry centre pruner) }
-    { tend(rt, scene, gate, centre, reporter, pruner) };
+        requires { IsScene (record { script = script; section = section; number = number; dealt = dealt; hosts = hosts; links = links }) × IsCount script.now.n centre × IsCallerOf (record { script = script; section = section; number = number; dealt = dealt; hosts = hosts; links = links }) reporter × IsCallerOf (record { script = script; section = section; number = number; dealt = dealt; hosts = hosts; links = links }) pruner }
+        ensures { IfOk result.0 (HasReported (record { script = script.entry; section = section.entry; number = number; dealt = dealt.entry; hosts = hosts.entry; links = links.entry }) centre reporter) × IfOk result.1 (HasPruned (record { script = script.entry; section = section.entry; number = number; dealt = dealt.entry; hosts = hosts.entry; links = links.entry }) centre pruner) }
+    {
+        let scene = Scene {
+            script,
+            section,
+            number,
+            dealt,
+            hosts,
+            links,
+        };
+        tend(rt, scene, gate, centre, reporter, pruner)
+    };
     let ((sender, receiver), (reporter, pruner)) = join(rt, carries, tends);
     Ok(Crew {
         centre,

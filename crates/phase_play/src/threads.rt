@@ -91,14 +91,42 @@ fn play_others<R: Threads + Wait + Sync, G: Gate>(
     ensures operator { IfOk result.0 (HasOperated scene.entry operator) }
     ensures crews { IfOk result.1 (λ played. AllZip (HasCrewPlayed scene.entry) crews.items played.items) }
 {
+    let Scene {
+        script,
+        section,
+        number,
+        dealt,
+        hosts,
+        links,
+    } = scene;
     let orders = move || -> Result<Caller, NoMemory>
-        requires { IsScene scene × IsCallerOf scene operator }
-        ensures { IfOk result (HasOperated scene.entry operator) }
-    { operate_through(rt, scene, gate, operator) };
+        requires { IsScene (record { script = script; section = section; number = number; dealt = dealt; hosts = hosts; links = links }) × IsCallerOf (record { script = script; section = section; number = number; dealt = dealt; hosts = hosts; links = links }) operator }
+        ensures { IfOk result (HasOperated (record { script = script.entry; section = section.entry; number = number; dealt = dealt.entry; hosts = hosts.entry; links = links.entry }) operator) }
+    {
+        let scene = Scene {
+            script,
+            section,
+            number,
+            dealt,
+            hosts,
+            links,
+        };
+        operate_through(rt, scene, gate, operator)
+    };
     let workers = move || -> Result<Vec<Crew>, NoMemory>
-        requires { IsScene scene × All (IsCrewOf scene) crews.items }
-        ensures { IfOk result (λ played. AllZip (HasCrewPlayed scene.entry) crews.items played.items) }
-    { play_crews(rt, alloc, scene, gate, crews) };
+        requires { IsScene (record { script = script; section = section; number = number; dealt = dealt; hosts = hosts; links = links }) × All (IsCrewOf (record { script = script; section = section; number = number; dealt = dealt; hosts = hosts; links = links })) crews.items }
+        ensures { IfOk result (λ played. AllZip (HasCrewPlayed (record { script = script.entry; section = section.entry; number = number; dealt = dealt.entry; hosts = hosts.entry; links = links.entry })) crews.items played.items) }
+    {
+        let scene = Scene {
+            script,
+            section,
+            number,
+            dealt,
+            hosts,
+            links,
+        };
+        play_crews(rt, alloc, scene, gate, crews)
+    };
     join(rt, orders, workers)
 }
 
@@ -120,14 +148,42 @@ pub fn play_in_threads<R: Threads + Wait + Sync, G: Gate>(
         clients,
         crews,
     } = cast;
+    let Scene {
+        script,
+        section,
+        number,
+        dealt,
+        hosts,
+        links,
+    } = scene;
     let players = move || -> Result<Vec<Player>, NoMemory>
-        requires { IsScene scene × All (IsPlayerOf scene) clients.items }
-        ensures { IfOk result (λ played. AllZip (HasTakenSteps scene.entry) clients.items played.items) }
-    { play_players(rt, alloc, scene, gate, clients) };
+        requires { IsScene (record { script = script; section = section; number = number; dealt = dealt; hosts = hosts; links = links }) × All (IsPlayerOf (record { script = script; section = section; number = number; dealt = dealt; hosts = hosts; links = links })) clients.items }
+        ensures { IfOk result (λ played. AllZip (HasTakenSteps (record { script = script.entry; section = section.entry; number = number; dealt = dealt.entry; hosts = hosts.entry; links = links.entry })) clients.items played.items) }
+    {
+        let scene = Scene {
+            script,
+            section,
+            number,
+            dealt,
+            hosts,
+            links,
+        };
+        play_players(rt, alloc, scene, gate, clients)
+    };
     let others = move || -> (Result<Caller, NoMemory>, Result<Vec<Crew>, NoMemory>)
-        requires { IsScene scene × IsCallerOf scene operator × All (IsCrewOf scene) crews.items }
-        ensures { IfOk result.0 (HasOperated scene.entry operator) × IfOk result.1 (λ played. AllZip (HasCrewPlayed scene.entry) crews.items played.items) }
-    { play_others(rt, alloc, scene, gate, operator, crews) };
+        requires { IsScene (record { script = script; section = section; number = number; dealt = dealt; hosts = hosts; links = links }) × IsCallerOf (record { script = script; section = section; number = number; dealt = dealt; hosts = hosts; links = links }) operator × All (IsCrewOf (record { script = script; section = section; number = number; dealt = dealt; hosts = hosts; links = links })) crews.items }
+        ensures { IfOk result.0 (HasOperated (record { script = script.entry; section = section.entry; number = number; dealt = dealt.entry; hosts = hosts.entry; links = links.entry }) operator) × IfOk result.1 (λ played. AllZip (HasCrewPlayed (record { script = script.entry; section = section.entry; number = number; dealt = dealt.entry; hosts = hosts.entry; links = links.entry })) crews.items played.items) }
+    {
+        let scene = Scene {
+            script,
+            section,
+            number,
+            dealt,
+            hosts,
+            links,
+        };
+        play_others(rt, alloc, scene, gate, operator, crews)
+    };
     let (clients, (operator, crews)) = join(rt, players, others);
     Ok(Cast {
         operator: operator?,

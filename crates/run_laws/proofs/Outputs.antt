@@ -5,19 +5,20 @@ use Rattle.script_text.specs.declared.script.Script.{Script}
 use Rattle.run_book.specs.declared.book.Book.{Book}
 use Rattle.world_core.specs.Runs.{IsRunOf}
 use Rattle.command_line.specs.declared.form.Form.{Form}
-use Rattle.command_line.specs.declared.form.Form.TheVariants.{Serial, Make, Help, Version}
+use Rattle.command_line.specs.declared.form.Form.TheVariants.{Run, Serial, Make, Help, Version}
 use Rattle.command_line.specs.Forms.{IsForm, spelled}
-use Rattle.command_line.proofs.Spelled.{one_flag, one_form}
+use Rattle.command_line.proofs.Spelled.{one_form}
 use Rattle.load_maker.specs.Made.{made_script}
 use Rattle.print_text.specs.Text.{text_of}
 use Rattle.trail_text.specs.Trails.{trail_text}
 use Rattle.run_book.specs.Setups.{Setup, setup_of}
-use Rattle.top_call.specs.Runs.{IsDone, IsOwed, IsPlayed, IsRefusal, Played, Made, Told, Done, Refused, Misused, Wrote, run_text, told_text}
-use Rattle.top_call.proofs.Owing.{no_question, play_of, played_of, some≢none}
+use Rattle.top_call.specs.Runs.{IsBookOf, IsDone, IsOwed, IsPlayed, IsRefusal, Played, Made, Told, Done, Refused, Misused, Wrote, has_trails, run_text, told_text}
+use Rattle.top_call.proofs.Owing.{asks, no_question, one_play, play_known, play_of, played_by, played_of}
+use Rattle.std.proofs.lemmas.Option.{none-some}
 use Rattle.top_call.specs.declared.engine.Owed.{Owed}
 use Rattle.top_call.specs.declared.top.Ended.{Ended}
 use Rattle.run_laws.specs.OneBook.{AreOne}
-use Rattle.run_laws.specs.Outputs.{given_bytes, AreAlike, IsWhole, IsWholeRun, PrintAlike}
+use Rattle.run_laws.specs.Outputs.{given_bytes, AreAlike, AreFixed, IsFixed, IsWhole, IsWholeRun, PrintAlike}
 use Rattle.run_forks.proofs.Books.{AreRuns, same_trails}
 use Rattle.run_laws.proofs.Logs.{same_logs, same_texts}
 use Rattle.run_laws.proofs.TrailTexts.{same_trail_texts}
@@ -43,70 +44,80 @@ run_texts : (trail : Bool) (b c : Book) (setup : Setup) → text_of b.logs ≡ t
 run_texts true b c setup texts trails = λ i. texts i ++ trails i
 run_texts false b c setup texts trails = texts
 
+-- a form whose output follows from its input leaves a run on one thread
+fixed_run : (form : Form) (script : Script) (book : Book) → IsFixed form → IsBookOf form script book → IsRunOf script book
+fixed_run (Run trail) script book fixed run = absurd fixed
+fixed_run (Serial trail) script book fixed run = run
+fixed_run (Make num) script book fixed run = absurd run
+fixed_run Help script book fixed run = absurd run
+fixed_run Version script book fixed run = absurd run
+
 -- two runs that the same words and bytes ask for
-one_run : (words : List (List ℕ)) (bytes : List ℕ) (taken again : Option (List ℕ)) (one two : Owed) → IsPlayed (given_bytes words bytes taken) one → IsPlayed (given_bytes words bytes again) two → AreAlike one two
-one_run words bytes taken again one two p q =
-    let read : p.run.script ≡ q.run.script = one_script bytes p.run.script q.run.script (script_said bytes one.book p.run) (script_said bytes two.book q.run) in
+one_run : (words : List (List ℕ)) (bytes : List ℕ) (taken again : Option (List ℕ)) (one two : Owed) → AreFixed words → IsPlayed (given_bytes words bytes taken) one → IsPlayed (given_bytes words bytes again) two → AreAlike one two
+one_run words bytes taken again one two fixed p q =
     let script : Script = p.run.script in
-    let ran : IsRunOf script two.book = subst (λ script. IsRunOf script two.book) (sym read) q.run.run in
-    let book = one_book script one.book two.book p.run.run ran in
-    let trails = same_trail_texts script one.book two.book (are_runs script one.book two.book p.run.run ran) in
-    let flag : p.trail ≡ q.trail = one_flag p.trail q.trail (sym p.form ∙ q.form) in
-    let text : run_text p.trail one.book (setup_of script) ≡ run_text q.trail two.book (setup_of q.run.script) =
-    run_texts p.trail one.book two.book (setup_of script) book.texts trails ∙ λ i. run_text (flag i) two.book (setup_of (read i)) in
+    let read : script ≡ q.run.script = one_script bytes script q.run.script (script_said bytes p.asked one.book p.run) (script_said bytes q.asked two.book q.run) in
+    let mine : IsRunOf script one.book = fixed_run p.asked script one.book (fixed p.asked p.form) p.run.run in
+    let ran : IsRunOf script two.book = subst (λ script. IsRunOf script two.book) (sym read) (fixed_run q.asked q.run.script two.book (fixed q.asked q.form) q.run.run) in
+    let book = one_book script one.book two.book mine ran in
+    let trails = same_trail_texts script one.book two.book (are_runs script one.book two.book mine ran) in
+    let form : p.asked ≡ q.asked = one_play p.asked q.asked (played_by (given_bytes words bytes taken) one p) (played_by (given_bytes words bytes again) two q) (sym p.form ∙ q.form) in
+    let text : run_text (has_trails p.asked) one.book (setup_of script) ≡ run_text (has_trails q.asked) two.book (setup_of q.run.script) =
+    run_texts (has_trails p.asked) one.book two.book (setup_of script) book.texts trails ∙ λ i. run_text (has_trails (form i)) two.book (setup_of (read i)) in
     record { status = p.status ∙ sym q.status; text = p.text ∙ (text ∙ sym q.text); book = book }
 
 -- a question is a form that the program knows
 question_known : (question : Form) (text : List ℕ) → told_text question ≡ Some text → IsForm question
+question_known (Run trail) text told = tt
 question_known (Serial trail) text told = tt
-question_known (Make num) text told = absurd (some≢none text (sym told))
+question_known (Make num) text told = absurd (none-some text told)
 question_known Help text told = tt
 question_known Version text told = tt
 
 -- what is done for the same words and bytes
-one_done : (words : List (List ℕ)) (bytes : List ℕ) (taken again : Option (List ℕ)) (one two : Owed) → IsDone (given_bytes words bytes taken) one → IsDone (given_bytes words bytes again) two → AreAlike one two
-one_done words bytes taken again one two (Played p) (Played q) = one_run words bytes taken again one two p q
-one_done words bytes taken again one two (Played p) (Made n) = absurd (play_of words (Make n.num) n.form (p.trail, p.form))
-one_done words bytes taken again one two (Played p) (Told t) = absurd (no_question t.question two.text.items t.text (play_of words t.question t.form (p.trail, p.form)))
-one_done words bytes taken again one two (Made m) (Played q) = absurd (play_of words (Make m.num) m.form (q.trail, q.form))
-one_done words bytes taken again one two (Told s) (Played q) = absurd (no_question s.question one.text.items s.text (play_of words s.question s.form (q.trail, q.form)))
-one_done words bytes taken again one two (Made m) (Made n) =
+one_done : (words : List (List ℕ)) (bytes : List ℕ) (taken again : Option (List ℕ)) (one two : Owed) → AreFixed words → IsDone (given_bytes words bytes taken) one → IsDone (given_bytes words bytes again) two → AreAlike one two
+one_done words bytes taken again one two fixed (Played p) (Played q) = one_run words bytes taken again one two fixed p q
+one_done words bytes taken again one two fixed (Played p) (Made n) = absurd (play_of words (Make n.num) n.form (asks (given_bytes words bytes taken) one p))
+one_done words bytes taken again one two fixed (Played p) (Told t) = absurd (no_question t.question two.text.items t.text (play_of words t.question t.form (asks (given_bytes words bytes taken) one p)))
+one_done words bytes taken again one two fixed (Made m) (Played q) = absurd (play_of words (Make m.num) m.form (asks (given_bytes words bytes again) two q))
+one_done words bytes taken again one two fixed (Told s) (Played q) = absurd (no_question s.question one.text.items s.text (play_of words s.question s.form (asks (given_bytes words bytes again) two q)))
+one_done words bytes taken again one two fixed (Made m) (Made n) =
     let forms : Make m.num ≡ Make n.num = one_form (Make m.num) (Make n.num) m.known n.known (sym m.form ∙ n.form) in
     let num : m.num ≡ n.num = cc in
     record { status = m.status ∙ sym n.status; text = m.text ∙ (ap made_script num ∙ sym n.text); book = one_self one.book two.book (m.book ∙ sym n.book) }
-one_done words bytes taken again one two (Made m) (Told t) =
+one_done words bytes taken again one two fixed (Made m) (Told t) =
     let form : t.question ≡ Make m.num = one_form t.question (Make m.num) (question_known t.question two.text.items t.text) m.known (sym t.form ∙ m.form) in
-    absurd (some≢none two.text.items (sym t.text ∙ ap told_text form))
-one_done words bytes taken again one two (Told s) (Made n) =
+    absurd (none-some two.text.items (sym (ap told_text form) ∙ t.text))
+one_done words bytes taken again one two fixed (Told s) (Made n) =
     let form : s.question ≡ Make n.num = one_form s.question (Make n.num) (question_known s.question one.text.items s.text) n.known (sym s.form ∙ n.form) in
-    absurd (some≢none one.text.items (sym s.text ∙ ap told_text form))
-one_done words bytes taken again one two (Told s) (Told t) =
+    absurd (none-some one.text.items (sym (ap told_text form) ∙ s.text))
+one_done words bytes taken again one two fixed (Told s) (Told t) =
     let form : s.question ≡ t.question = one_form s.question t.question (question_known s.question one.text.items s.text) (question_known t.question two.text.items t.text) (sym s.form ∙ t.form) in
     let texts : Some one.text.items ≡ Some two.text.items = sym s.text ∙ (ap told_text form ∙ t.text) in
     record { status = s.status ∙ sym t.status; text = cc; book = one_self one.book two.book (s.book ∙ sym t.book) }
 
 -- what was done was asked for by words of a form
 no_usage : (words : List (List ℕ)) (bytes : List ℕ) (taken : Option (List ℕ)) (one : Owed) → IsDone (given_bytes words bytes taken) one → ((form : Form) → IsForm form → words ≢ spelled form) → ⊥
-no_usage words bytes taken one (Played p) misused = misused (Serial p.trail) tt p.form
+no_usage words bytes taken one (Played p) misused = misused p.asked (play_known p.asked (played_by (given_bytes words bytes taken) one p)) p.form
 no_usage words bytes taken one (Made m) misused = misused (Make m.num) m.known m.form
 no_usage words bytes taken one (Told t) misused = misused t.question (question_known t.question one.text.items t.text) t.form
 
 -- bytes that were played are not refused
 no_refusal : (words : List (List ℕ)) (bytes : List ℕ) (taken again : Option (List ℕ)) (one two : Owed) → IsDone (given_bytes words bytes taken) one → IsRefusal (given_bytes words bytes again) two → ⊥
 no_refusal words bytes taken again one two done r =
-    not_refused bytes one.book r.line r.cause (played_of (given_bytes words bytes taken) one r.form done).run r.refused
+    let p = played_of (given_bytes words bytes taken) one r.form done in not_refused bytes p.asked one.book r.line r.cause p.run r.refused
 
 -- what is owed for the same words and bytes
-pub one_output : (words : List (List ℕ)) (bytes : List ℕ) (taken again : Option (List ℕ)) (one two : Owed) → IsOwed (given_bytes words bytes taken) one → IsOwed (given_bytes words bytes again) two → AreAlike one two
-one_output words bytes taken again one two (Done d) (Done e) = one_done words bytes taken again one two d e
-one_output words bytes taken again one two (Done d) (Refused q) = absurd (no_refusal words bytes taken again one two d q)
-one_output words bytes taken again one two (Refused p) (Done e) = absurd (no_refusal words bytes again taken two one e p)
-one_output words bytes taken again one two (Refused p) (Refused q) = record { status = p.status ∙ sym q.status; text = p.text ∙ (one_refusal bytes p.line q.line p.cause q.cause p.refused q.refused ∙ sym q.text); book = one_self one.book two.book (p.book ∙ sym q.book) }
-one_output words bytes taken again one two (Misused p) (Misused q) = record { status = p.status ∙ sym q.status; text = p.text ∙ sym q.text; book = one_self one.book two.book (p.book ∙ sym q.book) }
-one_output words bytes taken again one two (Done d) (Misused q) = absurd (no_usage words bytes taken one d q.form)
-one_output words bytes taken again one two (Refused p) (Misused q) = absurd (q.form (Serial p.form.0) tt p.form.1)
-one_output words bytes taken again one two (Misused p) (Done e) = absurd (no_usage words bytes again two e p.form)
-one_output words bytes taken again one two (Misused p) (Refused q) = absurd (p.form (Serial q.form.0) tt q.form.1)
+pub one_output : (words : List (List ℕ)) (bytes : List ℕ) (taken again : Option (List ℕ)) (one two : Owed) → AreFixed words → IsOwed (given_bytes words bytes taken) one → IsOwed (given_bytes words bytes again) two → AreAlike one two
+one_output words bytes taken again one two fixed (Done d) (Done e) = one_done words bytes taken again one two fixed d e
+one_output words bytes taken again one two fixed (Done d) (Refused q) = absurd (no_refusal words bytes taken again one two d q)
+one_output words bytes taken again one two fixed (Refused p) (Done e) = absurd (no_refusal words bytes again taken two one e p)
+one_output words bytes taken again one two fixed (Refused p) (Refused q) = record { status = p.status ∙ sym q.status; text = p.text ∙ (one_refusal bytes p.line q.line p.cause q.cause p.refused q.refused ∙ sym q.text); book = one_self one.book two.book (p.book ∙ sym q.book) }
+one_output words bytes taken again one two fixed (Misused p) (Misused q) = record { status = p.status ∙ sym q.status; text = p.text ∙ sym q.text; book = one_self one.book two.book (p.book ∙ sym q.book) }
+one_output words bytes taken again one two fixed (Done d) (Misused q) = absurd (no_usage words bytes taken one d q.form)
+one_output words bytes taken again one two fixed (Refused p) (Misused q) = absurd (q.form p.form.asked (play_known p.form.asked p.form.plays) p.form.form)
+one_output words bytes taken again one two fixed (Misused p) (Done e) = absurd (no_usage words bytes again two e p.form)
+one_output words bytes taken again one two fixed (Misused p) (Refused q) = absurd (p.form q.form.asked (play_known q.form.asked q.form.plays) q.form.form)
 
 -- what a run in which nothing failed wrote
 whole_text : (words : List (List ℕ)) (bytes : List ℕ) (taken now : Option (List ℕ)) (ended : Ended) → IsWholeRun words bytes taken ended now → Wrote IsOwed (given_bytes words bytes taken) ended now
@@ -118,11 +129,11 @@ whole_text words bytes taken now ended run = go run.status
     go (inr (inr status)) = let w = run.refused status in record { owed = w.owed; kind = Refused w.kind; status = w.status; book = w.book; fault = w.fault; all = w.all }
 
 -- runs in which nothing failed, by the same words, with the same bytes as their input
-pub one_print : (words : List (List ℕ)) (bytes : List ℕ) (taken again now later : Option (List ℕ)) (one two : Ended) → IsWholeRun words bytes taken one now → IsWholeRun words bytes again two later → PrintAlike one two taken again now later
-one_print words bytes taken again now later one two first other =
+pub one_print : (words : List (List ℕ)) (bytes : List ℕ) (taken again now later : Option (List ℕ)) (one two : Ended) → AreFixed words → IsWholeRun words bytes taken one now → IsWholeRun words bytes again two later → PrintAlike one two taken again now later
+one_print words bytes taken again now later one two fixed first other =
     let left = whole_text words bytes taken now one first in
     let right = whole_text words bytes again later two other in
-    let alike = one_output words bytes taken again left.owed right.owed left.kind right.kind in
+    let alike = one_output words bytes taken again left.owed right.owed fixed left.kind right.kind in
     record {
       status = left.status ∙ (alike.status ∙ sym right.status);
       book = subst (λ b. AreOne b two.book) (sym left.book) (subst (λ c. AreOne left.owed.book c) (sym right.book) alike.book);

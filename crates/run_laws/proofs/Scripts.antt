@@ -1,6 +1,7 @@
 -- Bytes are one script, or are refused at one line for one cause.
 use Rattle.std.proofs.Common.{◌≡◌, ℕ, List, sym, ap, ◌∙◌}
 use Rattle.std.specs.Prelude.{Some, Ok, Err}
+use Rattle.command_line.specs.declared.form.Form.{Form}
 use Rattle.script_reader.specs.declared.fault.Cause.{Cause}
 use Rattle.script_reader.specs.declared.fault.ScriptFault.TheVariants.{Refused}
 use Rattle.script_text.specs.declared.script.Script.{Script}
@@ -13,16 +14,16 @@ pub one_script : (bytes : List ℕ) (s t : Script) → script_read bytes ≡ Ok 
 one_script bytes s t is too = let both : Ok s ≡ Ok t = sym is ∙ too in cc
 
 -- the script of a run is what its input says
-pub script_said : (bytes : List ℕ) (book : Book) (run : IsCausalRun (Some bytes) book) → script_read bytes ≡ Ok run.script
-script_said bytes book run = ap script_read run.input ∙ run.spelled
+pub script_said : (bytes : List ℕ) (form : Form) (book : Book) (run : IsCausalRun form (Some bytes) book) → script_read bytes ≡ Ok run.script
+script_said bytes form book run = ap script_read run.input ∙ run.spelled
 
 -- so is the line at fault, and the cause
 pub fault_said : (bytes : List ℕ) (line : ℕ) (cause : Cause) → IsRefusedAt (Some bytes) line cause → script_read bytes ≡ Err (Refused line cause)
 fault_said bytes line cause refused = ap script_read refused.input ∙ refused.fault
 
 -- bytes that are a script are not refused
-pub not_refused : (bytes : List ℕ) (book : Book) (line : ℕ) (cause : Cause) → IsCausalRun (Some bytes) book → IsRefusedAt (Some bytes) line cause → ⊥
-not_refused bytes book line cause run refused = absurd (let both : Ok run.script ≡ Err (Refused line cause) = sym (script_said bytes book run) ∙ fault_said bytes line cause refused in cc)
+pub not_refused : (bytes : List ℕ) (form : Form) (book : Book) (line : ℕ) (cause : Cause) → IsCausalRun form (Some bytes) book → IsRefusedAt (Some bytes) line cause → ⊥
+not_refused bytes form book line cause run refused = absurd (let both : Ok run.script ≡ Err (Refused line cause) = sym (script_said bytes form book run) ∙ fault_said bytes line cause refused in cc)
 
 -- the same bytes are refused by the same line
 pub one_refusal : (bytes : List ℕ) (m n : ℕ) (why cause : Cause) → IsRefusedAt (Some bytes) m why → IsRefusedAt (Some bytes) n cause → refusal_text m why ≡ refusal_text n cause

@@ -1,5 +1,8 @@
 -- When what two runs of the program owe is the same.
-use Rattle.std.specs.Prelude.{◌≡◌, ◌⊎◌, ℕ, List, Option, Some}
+use Rattle.std.specs.Prelude.{◌≡◌, ◌⊎◌, ⊤, ℕ, List, Option, Some}
+use Rattle.command_line.specs.declared.form.Form.{Form}
+use Rattle.command_line.specs.declared.form.Form.TheVariants.{Run}
+use Rattle.command_line.specs.Forms.{spelled}
 use Rattle.io_edge.specs.Streams.{puts_behind}
 use Rattle.top_call.specs.Runs.{Given, IsDone, IsRefusal, IsUsage, Wrote}
 use Rattle.top_call.specs.declared.engine.Owed.{Owed}
@@ -9,6 +12,15 @@ use Rattle.run_laws.specs.OneBook.{AreOne}
 -- what a run is given by these words, with these bytes as its input and a sink that has taken this
 abbrev pub given_bytes : List (List ℕ) → List ℕ → Option (List ℕ) → Given
 given_bytes words bytes taken = record { words = words; left = Some bytes; taken = taken }
+
+-- a form whose output follows from its input: each but `run`, whose threads have no fixed order
+abbrev pub IsFixed : Form → Type 0
+IsFixed (Run trail) = ⊥
+IsFixed form = ⊤
+
+-- words that spell no other form
+abbrev pub AreFixed : List (List ℕ) → Type 0
+AreFixed words = (form : Form) → words ≡ spelled form → IsFixed form
 
 -- the same status, the same text and books that are one
 pub record AreAlike (one two : Owed) : Type 0 where

@@ -7,12 +7,13 @@ ghost use Rattle.top_call.specs.Runs.{IsOwed};
 ghost use Rattle.top_call.specs.declared.engine.Owed.{Owed};
 ghost use Rattle.top_call.specs.declared.top.Ended.{Ended};
 ghost use Rattle.run_laws.specs.OneBook.{AreOne};
-ghost use Rattle.run_laws.specs.Outputs.{given_bytes, AreAlike, IsWholeRun, PrintAlike};
+ghost use Rattle.run_laws.specs.Outputs.{given_bytes, AreAlike, AreFixed, IsWholeRun, PrintAlike};
 
 use run_book::Book;
 
-/// A script has one book: two books that are runs of it have the same trails, logs of the same actors with the same
-/// notes, and the same text. What a log says of where its actor stands last is left out: no run is asked for it.
+/// A script has one book on one thread: two books that are runs of it there have the same trails, logs of the same
+/// actors with the same notes, and the same text. What a log says of where its actor stands last is left out: no run is
+/// asked for it.
 pub fn law_one_book(book: &Book, other: &Book)
     ensures { (script : Script) → IsRunOf script book.now → IsRunOf script other.now → AreOne book.now other.now }
 {}
@@ -22,11 +23,11 @@ pub fn law_one_script()
     ensures { (bytes : List ℕ) (s t : Script) → script_read bytes ≡ Ok s → script_read bytes ≡ Ok t → s ≡ t }
 {}
 
-/// The output follows from the input. What the program owes for its words and the bytes of its input is one status,
-/// one text and one book (`owed`). Two runs by the same words, with the same bytes as their input, in which neither
-/// reading nor writing nor memory failed, end with one status and one book, and their sinks take the same text
-/// (`printed`).
+/// The output of each form but `run` follows from the input. What the program owes for its words and the bytes of its
+/// input is one status, one text and one book (`owed`). Two runs by the same words, with the same bytes as their input,
+/// in which neither reading nor writing nor memory failed, end with one status and one book, and their sinks take the
+/// same text (`printed`).
 pub fn law_one_output()
-    ensures owed { (words : List (List ℕ)) (bytes : List ℕ) (taken again : Option (List ℕ)) (one two : Owed) → IsOwed (given_bytes words bytes taken) one → IsOwed (given_bytes words bytes again) two → AreAlike one two }
-    ensures printed { (words : List (List ℕ)) (bytes : List ℕ) (taken again now later : Option (List ℕ)) (one two : Ended) → IsWholeRun words bytes taken one now → IsWholeRun words bytes again two later → PrintAlike one two taken again now later }
+    ensures owed { (words : List (List ℕ)) (bytes : List ℕ) (taken again : Option (List ℕ)) (one two : Owed) → AreFixed words → IsOwed (given_bytes words bytes taken) one → IsOwed (given_bytes words bytes again) two → AreAlike one two }
+    ensures printed { (words : List (List ℕ)) (bytes : List ℕ) (taken again now later : Option (List ℕ)) (one two : Ended) → AreFixed words → IsWholeRun words bytes taken one now → IsWholeRun words bytes again two later → PrintAlike one two taken again now later }
 {}

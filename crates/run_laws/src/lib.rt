@@ -1,4 +1,4 @@
-//! The laws of runs: a script has one book, and what the program owes for its input is one output.
+//! The laws of runs on one thread: a script has one book, and what the program owes for its input is one output.
 #![tactic(auto)]
 
 mod laws;

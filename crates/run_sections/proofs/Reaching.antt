@@ -75,7 +75,7 @@ all_deeds P notes each = In-All P (deeds_of notes) (λ deed there.
     subst P (sym from.2) (each from.0 from.1))
 
 -- the link of a client is to a centre that there is
-link_there : (script : Script) (notes : ℕ → List Note) (trails : ℕ → List Entry) → AreApart script notes trails → (client : ℕ) → IsCount script.clients client → IsLinkWithin script.n (client_after script.n client script.cache (notes (client + 1))).link
+pub link_there : (script : Script) (notes : ℕ → List Note) (trails : ℕ → List Entry) → AreApart script notes trails → (client : ℕ) → IsCount script.clients client → IsLinkWithin script.n (client_after script.n client script.cache (notes (client + 1))).link
 link_there script notes trails apart client range =
     notes_within script.n (new_client script.n client script.cache) (notes (client + 1))
     (all_deeds (GoesToOneOf script.n) (notes (client + 1)) (λ note there. apart.reach (client + 1) note (client_acts script client range) there)) tt

@@ -1,4 +1,4 @@
--- What a step through the door leaves of a world's parts.
+-- What a step through the door leaves of the table of a run.
 use Rattle.std.proofs.Common.{◌≡◌, ◌≤◌, ◌<◌, ℕ, suc, ◌+◌, ◌-◌, List, [], ◌∷◌, map, length, get_or, Some, refl, sym, ap, ◌∙◌, subst, arith}
 use Rattle.std.specs.Prelude.{slice_get, slice_set}
 use Rattle.std.proofs.lemmas.Option.{get_or_from_slice_get, slice_get_read}

@@ -3,3 +3,4 @@ pub mod Acting
 pub mod Links
 pub mod Lines
 pub mod Allowing
+pub mod Reading

@@ -4,8 +4,10 @@
 
 mod dealing;
 mod table;
+mod trails;
 mod works;
 
 pub use dealing::{Dealt, deal};
 pub use table::Table;
+pub use trails::trails_of;
 pub use works::{Work, prune};

@@ -30,6 +30,12 @@ fn words_spell_forms(rt: HostRuntime) -> Result<(), Fail> {
     );
     assert!(rt;
         matches!(
+            form(alloc, &["run", "--trail"])?,
+            Some(Form::Run { trail: true })
+        )
+    );
+    assert!(rt;
+        matches!(
             form(alloc, &["make", "999999999"])?,
             Some(Form::Make { num: 999_999_999 })
         )

@@ -2,7 +2,9 @@
 use io_edge::{FreeGate, MemorySink, MemorySource, SteadySink, SteadySource};
 use script_reader::Cause;
 use std::alloc::{AllocError, Global};
+use std::sync::Wait;
 use std::test::Fail;
+use std::thread::Threads;
 use top_call::{Ended, Fault, swift_main};
 
 const FIRST_PATH: &[u8] =
@@ -13,6 +15,9 @@ const FIRST_TEXT: &[u8] =
 
 const FIRST_TRAIL: &[u8] =
     b"trail 1 1 by 2 hello welcome 0\ntrail 1 2 by 2 fetch c.a object\ntrail 1 3 by 2 commit 1.1 stamped 1:1\ntrail 1 4 by 2 refresh snap 1 own 1 top 1\nbasis c1 1\n";
+
+const PHASE: &[u8] =
+    b"centres 2 k 1\nclients 2\nrounds 2\nphase\nc1 connect 1\nc2 connect 2\nend\n";
 
 // A list of words.
 fn words_of(alloc: Global, list: &[&str]) -> Result<Vec<String>, AllocError> {
@@ -29,17 +34,22 @@ fn serial(alloc: Global) -> Result<Vec<String>, AllocError> {
 }
 
 // A run of a script into a sink, where no read fails.
-fn played(alloc: Global, script: &[u8], sink: &mut MemorySink) -> Result<Ended, AllocError> {
+fn played<R: Threads + Wait + Sync>(
+    rt: &R,
+    alloc: Global,
+    script: &[u8],
+    sink: &mut MemorySink,
+) -> Result<Ended, AllocError> {
     let words = serial(alloc)?;
     let mut source = SteadySource::new(Vec::from_slice(alloc, script)?);
-    Ok(swift_main(alloc, &words, &mut source, sink, &FreeGate))
+    Ok(swift_main(rt, alloc, &words, &mut source, sink, &FreeGate))
 }
 
 #[test]
 fn a_block_is_played_from_begin_to_refresh(rt: HostRuntime) -> Result<(), Fail> {
     let alloc = rt.alloc();
     let mut sink = MemorySink::new(alloc, 64, Vec::new(alloc));
-    let ended = played(alloc, FIRST_PATH, &mut sink)?;
+    let ended = played(&rt, alloc, FIRST_PATH, &mut sink)?;
     assert_eq!(rt; ended.status, 0);
     assert_eq!(rt; sink.bytes(), FIRST_TEXT);
     assert_eq!(rt; ended.book.trails.as_slice().len(), 1);
@@ -52,7 +62,7 @@ fn the_trails_follow_the_text(rt: HostRuntime) -> Result<(), Fail> {
     let words = words_of(rt.alloc(), &["serial", "--trail"])?;
     let mut source = SteadySource::new(Vec::from_slice(rt.alloc(), FIRST_PATH)?);
     let mut sink = SteadySink::new(rt.alloc());
-    let ended = swift_main(rt.alloc(), &words, &mut source, &mut sink, &FreeGate);
+    let ended = swift_main(&rt, rt.alloc(), &words, &mut source, &mut sink, &FreeGate);
     assert_eq!(rt; ended.status, 0);
     assert!(rt; sink.bytes().starts_with(FIRST_TEXT));
     assert!(rt; sink.bytes().ends_with(FIRST_TRAIL));
@@ -64,11 +74,22 @@ fn the_trails_follow_the_text(rt: HostRuntime) -> Result<(), Fail> {
 }
 
 #[test]
+fn a_phase_is_played_with_threads(rt: HostRuntime) -> Result<(), Fail> {
+    let words = words_of(rt.alloc(), &["run"])?;
+    let mut source = SteadySource::new(Vec::from_slice(rt.alloc(), PHASE)?);
+    let mut sink = SteadySink::new(rt.alloc());
+    let ended = swift_main(&rt, rt.alloc(), &words, &mut source, &mut sink, &FreeGate);
+    assert_eq!(rt; ended.status, 0);
+    assert_eq!(rt; sink.bytes(), b"c1 at 1\nc2 at 2\n".as_slice());
+    Ok(())
+}
+
+#[test]
 fn a_number_is_answered_without_an_input(rt: HostRuntime) -> Result<(), Fail> {
     let words = words_of(rt.alloc(), &["make", "7"])?;
     let mut source = MemorySource::new(Vec::new(rt.alloc()), 1, Vec::new(rt.alloc()));
     let mut sink = SteadySink::new(rt.alloc());
-    let ended = swift_main(rt.alloc(), &words, &mut source, &mut sink, &FreeGate);
+    let ended = swift_main(&rt, rt.alloc(), &words, &mut source, &mut sink, &FreeGate);
     assert_eq!(rt; (ended.status, source.calls()), (0, 0));
     assert!(rt; sink.bytes().starts_with(b"centres 3 k 2\n"));
     Ok(())
@@ -77,7 +98,7 @@ fn a_number_is_answered_without_an_input(rt: HostRuntime) -> Result<(), Fail> {
 #[test]
 fn an_input_that_is_no_script_is_refused(rt: HostRuntime) -> Result<(), Fail> {
     let mut sink = MemorySink::new(rt.alloc(), 64, Vec::new(rt.alloc()));
-    let ended = played(rt.alloc(), b"centres 1 k 1\n", &mut sink)?;
+    let ended = played(&rt, rt.alloc(), b"centres 1 k 1\n", &mut sink)?;
     assert_eq!(rt; ended.status, 3);
     assert_eq!(rt; sink.bytes(), b"refused line 2 place\n".as_slice());
     assert!(rt;
@@ -96,7 +117,7 @@ fn an_input_that_is_no_script_is_refused(rt: HostRuntime) -> Result<(), Fail> {
 fn without_words_nothing_is_read(rt: HostRuntime) -> Result<(), Fail> {
     let mut source = SteadySource::new(Vec::from_slice(rt.alloc(), FIRST_PATH)?);
     let mut sink = SteadySink::new(rt.alloc());
-    let ended = swift_main(rt.alloc(), &[], &mut source, &mut sink, &FreeGate);
+    let ended = swift_main(&rt, rt.alloc(), &[], &mut source, &mut sink, &FreeGate);
     assert_eq!(rt; ended.status, 2);
     assert_eq!(rt;
         sink.bytes(),
@@ -111,29 +132,33 @@ fn reading_stops_past_the_limits(rt: HostRuntime) -> Result<(), Fail> {
     let line = Vec::from_slice(rt.alloc(), &[b'a'; 400])?;
     let mut source = MemorySource::new(line, 100, Vec::new(rt.alloc()));
     let mut sink = SteadySink::new(rt.alloc());
-    let ended = swift_main(rt.alloc(), &words, &mut source, &mut sink, &FreeGate);
+    let ended = swift_main(&rt, rt.alloc(), &words, &mut source, &mut sink, &FreeGate);
     assert_eq!(rt; (ended.status, source.calls()), (3, 3));
     Ok(())
 }
 
 // A run of the first path whose source moves so many bytes a call and fails at one of them: nothing is
 // written, and no call follows that one.
-fn stops_reading(alloc: Global, step: usize, call: u64) -> Result<bool, AllocError> {
+fn stops_reading<R: Threads + Wait + Sync>(
+    rt: &R,
+    alloc: Global,
+    step: usize,
+    call: u64,
+) -> Result<bool, AllocError> {
     let words = serial(alloc)?;
     let fails = vec![in alloc; call]?;
     let mut source = MemorySource::new(Vec::from_slice(alloc, FIRST_PATH)?, step.max(1), fails);
     let mut sink = MemorySink::new(alloc, 64, Vec::new(alloc));
-    let ended = swift_main(alloc, &words, &mut source, &mut sink, &FreeGate);
+    let ended = swift_main(rt, alloc, &words, &mut source, &mut sink, &FreeGate);
     Ok(ended.status == 4 && source.calls() == call && sink.calls() == 0)
 }
 
 #[test]
 fn each_read_may_fail(rt: HostRuntime) -> Result<(), Fail> {
-    let alloc = rt.alloc();
     // The script has 100 bytes, and one more read finds the end.
     for (step, last) in [(1, 101), (7, 16), (16, 8)] {
         for call in 1..=last {
-            assert!(rt; stops_reading(alloc, step, call)?);
+            assert!(rt; stops_reading(&rt, rt.alloc(), step, call)?);
         }
     }
     Ok(())
@@ -141,10 +166,16 @@ fn each_read_may_fail(rt: HostRuntime) -> Result<(), Fail> {
 
 // A run of the first path whose sink takes so many bytes a call and fails at one of them: it has the
 // bytes of the calls before, and no call follows that one.
-fn stops_writing(alloc: Global, step: usize, call: u64, taken: usize) -> Result<bool, AllocError> {
+fn stops_writing<R: Threads + Wait + Sync>(
+    rt: &R,
+    alloc: Global,
+    step: usize,
+    call: u64,
+    taken: usize,
+) -> Result<bool, AllocError> {
     let fails = vec![in alloc; call]?;
     let mut sink = MemorySink::new(alloc, step.max(1), fails);
-    let ended = played(alloc, FIRST_PATH, &mut sink)?;
+    let ended = played(rt, alloc, FIRST_PATH, &mut sink)?;
     let front = match FIRST_TEXT.get(..taken) {
         Some(front) => sink.bytes() == front,
         None => false,
@@ -155,11 +186,10 @@ fn stops_writing(alloc: Global, step: usize, call: u64, taken: usize) -> Result<
 
 #[test]
 fn each_write_may_fail(rt: HostRuntime) -> Result<(), Fail> {
-    let alloc = rt.alloc();
     for (step, last) in [(1, 70), (7, 10), (16, 5), (20, 4)] {
         let mut taken = 0;
         for call in 1..=last {
-            assert!(rt; stops_writing(alloc, step, call, taken)?);
+            assert!(rt; stops_writing(&rt, rt.alloc(), step, call, taken)?);
             taken = taken.saturating_add(step);
         }
     }

@@ -32,7 +32,7 @@ fn main(rt: HostRuntime) -> ExitCode {
     };
     let mut source = StdSource::new(rt.reader());
     let mut sink = StdSink::new(io::writer(&rt));
-    let ended = swift_main(rt.alloc(), &words, &mut source, &mut sink, &FreeGate);
+    let ended = swift_main(&rt, rt.alloc(), &words, &mut source, &mut sink, &FreeGate);
     // Where standard error takes nothing, the status says what there is to say.
     match complain(rt, &ended) {
         Ok(()) => {}

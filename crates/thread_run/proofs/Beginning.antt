@@ -1,25 +1,26 @@
 -- What the calls that begin a phase require.
-use Rattle.std.proofs.Common.{◌≡◌, ℕ, suc, ◌+◌, ◌-◌, ◌*◌, ◌≤◌, ◌<◌, List, [], ◌∷◌, map, length, Option, Some, None, refl, sym, ap, ◌∙◌, subst, arith}
+use Rattle.std.proofs.Common.{◌≡◌, ℕ, ◌+◌, ◌-◌, ◌*◌, ◌≤◌, List, [], length, Option, Some, None, refl, sym, ap, ◌∙◌, subst, arith}
 use Rattle.std.specs.Prelude.{slice_get, unwrap_or, All, IfSome}
 use Rattle.std.specs.Option.{option_map}
+use Rattle.std.specs.List.{AllZip}
+use Rattle.std.specs.Global.{Vec}
 use Rattle.std.proofs.lemmas.List.{length-map}
 use Rattle.std.proofs.lemmas.List.FromFn.{length-map-range_with_len}
 use Rattle.std.proofs.lemmas.List.Elements.{All-weaker}
 use Rattle.std.proofs.lemmas.Option.{slice_get_within}
 use Rattle.list_core.proofs.Gets.{In_get}
 use Rattle.list_core.proofs.Members.{In-All}
-use Rattle.ids_core.specs.declared.limits.TheConstants.{MOST_CENTRES, MOST_CLIENTS}
 use Rattle.dc_talk.specs.declared.calls.Connection.{Connection}
 use Rattle.dc_talk.specs.Logs.{Logged}
 use Rattle.dc_talk.specs.Doors.{DoorView, IsBehind}
+use Rattle.dc_host.specs.Centres.{CentreTrail}
 use Rattle.dc_host.specs.HostDoors.{CentreHost, CentrePass, ArePasses}
-use Rattle.dc_host.specs.Hosts.{IsHostOf, new_row, new_rows, rows_of}
+use Rattle.dc_host.specs.Hosts.{AreFor, IsHostOf, new_row, new_rows, rows_of}
 use Rattle.dc_host.proofs.Passes.{zip_long}
 use Rattle.dc_host.proofs.Rows.{are_dealt}
-use Rattle.dc_links.specs.Links.{AreGivers, AreTakers}
+use Rattle.dc_links.specs.Links.{rows_of as ends_of, AreGivers, AreTakers, AreGiverRows, AreTakerRows, put_between, taken_between}
 use Rattle.mail_link.specs.Ends.{GiverView, TakerView}
 use Rattle.tx_core.specs.declared.tx.Record.{Record}
-use Rattle.script_text.specs.declared.script.Header.{Header}
 use Rattle.script_text.specs.declared.steps.Section.{Section}
 use Rattle.script_text.specs.declared.steps.Step.{Step}
 use Rattle.script_text.specs.declared.steps.Step.TheVariants.{Client, Operator}
@@ -35,18 +36,21 @@ use Rattle.run_book.specs.Happenings.{IsLinkWithin}
 use Rattle.run_book.specs.Played.{new_progress}
 use Rattle.run_book.proofs.Happenings.WorkerRounds.{worker_carries}
 use Rattle.run_table.specs.declared.table.Table.{Table}
-use Rattle.run_table.specs.Dealing.{IsOf}
-use Rattle.run_table.specs.Tables.{log_at}
+use Rattle.run_table.specs.Dealing.{IsOf, IsDealt}
 use Rattle.run_sections.specs.Sections.{actors_of}
 use Rattle.run_sections.proofs.Actors.{carrier_acts, client_acts}
 use Rattle.phase_play.specs.declared.callers.Caller.{Caller}
 use Rattle.phase_play.specs.declared.crews.Crew.{Crew}
 use Rattle.phase_play.specs.declared.clients.Player.{Player}
 use Rattle.phase_play.specs.declared.scene.Scene.{Scene}
+use Rattle.phase_play.specs.declared.threads.Cast.{Cast}
 use Rattle.phase_play.specs.Scenes.{IsScene}
 use Rattle.phase_play.specs.Playing.{seen_by}
 use Rattle.phase_play.specs.Casts.{IsCallerOf, IsSenderOf, IsReceiverOf, IsCrewOf, IsPlayerOf, IsCast}
-use Rattle.thread_run.specs.Tables.{notes_at, come_of, between_of}
+use Rattle.thread_run.specs.declared.parts.Parts.{Parts}
+use Rattle.thread_run.specs.Casts.{IsCastOf}
+use Rattle.thread_run.specs.Lending.{AreInlets}
+use Rattle.thread_run.specs.Tables.{notes_at, come_of, between_of, IsTableOf, AreLinked}
 use Rattle.thread_run.proofs.Zips.{get_image}
 use Rattle.thread_run.proofs.Callers.{Stands, caller_as, player_stands, worker_stands}
 use Rattle.thread_run.proofs.Redeeming.{rows_in, new_at}
@@ -70,11 +74,46 @@ link_behind : (n : ℕ) (door : DoorView) (link : Option Connection) → door.ce
 link_behind n door None count within = tt
 link_behind n door (Some link) count within = (within.0, omega (arith, within.1, count))
 
+-- a phase is begun with what its calls gave, where so many centres are counted as another number says
+abbrev pub begun_of : (scene : Scene) (old : Table) (seen : List CentreTrail) (from : ℕ) (parts : Parts) (cast : Cast) → IsCastOf scene.script.now.n scene.script.now.clients parts cast → from ≡ scene.script.now.n → IsInRange scene.script.now → IsPhase (header_of scene.script.now) scene.section.now → IsDealt scene.script.now.clients scene.section.now.steps scene.dealt.now → IsTableOf scene.script.now old → AreLinked scene.script.now old
+    → seen ≡ old.door.centres → AllZip IsHostOf seen scene.hosts.now.hosts → scene.hosts.now.callers ≡ 1 + scene.script.now.clients + 4 * from → AreFor (1 + scene.script.now.clients + 4 * from) scene.hosts.now.hosts → rows_of parts.rows.items ≡ new_rows scene.hosts.now.hosts 1 (1 + scene.script.now.clients + 4 * from)
+    → length scene.links.now ≡ scene.script.now.n → AreGiverRows scene.links.now (ends_of parts.givers.items) → AreTakerRows scene.links.now (ends_of parts.takers.items) → ((from to : ℕ) → put_between (ends_of parts.givers.items) from to ≡ []) → ((from to : ℕ) → taken_between (ends_of parts.takers.items) from to ≡ []) → AreInlets old.posts scene.script.now.n parts.inlets.items
+    → parts.logs.items ≡ old.logs.items → parts.stubs.items ≡ old.stubs.items → IsPhaseBegun scene old
+begun_of scene old seen from parts cast cast_is same range phase dealt table linked centres opened callers each rows links givers takers put taken lent logs stubs =
+    let count : 1 + scene.script.now.clients + 4 * from ≡ actors_of scene.script.now = ap (λ k. 1 + scene.script.now.clients + 4 * k) same in
+    record {
+      range = range;
+      phase = phase;
+      dealt = dealt;
+      table = table;
+      linked = linked;
+      opened = subst (λ centres. AllZip IsHostOf centres scene.hosts.now.hosts) centres opened;
+      callers = callers ∙ count;
+      each = subst (λ k. AreFor k scene.hosts.now.hosts) count each;
+      links = links;
+      parts = parts;
+      rows_new = rows ∙ ap (new_rows scene.hosts.now.hosts 1) count;
+      logs_are = logs;
+      stubs_are = stubs;
+      givers = givers;
+      takers = takers;
+      none_put = put;
+      none_taken = taken;
+      lent = lent;
+      cast = cast;
+      cast_is = cast_is;
+    }
+
+-- there is a row of passes for each actor
+pub rows_dealt : (script : Script) (hosts : List CentreHost) (from : ℕ) (rows : List (Vec CentrePass)) → from ≡ script.n → rows_of rows ≡ new_rows hosts 1 (1 + script.clients + 4 * from) → length rows ≡ actors_of script
+rows_dealt script hosts from rows same new = sym (length-map rows (λ (row : Vec CentrePass). row.items)) ∙ (ap length new ∙ (length-map-range_with_len (new_row hosts) 1 (1 + script.clients + 4 * from) ∙ ap (λ k. 1 + script.clients + 4 * k) same))
+
 module _ (scene : Scene) (old : Table) (b : IsPhaseBegun scene old) where
   -- there is a host for each centre
   pub hosts_count : length scene.hosts.now.hosts ≡ scene.script.now.n
   hosts_count = sym (zip_long IsHostOf old.door.centres scene.hosts.now.hosts b.opened) ∙ centres_count scene old b
 
+  -- the hosts, the links and what was dealt are a scene
   pub is_scene : IsScene scene
   is_scene = record { phase = record { range = b.range; phase = b.phase; steps_are = b.dealt }; hosts = hosts_count; links = b.links }
 

@@ -1,5 +1,5 @@
 -- Where each actor stands among the callers of a phase, and what it did there.
-use Rattle.std.proofs.Common.{◌≡◌, ℕ, zero, suc, ◌+◌, ◌-◌, ◌*◌, ◌≤◌, ◌<◌, List, [], ◌∷◌, ◌++◌, map, length, Some, refl, sym, ap, ◌∙◌, subst, append_assoc, arith}
+use Rattle.std.proofs.Common.{◌≡◌, ℕ, zero, suc, ◌+◌, ◌-◌, ◌*◌, ◌≤◌, List, [], ◌∷◌, ◌++◌, map, length, Some, refl, sym, ap, ◌∙◌, subst, append_assoc, arith}
 use Rattle.std.specs.Prelude.{slice_get, flat_map}
 use Rattle.std.specs.List.{AllZip}
 use Rattle.std.proofs.lemmas.List.{map-append, length-map}
@@ -65,6 +65,7 @@ module _ (operator : Caller) (players : List Player) (crews : List Crew) where
       (get_behind (map (λ (p : Player). p.caller) players) (flat_map crew_callers crews) clients (4 * q + r) (clients + (4 * q + r)) (length-map players (λ (p : Player). p.caller) ∙ count) refl
       ∙ crew_at crews q r (4 * q + r) crew caller refl there own)
 
+  -- a worker of a role
   pub worker_stands : (clients i : ℕ) (role : Role) (crew : Crew) → length players ≡ clients → slice_get crews (i - 1) ≡ Some crew → Stands (callers_among operator players crews) (worker_of clients i role) (caller_as role crew)
   worker_stands clients i Sender crew count there = worker_there clients (worker_of clients i Sender) (i - 1) 0 crew crew.sender.caller count (omega arith) there refl
   worker_stands clients i Receiver crew count there = worker_there clients (worker_of clients i Receiver) (i - 1) 1 crew crew.receiver.caller count (omega arith) there refl
@@ -103,6 +104,7 @@ module _ (scene : Scene) (givers : List (List (GiverView Record))) where
     pub reporter : HasReported scene old.centre old.reporter new.reporter
     pub pruner : HasPruned scene old.centre old.pruner new.pruner
 
+  -- one after the other
   crew_done : (a b c : Crew) → HasCrewPlayed scene a b → HasCrewClosed scene givers b c → HasCrewDone a c
   crew_done a b c played closed = record {
     centre = closed.centre ∙ played.centre;
@@ -146,6 +148,6 @@ pub all_acted : (scene : Scene) (givers : List (List (GiverView Record))) (opera
 all_acted scene givers operator players crews operator' players' crews' operated taken done = (
   operator_acted scene operator operator' operated,
   zip_append HasActed (map (λ (p : Player). p.caller) players) (flat_map crew_callers crews) (map (λ (p : Player). p.caller) players') (flat_map crew_callers crews')
-  (zip_map (HasTakenSteps scene) HasActed (λ (p : Player). p.caller) (λ (p : Player). p.caller) players players' (player_acted scene) taken)
-  (zip_flat (HasCrewDone scene givers) HasActed crew_callers crew_callers crews crews' (crew_acted scene givers) done),
+      (zip_map (HasTakenSteps scene) HasActed (λ (p : Player). p.caller) (λ (p : Player). p.caller) players players' (player_acted scene) taken)
+      (zip_flat (HasCrewDone scene givers) HasActed crew_callers crew_callers crews crews' (crew_acted scene givers) done),
 )

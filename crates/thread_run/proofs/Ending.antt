@@ -1,5 +1,5 @@
 -- What the calls that end a phase require.
-use Rattle.std.proofs.Common.{◌≡◌, ℕ, suc, ◌+◌, ◌-◌, ◌≤◌, ◌<◌, List, [], ◌∷◌, map, length, drop, Some, refl, sym, ap, ◌∙◌, subst, arith}
+use Rattle.std.proofs.Common.{◌≡◌, ◌-◌, ◌≤◌, List, [], ◌∷◌, map, length, drop, sym, ap, ◌∙◌, subst, arith}
 use Rattle.std.specs.Prelude.{slice_get, All}
 use Rattle.std.specs.List.{AllZip, range_with_len}
 use Rattle.std.specs.Global.{Vec}
@@ -13,10 +13,9 @@ use Rattle.vv_core.specs.Vectors.{centres}
 use Rattle.tx_core.specs.declared.tx.Record.{Record}
 use Rattle.host_lock.specs.Hosts.{IsOf}
 use Rattle.dc_host.specs.Centres.{KeptCentre, IsKeptCentre}
-use Rattle.dc_host.specs.HostDoors.{CentreHost, CentrePass, bare, ArePasses}
+use Rattle.dc_host.specs.HostDoors.{CentreHost, CentrePass, bare}
 use Rattle.dc_host.specs.Hosts.{bare_rows, rows_of, new_rows, AreClosed}
-use Rattle.dc_host.proofs.Passes.{zip_long}
-use Rattle.dc_links.specs.Links.{IsAmong, rows_of as ends_of, AreGivers, AreTakers, AreGiverRows, AreTakerRows}
+use Rattle.dc_links.specs.Links.{rows_of as ends_of, AreGivers, AreTakers, AreGiverRows, AreTakerRows}
 use Rattle.mail_link.specs.Ends.{GiverView, TakerView}
 use Rattle.script_text.specs.Links.{Inlet}
 use Rattle.script_text.specs.Steps.{IsCount}
@@ -28,12 +27,12 @@ use Rattle.phase_play.specs.declared.clients.Player.{Player}
 use Rattle.phase_play.specs.declared.scene.Scene.{Scene}
 use Rattle.phase_play.specs.declared.threads.Cast.{Cast}
 use Rattle.phase_play.specs.Playing.{IsCaller, IsSameCaller}
-use Rattle.phase_play.specs.Casts.{IsSenderOf, IsReceiverOf, IsCrewOf, IsCast, HasCrewPlayed, HasTakenSteps, HaveAllPlayed}
-use Rattle.thread_run.proofs.Zips.{HasSource, get_source, get_image, zip_same}
+use Rattle.phase_play.specs.Casts.{IsSenderOf, IsReceiverOf, IsCrewOf, HasCrewPlayed, HasTakenSteps, HaveAllPlayed}
+use Rattle.thread_run.proofs.Zips.{get_source, get_image, zip_same}
 use Rattle.thread_run.proofs.Callers.{HasCrewDone}
-use Rattle.thread_run.proofs.Redeeming.{rows_in, rows_stay, as_many, all_kept}
+use Rattle.thread_run.proofs.Redeeming.{rows_stay, as_many, all_kept}
 use Rattle.thread_run.proofs.Carrying.{row_there}
-use Rattle.thread_run.proofs.Playing.{IsPhaseBegun, IsPhaseRun, count_of, centres_count, before, behind, done, did, put_then, HasCrew, crew_of}
+use Rattle.thread_run.proofs.Playing.{IsPhaseBegun, IsPhaseRun, count_of, centres_count, before, behind, done, did, put_then, crew_of}
 use Rattle.thread_run.proofs.Beginning.{is_cast}
 
 -- what holds of elements holds so of their partners
@@ -97,6 +96,7 @@ module _ (scene : Scene) (old : Table) (run : IsPhaseRun scene old) where
   rows_count : {X : Type 0} (f : Crew → Vec X) (rows : List (Vec X)) → map f run.parted.closed ≡ rows → length rows ≡ scene.script.now.n
   rows_count f rows are = sym (ap length are) ∙ (length-map run.parted.closed f ∙ count_of (λ (c : Crew). c.centre) run.parted.closed scene.script.now.n run.parted.parted.crews.numbers)
 
+  -- the ends that put are those of the links
   pub giver_rows : AreGiverRows scene.links.now (ends_of run.later.givers.items)
   giver_rows = record {
     number = length-map run.later.givers.items (λ (row : Vec (GiverView Record)). row.items) ∙ (rows_count (λ (c : Crew). c.sender.givers) run.later.givers.items run.parted.parted.crews.givers_are ∙ sym run.begun.links);
@@ -106,6 +106,7 @@ module _ (scene : Scene) (old : Table) (run : IsPhaseRun scene old) where
         subst (λ (row : List (GiverView Record)). AreGivers scene.links.now i row) (sym (row_there (λ (c : Crew). c.sender.givers) run.parted.closed run.later.givers.items (i - 1) w.later run.parted.parted.crews.givers_are w.is)) own;
   }
 
+  -- so are those that take
   pub taker_rows : AreTakerRows scene.links.now (ends_of run.later.takers.items)
   taker_rows = record {
     number = length-map run.later.takers.items (λ (row : Vec (TakerView Record)). row.items) ∙ (rows_count (λ (c : Crew). c.receiver.takers) run.later.takers.items run.parted.parted.crews.takers_are ∙ sym run.begun.links);
@@ -126,6 +127,7 @@ module _ (scene : Scene) (old : Table) (run : IsPhaseRun scene old) where
   pub inlets_count : length run.later.inlets.items ≡ scene.script.now.n
   inlets_count = rows_count (λ (c : Crew). c.receiver.inlets) run.later.inlets.items run.parted.parted.crews.inlets_are
 
+  -- each has one from each centre
   pub inlets_each : All (λ (row : Vec (Inlet Record)). length row.items ≡ scene.script.now.n) run.later.inlets.items
   inlets_each =
       subst (λ (rows : List (Vec (Inlet Record))). All (λ row. length row.items ≡ scene.script.now.n) rows) run.parted.parted.crews.inlets_are
@@ -134,10 +136,12 @@ module _ (scene : Scene) (old : Table) (run : IsPhaseRun scene old) where
 
   -- what came out of the hosts may go before a door
   module _ (kept : List KeptCentre) (closed : AreClosed scene.hosts.now.hosts (rows_of run.later.rows.items) kept) where
+    -- there are as many as a door may have
     pub kept_few : (1 ≤ length kept) × (length kept ≤ MOST_CENTRES)
     kept_few =
         let count : length kept ≡ scene.script.now.n = as_many old.door.centres scene.hosts.now.hosts (rows_of run.later.rows.items) kept run.begun.opened closed ∙ centres_count scene old run.begun in
         (omega (arith, count, run.begun.range.header.n.0), omega (arith, count, run.begun.range.header.n.1))
 
+    -- each is kept with its trail
     pub kept_is : All IsKeptCentre kept
     kept_is = all_kept old.door.centres scene.hosts.now.hosts (rows_of run.later.rows.items) kept run.begun.opened closed

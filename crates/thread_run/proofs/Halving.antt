@@ -29,6 +29,7 @@ use Rattle.thread_run.specs.declared.closing.Half.{Half}
 use Rattle.thread_run.specs.declared.closing.Halves.{Halves}
 use Rattle.thread_run.specs.Casts.{AreNoParts, HasCaller, crew_callers, HasCrewClosed, HaveParted}
 use Rattle.thread_run.specs.Closing.{half_of, AreHalves, IsHalfOf, half_callers, HasMore, HasClosedHalf, all_callers, HaveClosed, HasClients}
+use Rattle.thread_run.proofs.Zips.{zip_append}
 
 -- four more, one after another
 four_more : {X : Type 0} (old one two three new : List X) (a b c d : X) → one ≡ old ++ a ∷ [] → two ≡ one ++ b ∷ [] → three ≡ two ++ c ∷ [] → new ≡ three ++ d ∷ [] → new ≡ old ++ a ∷ b ∷ c ∷ d ∷ []
@@ -73,14 +74,6 @@ more_then old mid new callers more receivers behind before later = record {
   inlets = join_more (λ (receiver : ReceiverEnd). receiver.inlets) receivers behind old.inlets.items mid.inlets.items new.inlets.items before.inlets later.inlets;
 }
 
-module _ {X Y : Type 0} (R : X → Y → Type 0) where
-  -- a pair more
-  zip_more : (xs : List X) (ys : List Y) (x : X) (y : Y) → AllZip R xs ys → R x y → AllZip R (xs ++ x ∷ []) (ys ++ y ∷ [])
-  zip_more [] [] x y all one = (one, tt)
-  zip_more [] (z ∷ ys) x y all one = absurd all
-  zip_more (w ∷ xs) [] x y all one = absurd all
-  zip_more (w ∷ xs) (z ∷ ys) x y all one = (all.0, zip_more xs ys x y all.1 one)
-
 -- the callers of one half more
 callers_more : (R : Half → ReceiverEnd → Type 0) (halves : List Half) (receivers : List ReceiverEnd) (half : Half) (receiver : ReceiverEnd) → AllZip R halves receivers → all_callers (halves ++ half ∷ []) (receivers ++ receiver ∷ []) ≡ all_callers halves receivers ++ half_callers half receiver
 callers_more R [] [] half receiver all = refl
@@ -110,7 +103,7 @@ module _ (scene : Scene) (givers : List (List (GiverView Record))) where
   pub closed_more : (old parts new : Parts) (halves : List Half) (half : Half) → HaveClosed scene givers old halves parts → HasClosedHalf scene givers parts half new → HaveClosed scene givers old (halves ++ half ∷ []) new
   closed_more old parts new halves half before one = record {
     receivers = before.receivers ++ one.receiver ∷ [];
-    closed = zip_more (λ (half : Half) (receiver : ReceiverEnd). HasClosed scene half.centre givers half.receiver receiver) halves before.receivers half one.receiver before.closed one.closed;
+    closed = zip_append (λ (half : Half) (receiver : ReceiverEnd). HasClosed scene half.centre givers half.receiver receiver) halves (half ∷ []) before.receivers (one.receiver ∷ []) before.closed (one.closed, tt);
     more = subst (λ callers. HasMore old callers (before.receivers ++ one.receiver ∷ []) new)
         (sym (callers_more (λ (half : Half) (receiver : ReceiverEnd). HasClosed scene half.centre givers half.receiver receiver) halves before.receivers half one.receiver before.closed))
         (more_then old parts new (all_callers halves before.receivers) (half_callers half one.receiver) before.receivers (one.receiver ∷ []) before.more one.more);

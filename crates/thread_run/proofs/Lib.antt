@@ -10,3 +10,6 @@ pub mod Ending
 pub mod Crews
 pub mod Ends
 pub mod Halving
+pub mod Alone
+pub mod Taking
+pub mod Joining

@@ -1,43 +1,34 @@
 -- A phase that was played with threads was played as a section.
-use Rattle.std.proofs.Common.{◌≡◌, ℕ, zero, suc, ◌+◌, ◌-◌, ◌*◌, ◌≤◌, ◌<◌, ⊎_elim, List, [], ◌∷◌, ◌++◌, map, length, drop, Some, refl, sym, ap, ◌∙◌, subst, arith}
-use Rattle.std.specs.Prelude.{slice_get}
+use Rattle.std.proofs.Common.{◌≡◌, ℕ, suc, ◌+◌, ◌-◌, ◌≤◌, ◌<◌, ⊎_elim, List, [], ◌++◌, length, drop, refl, sym, ap, ◌∙◌, subst, arith}
 use Rattle.std.proofs.lemmas.Bool.{cases_lt}
 use Rattle.std.proofs.lemmas.List.{length-map}
-use Rattle.std.proofs.lemmas.Option.{slice_get_past}
 use Rattle.list_core.specs.Members.{In}
 use Rattle.list_core.proofs.Gets.{get_within, all_get}
 use Rattle.dc_talk.specs.Logs.{Logged, entries_made}
 use Rattle.dc_talk.specs.Entries.{Entry}
 use Rattle.host_lock.specs.Hosts.{AllStood}
 use Rattle.host_lock.specs.Law.{calls_of}
-use Rattle.dc_host.specs.Centres.{CentreTrail, all_seen}
+use Rattle.dc_host.specs.Centres.{all_seen}
 use Rattle.dc_host.specs.HostDoors.{CentreHost, CentrePass}
 use Rattle.dc_host.specs.Hosts.{rows_of, new_rows, column}
-use Rattle.dc_host.specs.KeptDoors.{entries_of, trail_at, settings_of}
+use Rattle.dc_host.specs.KeptDoors.{trail_at, settings_of}
 use Rattle.dc_host.proofs.Passes.{zip_long}
 use Rattle.script_text.specs.Steps.{IsCount}
 use Rattle.run_book.specs.Parts.{entries_by, exchanged}
 use Rattle.run_sections.specs.Orders.{deeds_of}
 use Rattle.run_sections.specs.Sections.{PlaysSection, actors_of}
 use Rattle.run_table.specs.declared.table.Table.{Table}
-use Rattle.run_table.specs.Tables.{log_at, AreHistories}
+use Rattle.run_table.specs.Tables.{AreHistories}
 use Rattle.phase_play.specs.declared.callers.Caller.{Caller}
 use Rattle.phase_play.specs.declared.clients.Player.{Player}
 use Rattle.phase_play.specs.declared.scene.Scene.{Scene}
 use Rattle.thread_run.specs.Tables.{notes_at, between_of, IsTableOf, HasPlayed}
-use Rattle.thread_run.proofs.Zips.{HasPartner, zip_get, drop_front}
+use Rattle.thread_run.proofs.Joining.{trail_past}
+use Rattle.thread_run.proofs.Zips.{zip_get, drop_front}
 use Rattle.thread_run.proofs.Callers.{Stands, HasActed}
 use Rattle.thread_run.proofs.Redeeming.{rows_in, calls_noted, calls_paired, called_within, HasGrown, grown, trail_grown, all_histories, same_settings}
 use Rattle.thread_run.proofs.Playing.{IsPhasePlayed, left_between, count_of, centres_count, callers_count, before, behind, did, log_before, log_behind, notes_grown, left_is}
 use Rattle.thread_run.proofs.Sectioning.{operator_plays, senders_play, receivers_play, reporters_play, pruners_play, clients_play, clients_allowed}
-
--- there are no entries where there is no centre
-trail_past : (centres : List CentreTrail) (i : ℕ) → (IsCount (length centres) i → ⊥) → trail_at centres i ≡ []
-trail_past centres zero none = refl
-trail_past centres (suc k) none = ⊎_elim
-    (λ (within : k < length centres). absurd (none (omega arith, omega (arith, within))))
-    (λ (past : length centres ≤ k). ap entries_of (slice_get_past centres k past))
-    (cases_lt k (length centres))
 
 module _ (scene : Scene) (old new : Table) (h : IsPhasePlayed scene old new) where
   -- ---- an actor
@@ -51,6 +42,7 @@ module _ (scene : Scene) (old new : Table) (h : IsPhasePlayed scene old new) whe
     pub acted : HasActed first last
     pub actor : first.log.actor ≡ a
 
+  -- each actor is a caller
   pub caller_of : (a : ℕ) → IsCount (actors_of scene.script.now) a → HasCaller a
   caller_of a range =
       let first = get_within (before scene old h.run.begun) (a - 1) (omega (arith, range.0, range.1, callers_count scene old h.run.begun)) in
@@ -77,12 +69,14 @@ module _ (scene : Scene) (old new : Table) (h : IsPhasePlayed scene old new) whe
   pub grown_at : (i : ℕ) → IsCount scene.script.now.n i → HasGrown old.door.centres scene.hosts.now.hosts (rows_of h.run.later.rows.items) h.kept (i - 1)
   grown_at i range = grown old.door.centres scene.hosts.now.hosts (rows_of h.run.later.rows.items) h.kept h.run.begun.opened h.closed (i - 1) (omega (arith, range.0, range.1, centres_count scene old h.run.begun))
 
+  -- its trail is longer by what is past the opening of its host
   trail_longer : (i : ℕ) → (range : IsCount scene.script.now.n i) → trail_at new.door.centres i ≡ trail_at old.door.centres i ++ (grown_at i range).closed.whole.0
   trail_longer i range =
       let place : suc (i - 1) ≡ i = omega (arith, range.0) in
       ap (λ centres. trail_at centres i) h.door_is
       ∙ subst (λ k. trail_at (all_seen h.kept) k ≡ trail_at old.door.centres k ++ (grown_at i range).closed.whole.0) place (trail_grown old.door.centres scene.hosts.now.hosts (rows_of h.run.later.rows.items) h.kept h.run.begun.opened h.closed (i - 1) (grown_at i range))
 
+  -- which is what is left of it
   entries_left : (i : ℕ) → (range : IsCount scene.script.now.n i) → (left_between old new).entries i ≡ (grown_at i range).closed.whole.0
   unfolding left_between
   entries_left i range = drop_front (trail_at old.door.centres i) (grown_at i range).closed.whole.0 (trail_at new.door.centres i) (trail_longer i range)
@@ -95,12 +89,12 @@ module _ (scene : Scene) (old new : Table) (h : IsPhasePlayed scene old new) whe
   -- its new entries stand behind those that it had
   pub trails_then : (i : ℕ) → trail_at new.door.centres i ≡ trail_at old.door.centres i ++ (left_between old new).entries i
   trails_then i = ⊎_elim
-      (λ (zeroth : i < 1). none_before i (trail_past old.door.centres i (λ range. omega (arith, range.0, zeroth))))
+      (λ (zeroth : i < 1). none_before i (trail_past scene.script.now old h.run.begun.table i (λ range. omega (arith, range.0, zeroth))))
       (λ (low : 1 ≤ i). ⊎_elim
       (λ (within : i < scene.script.now.n + 1).
       let range : IsCount scene.script.now.n i = (low, omega (arith, within)) in
       trail_longer i range ∙ ap (λ entries. trail_at old.door.centres i ++ entries) (sym (entries_left i range)))
-      (λ (past : scene.script.now.n + 1 ≤ i). none_before i (trail_past old.door.centres i (λ range. omega (arith, range.1, past, centres_count scene old h.run.begun))))
+      (λ (past : scene.script.now.n + 1 ≤ i). none_before i (trail_past scene.script.now old h.run.begun.table i (λ range. omega (arith, range.1, past))))
       (cases_lt i (scene.script.now.n + 1)))
       (cases_lt i 1)
 
@@ -121,7 +115,7 @@ module _ (scene : Scene) (old new : Table) (h : IsPhasePlayed scene old new) whe
       let rows : rows_in (before scene old h.run.begun) ≡ new_rows scene.hosts.now.hosts 1 (actors_of scene.script.now) = ap rows_of h.run.begun.cast_is.callers.rows_are ∙ h.run.begun.rows_new in
       let stood : AllStood g.closed.whole.0 (column (i - 1) (rows_in (behind scene old h.run))) = subst (λ (rows : List (List CentrePass)). AllStood g.closed.whole.0 (column (i - 1) rows)) (sym (ap rows_of h.run.parted.parted.callers.rows_are)) g.closed.whole.2 in
       let calls : calls_of (1 + (a - 1)) g.closed.whole.0 ≡ entries_made (1 + (a - 1)) (suc (i - 1)) (deeds_of c.acted.mine) =
-          calls_noted scene.hosts.now.hosts (actors_of scene.script.now) (before scene old h.run.begun) (behind scene old h.run) rows (i - 1) (a - 1) g.host g.closed.whole.0 c.first c.last g.at c.was c.is c.acted (c.actor ∙ sym here) stood in
+      calls_noted scene.hosts.now.hosts (actors_of scene.script.now) (before scene old h.run.begun) (behind scene old h.run) rows (i - 1) (a - 1) g.host g.closed.whole.0 c.first c.last g.at c.was c.is c.acted (c.actor ∙ sym here) stood in
       let own : calls_of a g.closed.whole.0 ≡ entries_made a i (deeds_of c.acted.mine) = subst (λ k. calls_of a g.closed.whole.0 ≡ entries_made a k (deeds_of c.acted.mine)) place (subst (λ k. calls_of k g.closed.whole.0 ≡ entries_made k (suc (i - 1)) (deeds_of c.acted.mine)) here calls) in
       ap (entries_by a) (entries_left i centre)
       ∙ (calls_paired a i c.acted.mine g.closed.whole.0 own
@@ -129,6 +123,7 @@ module _ (scene : Scene) (old new : Table) (h : IsPhasePlayed scene old new) whe
 
   -- ---- the table behind it
 
+  -- what is left is what a section leaves
   pub plays_section : PlaysSection scene.script.now scene.number scene.section.now (between_of scene.script.now old) (left_between old new) (between_of scene.script.now new)
   plays_section = record {
     clients = clients_play scene old new h;
@@ -141,6 +136,7 @@ module _ (scene : Scene) (old new : Table) (h : IsPhasePlayed scene old new) whe
     paired = paired_left;
   }
 
+  -- the parts are still those of the script
   pub table_then : IsTableOf scene.script.now new
   table_then = record {
     settings = ap settings_of h.door_is ∙ (same_settings old.door.centres scene.hosts.now.hosts (rows_of h.run.later.rows.items) h.kept h.run.begun.opened h.closed ∙ h.run.begun.table.settings);

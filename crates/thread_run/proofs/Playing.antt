@@ -1,24 +1,18 @@
 -- A phase that was played with threads, as a section.
-use Rattle.std.proofs.Common.{◌≡◌, ◌≢◌, ℕ, suc, ◌+◌, ◌-◌, ◌*◌, ◌≤◌, ◌<◌, Bool, cond, List, [], ◌∷◌, ◌++◌, map, length, drop, Some, refl, sym, ap, ◌∙◌, subst, arith}
-use Rattle.std.specs.Prelude.{slice_get, slice_index_or, flat_map}
+use Rattle.std.proofs.Common.{◌≡◌, ℕ, suc, ◌+◌, ◌-◌, ◌≤◌, ◌<◌, List, [], ◌++◌, map, length, drop, Some, refl, sym, ap, ◌∙◌, subst, arith}
+use Rattle.std.specs.Prelude.{slice_get}
 use Rattle.std.specs.List.{AllZip, range_with_len}
-use Rattle.std.specs.Global.{Vec}
-use Rattle.std.proofs.lemmas.List.{length-map, length-append}
+use Rattle.std.proofs.lemmas.List.{length-map}
 use Rattle.std.proofs.lemmas.List.FromFn.{length-range_with_len, length-map-range_with_len, get_or-range_with_len}
-use Rattle.std.proofs.lemmas.Option.{same_Some, slice_get_within, slice_get-get_or, get_or_from_slice_get}
+use Rattle.std.proofs.lemmas.Option.{same_Some, slice_get-get_or, get_or_from_slice_get}
 use Rattle.list_core.proofs.Gets.{get_within}
-use Rattle.vv_core.specs.Vectors.{centres}
 use Rattle.tx_core.specs.declared.tx.Record.{Record}
-use Rattle.dc_talk.specs.declared.log.Note.{Note}
 use Rattle.dc_talk.specs.Logs.{Logged}
-use Rattle.dc_talk.specs.Entries.{Entry}
 use Rattle.dc_host.specs.Centres.{CentreTrail, KeptCentre, all_seen}
 use Rattle.dc_host.specs.Hosts.{AreFor, rows_of, new_rows, IsHostOf, AreClosed}
 use Rattle.dc_host.specs.KeptDoors.{trail_at}
 use Rattle.mail_link.specs.Ends.{GiverView}
-use Rattle.script_text.specs.declared.script.Script.{Script}
 use Rattle.script_text.specs.declared.rounds.Role.{Role}
-use Rattle.script_text.specs.declared.rounds.Role.TheVariants.{Sender, Receiver, Reporter, Pruner}
 use Rattle.script_text.specs.Steps.{IsCount}
 use Rattle.script_text.specs.Rows.{IsPhase}
 use Rattle.script_text.specs.Rounds.{worker_of}
@@ -40,7 +34,7 @@ use Rattle.thread_run.specs.declared.parts.Parts.{Parts}
 use Rattle.thread_run.specs.Casts.{callers_among, IsCastOf, HaveParted}
 use Rattle.thread_run.specs.Lending.{AreInlets, HaveInlets}
 use Rattle.thread_run.specs.Tables.{notes_at, IsTableOf, AreLinked}
-use Rattle.thread_run.proofs.Zips.{HasPartner, zip_get, get_image, drop_front}
+use Rattle.thread_run.proofs.Zips.{zip_get, get_image, drop_front}
 use Rattle.thread_run.proofs.Callers.{Stands, caller_as, player_stands, worker_stands, HasActed, HasCrewDone, worker_acted, player_acted, operator_acted, crews_done, all_acted}
 
 -- a phase as its actors begin it: the hosts and the links are new, and the actors have their parts
@@ -139,9 +133,11 @@ module _ (scene : Scene) (old : Table) (run : IsPhaseRun scene old) where
   abbrev pub behind : List Caller
   behind = callers_among run.acted.operator run.acted.clients.items run.parted.closed
 
+  -- the workers of each centre made all their rounds
   pub done : AllZip (HasCrewDone scene put_then) run.begun.cast.crews.items run.parted.closed
   done = crews_done scene put_then run.begun.cast.crews.items run.acted.crews.items run.parted.closed run.played.crews run.parted.crews
 
+  -- each actor acted
   pub did : AllZip HasActed (before scene old run.begun) behind
   did = all_acted scene put_then run.begun.cast.operator run.begun.cast.clients.items run.begun.cast.crews.items run.acted.operator run.acted.clients.items run.parted.closed run.played.operator run.played.clients done
 
@@ -154,6 +150,7 @@ module _ (scene : Scene) (old : Table) (run : IsPhaseRun scene old) where
     pub is : slice_get run.parted.closed (i - 1) ≡ Some later
     pub done : HasCrewDone scene put_then crew later
 
+  -- each centre has its workers
   pub crew_of : (i : ℕ) → IsCount scene.script.now.n i → HasCrew i
   crew_of i range =
       let count = count_of (λ (c : Crew). c.centre) run.begun.cast.crews.items scene.script.now.n run.begun.cast_is.crews.numbers in
@@ -177,6 +174,7 @@ module _ (scene : Scene) (old : Table) (run : IsPhaseRun scene old) where
     pub is : slice_get run.acted.clients.items (client - 1) ≡ Some later
     pub taken : HasTakenSteps scene player later
 
+  -- each client plays
   pub player_of : (client : ℕ) → IsCount scene.script.now.clients client → HasPlayer client
   player_of client range =
       let count = count_of (λ (p : Player). p.client) run.begun.cast.clients.items scene.script.now.clients run.begun.cast_is.numbers in
@@ -204,6 +202,7 @@ module _ (scene : Scene) (old new : Table) (h : IsPhasePlayed scene old new) whe
       ap (λ (log : Logged). log.notes) (log_behind a d low is)
       ∙ (r.acted.log ∙ ap (λ (log : Logged). log.notes ++ r.mine) (sym (log_before scene old h.run.begun a c low was)))
 
+  -- and is what is left of it
   pub left_is : (a : ℕ) (c d : Caller) (r : HasActed c d) → 1 ≤ a → Stands (before scene old h.run.begun) a c → Stands (behind scene old h.run) a d → (left_between old new).notes a ≡ r.mine
   unfolding left_between
   left_is a c d r low was is = drop_front (notes_at old a) r.mine (notes_at new a) (notes_grown a c d r low was is)
@@ -212,6 +211,7 @@ module _ (scene : Scene) (old new : Table) (h : IsPhasePlayed scene old new) whe
   pub operator_left : (left_between old new).notes 1 ≡ h.run.played.operator.plays.mine
   operator_left = left_is 1 h.run.begun.cast.operator h.run.acted.operator (operator_acted scene h.run.begun.cast.operator h.run.acted.operator h.run.played.operator) (omega arith) refl refl
 
+  -- of a client
   pub player_left : (client : ℕ) → (range : IsCount scene.script.now.clients client) → (left_between old new).notes (client + 1) ≡ (player_of scene old h.run client range).taken.plays.plays.mine
   player_left client range =
       let p = player_of scene old h.run client range in
@@ -219,6 +219,7 @@ module _ (scene : Scene) (old new : Table) (h : IsPhasePlayed scene old new) whe
       (player_stands h.run.begun.cast.operator h.run.begun.cast.clients.items h.run.begun.cast.crews.items client p.player range.0 p.there)
       (player_stands h.run.acted.operator h.run.acted.clients.items h.run.parted.closed client p.later range.0 p.is)
 
+  -- of a worker
   pub worker_left : (i : ℕ) (role : Role) → (range : IsCount scene.script.now.n i) → (left_between old new).notes (worker_of scene.script.now.clients i role) ≡ (worker_acted scene (put_then scene old h.run) role (crew_of scene old h.run i range).crew (crew_of scene old h.run i range).later (crew_of scene old h.run i range).done).mine
   worker_left i role range =
       let w = crew_of scene old h.run i range in

@@ -1,6 +1,6 @@
 -- What comes out of the hosts behind a phase: each centre's trail, longer by what the notes of the actors made there.
-use Rattle.std.proofs.Common.{◌≡◌, ℕ, zero, suc, ◌+◌, ◌-◌, ◌≤◌, ◌<◌, ◌⊎◌, inl, inr, ⊎_elim, Bool, true, false, cond, List, [], ◌∷◌, ◌++◌, map, length, take, Option, Some, None, refl, sym, ap, ◌∙◌, subst, arith}
-use Rattle.std.specs.Prelude.{slice_get, All, ◌==◌, filter}
+use Rattle.std.proofs.Common.{◌≡◌, ℕ, suc, ◌+◌, ◌≤◌, ◌<◌, ◌⊎◌, inl, inr, ⊎_elim, Bool, true, false, cond, List, [], ◌∷◌, ◌++◌, map, length, take, Option, Some, None, refl, sym, ap, ◌∙◌, subst, arith}
+use Rattle.std.specs.Prelude.{slice_get, All, ◌==◌}
 use Rattle.std.specs.List.{AllZip, cons_option, range_with_len}
 use Rattle.std.specs.Global.{Vec}
 use Rattle.std.specs.Option.{option_map}
@@ -36,7 +36,7 @@ use Rattle.run_table.specs.Tables.{AreHistories}
 use Rattle.run_table.proofs.Numbered.{get_below}
 use Rattle.run_sections.specs.Orders.{deeds_of}
 use Rattle.phase_play.specs.declared.callers.Caller.{Caller}
-use Rattle.thread_run.proofs.Zips.{HasPartner, zip_get, zip_same, HasSource, get_source, get_image}
+use Rattle.thread_run.proofs.Zips.{zip_get, zip_same, get_source, get_image}
 use Rattle.thread_run.proofs.Callers.{HasActed}
 
 -- ---- the passes
@@ -49,6 +49,7 @@ bare_row caller = map bare caller.row.items
 abbrev pub rows_in : List Caller → List (List CentrePass)
 rows_in callers = rows_of (map (λ (c : Caller). c.row) callers)
 
+-- these passes of all callers, row by row
 rows_bare : (callers : List Caller) → bare_rows (rows_in callers) ≡ map bare_row callers
 rows_bare [] = refl
 rows_bare (c ∷ callers) = ap (λ rows. bare_row c ∷ rows) (rows_bare callers)
@@ -72,6 +73,7 @@ rows_stay hosts count callers acted new did =
 abbrev pub pair_of : Entry → Ask × Say
 pair_of entry = (entry.ask, entry.say)
 
+-- what the calls of a number exchanged
 calls_exchanged : (a : ℕ) (es : List Entry) → entries_by a es ≡ map pair_of (calls_of a es)
 calls_exchanged a [] = refl
 calls_exchanged a (e ∷ es) = go (e.caller == a) (calls_exchanged a es)
@@ -80,6 +82,7 @@ calls_exchanged a (e ∷ es) = go (e.caller == a) (calls_exchanged a es)
     go true is = ap (λ pairs. pair_of e ∷ pairs) is
     go false is = is
 
+-- what the entries of notes exchanged
 made_exchanged : (a i : ℕ) (notes : List Note) → map pair_of (entries_made a i (deeds_of notes)) ≡ exchanged i notes
 made_exchanged a i [] = refl
 made_exchanged a i (note ∷ notes) = go (exchanged_in i note.deed) (made_exchanged a i notes)
@@ -157,6 +160,7 @@ module _ (old : List CentreTrail) (hosts : List CentreHost) (rows : List (List C
   pub as_many : length kept ≡ length old
   as_many = closed.number ∙ sym (zip_long IsHostOf old hosts opened)
 
+  -- each centre has its host, and its trail behind the phase
   pub grown : (k : ℕ) → k < length old → HasGrown old hosts rows kept k
   grown k within =
       let centre = get_within old k within in

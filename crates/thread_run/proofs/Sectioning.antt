@@ -1,57 +1,39 @@
 -- What a phase that was played with threads left, as a section.
-use Rattle.std.proofs.Common.{◌≡◌, ◌≢◌, ℕ, zero, suc, ◌+◌, ◌-◌, ◌*◌, ◌≤◌, ◌<◌, ⊎_elim, Bool, true, cond, List, [], ◌∷◌, ◌++◌, map, length, drop, Some, refl, sym, ap, ◌∙◌, subst, arith}
+use Rattle.std.proofs.Common.{◌≡◌, ◌≢◌, ℕ, ◌+◌, ◌-◌, Bool, cond, List, [], ◌++◌, length, Some, sym, ap, ◌∙◌, subst, arith}
 use Rattle.std.specs.Prelude.{slice_get, unwrap_or}
 use Rattle.std.specs.Option.{option_map}
 use Rattle.std.specs.List.{range_with_len}
-use Rattle.std.proofs.lemmas.Bool.{cases_lt}
-use Rattle.std.proofs.lemmas.List.{length-map}
-use Rattle.std.proofs.lemmas.Option.{slice_get_past}
-use Rattle.list_core.specs.Members.{In}
-use Rattle.list_core.proofs.Gets.{get_within, all_get}
-use Rattle.tx_core.specs.declared.tx.Record.{Record}
 use Rattle.dc_talk.specs.declared.log.Note.{Note}
-use Rattle.dc_talk.specs.Logs.{Logged, entries_made}
-use Rattle.dc_talk.specs.Entries.{Entry}
-use Rattle.host_lock.specs.Hosts.{AllStood}
-use Rattle.host_lock.specs.Law.{calls_of}
-use Rattle.dc_host.specs.Centres.{CentreTrail, all_seen}
-use Rattle.dc_host.specs.HostDoors.{CentreHost}
-use Rattle.dc_host.specs.Hosts.{rows_of, column}
-use Rattle.dc_host.specs.KeptDoors.{entries_of, trail_at, settings_of}
-use Rattle.dc_host.proofs.Passes.{zip_long}
+use Rattle.dc_talk.specs.Logs.{Logged}
 use Rattle.dc_links.specs.Links.{rows_of as ends_of, put_to, put_between, taken_from, taken_between, inlet_from}
 use Rattle.dc_mail.specs.Posts.{post_at}
 use Rattle.script_text.specs.declared.rounds.Role.TheVariants.{Sender, Receiver, Reporter, Pruner}
 use Rattle.script_text.specs.Deeds.{Progress}
 use Rattle.script_text.specs.Steps.{IsCount}
-use Rattle.script_text.specs.Links.{Inlet}
 use Rattle.script_text.specs.Rounds.{worker_of, mailed}
 use Rattle.script_text.specs.Scripts.{header_of}
-use Rattle.client_stub.specs.Playing.{StubView}
 use Rattle.run_book.specs.Moves.{client_steps, operator_steps}
-use Rattle.run_book.specs.Parts.{entries_by, exchanged}
 use Rattle.run_book.specs.Happenings.{ClientDoes}
 use Rattle.run_book.specs.Played.{new_progress}
 use Rattle.run_table.specs.declared.table.Table.{Table}
-use Rattle.run_table.specs.Tables.{log_at, AreHistories}
-use Rattle.run_sections.specs.Orders.{deeds_of, InOrder, ClientGoes, OperatorGoes, SenderGoes, ReporterGoes, PrunerGoes, ReceiverGoes, Intake, intake}
-use Rattle.run_sections.specs.Sections.{rounds_in, receipts_in, linked, mail_left, Left, Receives, actors_of}
-use Rattle.phase_play.specs.declared.callers.Caller.{Caller}
+use Rattle.run_table.specs.Tables.{log_at}
+use Rattle.run_sections.specs.Orders.{deeds_of, InOrder, ClientGoes, OperatorGoes, SenderGoes, ReporterGoes, PrunerGoes, ReceiverGoes, intake}
+use Rattle.run_sections.specs.Sections.{rounds_in, receipts_in, linked, mail_left, Receives}
 use Rattle.phase_play.specs.declared.crews.Crew.{Crew}
 use Rattle.phase_play.specs.declared.clients.Player.{Player}
 use Rattle.phase_play.specs.declared.scene.Scene.{Scene}
 use Rattle.phase_play.specs.Clients.{seat_of, seated, come_to}
 use Rattle.phase_play.specs.Workers.{intakes_of, receiving}
-use Rattle.thread_run.specs.Tables.{notes_at, come_of, between_of, IsTableOf, HasPlayed}
-use Rattle.thread_run.proofs.Zips.{HasPartner, zip_get, get_image, drop_front}
-use Rattle.thread_run.proofs.Callers.{Stands, HasActed, player_stands}
-use Rattle.thread_run.proofs.Redeeming.{rows_in, calls_noted, calls_paired, called_within, HasGrown, grown, trail_grown, all_histories, same_settings}
+use Rattle.thread_run.specs.Tables.{notes_at, come_of, between_of}
+use Rattle.thread_run.proofs.Zips.{get_image}
+use Rattle.thread_run.proofs.Callers.{player_stands}
 use Rattle.thread_run.proofs.Carrying.{receiver_order, none_set, row_there}
-use Rattle.thread_run.proofs.Playing.{IsPhasePlayed, left_between, count_of, before, behind, put_then, did, HasCrew, crew_of, HasPlayer, player_of, log_before, log_behind, notes_grown, left_is, operator_left, player_left, worker_left}
+use Rattle.thread_run.proofs.Playing.{IsPhasePlayed, left_between, put_then, crew_of, player_of, log_before, log_behind, operator_left, player_left, worker_left}
 
 module _ (scene : Scene) (old new : Table) (h : IsPhasePlayed scene old new) where
   -- ---- the operator and the workers that keep nothing in mind
 
+  -- the operator took its steps
   pub operator_plays : InOrder (OperatorGoes scene.script.now.n) scene.number 1 tt (operator_steps scene.section.now) ((left_between old new).notes 1) tt
   operator_plays = subst (λ notes. InOrder (OperatorGoes scene.script.now.n) scene.number 1 tt (operator_steps scene.section.now) notes tt) (sym (operator_left scene old new h)) h.run.played.operator.plays.order
 
@@ -62,16 +44,19 @@ module _ (scene : Scene) (old new : Table) (h : IsPhasePlayed scene old new) whe
       (subst (λ (phase : Bool). InOrder (Does i) scene.number 1 tt (cond phase (range_with_len 1 scene.script.now.rounds) []) mine tt) (sym h.run.begun.phase.phase)
       (subst (λ k. InOrder (Does k) scene.number 1 tt (range_with_len 1 scene.script.now.rounds) mine tt) number order))
 
+  -- each sender made its rounds
   pub senders_play : (i : ℕ) → IsCount scene.script.now.n i → InOrder (SenderGoes scene.script.now.n i) scene.number 1 tt (rounds_in scene.script.now scene.section.now) ((left_between old new).notes (worker_of scene.script.now.clients i Sender)) tt
   senders_play i range =
       let w = crew_of scene old h.run i range in
       rounds_play (SenderGoes scene.script.now.n) i w.crew.centre (worker_of scene.script.now.clients i Sender) w.done.sender.plays.plays.mine w.number (worker_left scene old new h i Sender range) w.done.sender.plays.plays.order
 
+  -- each reporter
   pub reporters_play : (i : ℕ) → IsCount scene.script.now.n i → InOrder (ReporterGoes scene.script.now.n i) scene.number 1 tt (rounds_in scene.script.now scene.section.now) ((left_between old new).notes (worker_of scene.script.now.clients i Reporter)) tt
   reporters_play i range =
       let w = crew_of scene old h.run i range in
       rounds_play (ReporterGoes scene.script.now.n) i w.crew.centre (worker_of scene.script.now.clients i Reporter) w.done.reporter.plays.mine w.number (worker_left scene old new h i Reporter range) w.done.reporter.plays.order
 
+  -- each pruner
   pub pruners_play : (i : ℕ) → IsCount scene.script.now.n i → InOrder (PrunerGoes i) scene.number 1 tt (rounds_in scene.script.now scene.section.now) ((left_between old new).notes (worker_of scene.script.now.clients i Pruner)) tt
   pruners_play i range =
       let w = crew_of scene old h.run i range in
@@ -97,6 +82,7 @@ module _ (scene : Scene) (old new : Table) (h : IsPhasePlayed scene old new) whe
       ∙ ((λ k. (sym (ap (λ row. put_to row j) first) ∙ h.run.begun.none_put from j) k ++ mailed j (deeds_of v.done.sender.plays.plays.mine))
       ∙ ap (λ notes. mailed j (deeds_of notes)) (sym (worker_left scene old new h from Sender there))))))
 
+  -- each receiver made its rounds, and took what was put
   pub receivers_play : (j : ℕ) → IsCount scene.script.now.n j → Receives scene.script.now scene.number scene.section.now (between_of scene.script.now old) (left_between old new) (between_of scene.script.now new) j
   receivers_play j range =
       let w = crew_of scene old h.run j range in
@@ -121,7 +107,7 @@ module _ (scene : Scene) (old new : Table) (h : IsPhasePlayed scene old new) whe
 
   -- ---- the clients
 
-  -- how far a client had come, and how far it has
+  -- how far a client had come
   come_before : (client : ℕ) (range : IsCount scene.script.now.clients client) → (between_of scene.script.now old).come client ≡ come_to (seated (seat_of (player_of scene old h.run client range).player))
   come_before client range =
       let p = player_of scene old h.run client range in
@@ -129,6 +115,7 @@ module _ (scene : Scene) (old new : Table) (h : IsPhasePlayed scene old new) whe
       ap (λ found. unwrap_or (option_map (come_of (notes_at old (client + 1))) found) (new_progress scene.script.now.n client scene.script.now.cache)) stub
       ∙ ap (λ (log : Logged). come_of log.notes p.player.stub) (log_before scene old h.run.begun (client + 1) p.player.caller (omega arith) (player_stands h.run.begun.cast.operator h.run.begun.cast.clients.items h.run.begun.cast.crews.items client p.player range.0 p.there))
 
+  -- how far it has come then
   come_behind : (client : ℕ) (range : IsCount scene.script.now.clients client) → (between_of scene.script.now new).come client ≡ come_to (seated (seat_of (player_of scene old h.run client range).later))
   come_behind client range =
       let p = player_of scene old h.run client range in
@@ -136,6 +123,7 @@ module _ (scene : Scene) (old new : Table) (h : IsPhasePlayed scene old new) whe
       ap (λ found. unwrap_or (option_map (come_of (notes_at new (client + 1))) found) (new_progress scene.script.now.n client scene.script.now.cache)) stub
       ∙ ap (λ (log : Logged). come_of log.notes p.later.stub) (log_behind scene old new h (client + 1) p.later.caller (omega arith) (player_stands h.run.acted.operator h.run.acted.clients.items h.run.parted.closed client p.later range.0 p.is))
 
+  -- each client took its steps
   pub clients_play : (client : ℕ) → IsCount scene.script.now.clients client → InOrder ClientGoes scene.number 1 ((between_of scene.script.now old).come client) (client_steps client scene.section.now) ((left_between old new).notes (client + 1)) ((between_of scene.script.now new).come client)
   clients_play client range =
       let p = player_of scene old h.run client range in

@@ -5,17 +5,24 @@ use Rattle.script_text.specs.declared.script.Script.{Script}
 use Rattle.script_text.specs.declared.steps.Section.{Section}
 use Rattle.script_text.specs.Steps.{IsCount}
 use Rattle.run_table.specs.declared.table.Table.{Table}
-use Rattle.run_sections.specs.Sections.{first_between, Left, actors_of}
+use Rattle.run_sections.specs.Sections.{Between, first_between, Left, actors_of}
 use Rattle.run_sections.specs.Runs.{PlaysSections}
 use Rattle.run_sections.specs.Apart.{AreApart, StandsAt}
 use Rattle.thread_run.specs.Tables.{notes_at, between_of, IsTableOf}
+
+-- the clients that there are have come as far, and the links between the centres have the same ends
+pub record AreAlike (script : Script) (one two : Between) : Type 0 where
+  pub come : (client : ℕ) → IsCount script.clients client → one.come client ≡ two.come client
+  pub inlets : (from to : ℕ) → IsCount script.n from → IsCount script.n to → one.inlets from to ≡ two.inlets from to
 
 -- these sections of a script were played, one after another: what they left are the notes and the trails, which belong
 -- together
 pub record HasRun (script : Script) (sections : List Section) (table : Table) : Type 0 where
   pub is : IsTableOf script table
   pub lefts : List Left
-  pub plays : PlaysSections script 1 (first_between script) sections lefts (between_of script table)
+  pub last : Between
+  pub plays : PlaysSections script 1 (first_between script) sections lefts last
+  pub alike : AreAlike script last (between_of script table)
   pub notes : (a : ℕ) → IsCount (actors_of script) a → notes_at table a ≡ flat_map (λ left. left.notes a) lefts
   pub trails : (i : ℕ) → trail_at table.door.centres i ≡ flat_map (λ left. left.entries i) lefts
   pub apart : AreApart script (notes_at table) (trail_at table.door.centres)

@@ -3,7 +3,6 @@ ghost use Rattle.std.specs.Prelude.{IfOk};
 ghost use Rattle.script_text.specs.Rows.{IsPhase};
 ghost use Rattle.script_text.specs.Scripts.{header_of, IsInRange};
 ghost use Rattle.thread_run.specs.Tables.{IsTableOf, AreLinked, HasPlayed};
-ghost use Rattle.run_sections.specs.Apart.{StandsAt};
 
 use crate::casting::cast_of;
 use crate::closing::close_and_part;

@@ -1,22 +1,45 @@
 // A script, section by section.
-ghost use Rattle.std.specs.Prelude.{◌≡◌, [], IfOk, length};
-ghost use Rattle.script_text.specs.Rows.{IsLine, IsSection};
+ghost use Rattle.std.specs.Prelude.{IfOk, OnOk};
+ghost use Rattle.dc_host.specs.KeptDoors.{trail_at};
+ghost use Rattle.script_text.specs.Rows.{section_of, IsLine, IsSection};
 ghost use Rattle.script_text.specs.Scripts.{header_of, IsInRange};
+ghost use Rattle.script_text.specs.Steps.{IsStepOf};
+ghost use Rattle.run_sections.specs.Apart.{IsBookWith};
 ghost use Rattle.run_sections.specs.Runs.{IsSectionRunOf};
-ghost use Rattle.thread_run.specs.Tables.{IsTableOf, AreLinked, HasPlayed};
+ghost use Rattle.thread_run.specs.Tables.{notes_at, IsTableOf, AreLinked, HasPlayed};
 ghost use Rattle.thread_run.specs.Played.{HasRun};
 
 use crate::phases::play_phase;
 use ids_core::NoMemory;
 use io_edge::Gate;
-use run_book::Book;
-use run_table::Table;
+use run_book::{Book, Logs};
+use run_table::{Table, trails_of};
 use script_text::{Script, Section, Step};
 use std::alloc::Global;
 use std::sync::Wait;
 use std::thread::Threads;
 
 // Has the step's actor take it, as the only one of the section of a number.
+fn take_one(
+    alloc: Global,
+    script: &Script,
+    number: u32,
+    step: &Step,
+    table: &mut Table,
+) -> Result<(), NoMemory>
+    requires range { IsInRange script.now }
+    requires step { IsStepOf (header_of script.now) step.now }
+    requires table { IsTableOf script.now table.old }
+    requires linked { AreLinked script.now table.old }
+    ensures { OnOk result (HasPlayed script.now number (section_of step.now) table.old table.new) }
+{
+    match step {
+        Step::Client { client, step } => table.step(alloc, *client, number, 1, step),
+        Step::Operator { step } => table.order(script.n, number, 1, step),
+    }
+}
+
+// Plays a section of one step, as the section of a number.
 fn play_line(
     alloc: Global,
     script: &Script,
@@ -31,8 +54,7 @@ fn play_line(
     ensures { OnOk result (HasPlayed script.now number section.now table.old table.new) }
 {
     match section.steps.as_slice() {
-        [Step::Client { client, step }] => table.step(alloc, *client, number, 1, step),
-        [Step::Operator { step }] => table.order(script.n, number, 1, step),
+        [step] => take_one(alloc, script, number, step, table),
         _ => unreachable!(),
     }
 }
@@ -81,6 +103,21 @@ fn play_all<R: Threads + Wait + Sync, G: Gate>(
     Ok(table)
 }
 
+// The book of a run of a script.
+fn book_of(alloc: Global, script: &Script, table: Table) -> Result<Book, NoMemory>
+    requires { IsTableOf script.now table }
+    ensures { IfOk result (λ book. IsBookWith script.now book (notes_at table) (trail_at table.door.centres)) }
+{
+    let Table { door, logs, .. } = table;
+    let trails = trails_of(alloc, door.part())?;
+    Ok(Book {
+        n: script.n,
+        k: script.k,
+        trails,
+        logs: Logs::from_vec(logs),
+    })
+}
+
 /// Plays a script whose numbers are in range, section by section, and each phase with threads: some for the clients, one
 /// for the operator, and four for each centre. Each call of a host passes through the gate. An `Err` is want of memory.
 /// It may wait for ever, as each wait of a thread may.
@@ -94,5 +131,5 @@ pub fn run<R: Threads + Wait + Sync, G: Gate>(
     ensures { IfOk result (IsSectionRunOf script.now) }
 {
     let table = play_all(rt, alloc, gate, script)?;
-    table.into_book(alloc, script.n, script.k)
+    book_of(alloc, script, table)
 }

@@ -1,7 +1,8 @@
 -- What is owed for what is given, and how a run ends.
-use Rattle.std.proofs.Common.{◌≡◌, ◌≢◌, ◌⊎◌, inl, inr, ◌↔◌, Bool, true, false, IsTrue, ◌++◌, ℕ, List, [], Option, Some, None, IfSome, IsSomeAnd, refl, sym, ap, ◌∙◌, subst, arith, get_or, is_some, true≢false}
+use Rattle.std.proofs.Common.{◌≡◌, ◌≢◌, ◌⊎◌, inl, inr, ◌↔◌, Bool, true, false, IsTrue, ◌++◌, ℕ, List, [], Option, Some, None, IfSome, IsSomeAnd, refl, sym, ap, ◌∙◌, subst, arith, ◌≤◌, get_or}
 use Rattle.std.specs.Prelude.{Ok, Err}
 use Rattle.std.proofs.lemmas.List.{append-nil}
+use Rattle.std.proofs.lemmas.Option.{none-some}
 use Rattle.io_edge.specs.Streams.{TookFront, puts_back, puts_behind}
 use Rattle.script_text.specs.Limits.{PassesLimits}
 use Rattle.script_reader.specs.declared.fault.Cause.{Cause}
@@ -9,21 +10,30 @@ use Rattle.script_reader.specs.declared.fault.ScriptFault.TheVariants.{Refused a
 use Rattle.script_text.specs.declared.script.Script.{Script}
 use Rattle.script_reader.specs.Scripts.{script_read}
 use Rattle.script_reader.proofs.CutOff.{cut_off, past_is_none}
+use Rattle.run_book.specs.Fit.{FitsWith}
 use Rattle.run_book.specs.Setups.{setup_of}
 use Rattle.run_book.proofs.Causal.Theorem.{causal}
 use Rattle.run_book.specs.declared.book.Book.{Book}
-use Rattle.world_core.specs.Runs.{IsRunOf}
 use Rattle.top_call.specs.declared.engine.Owed.{Owed}
 use Rattle.top_call.specs.declared.top.Ended.{Ended}
-use Rattle.top_call.specs.Runs.{Given, IsAnswerable, IsCausalRun, IsDone, IsRefusedAt, IsOwed, IsPlay, IsServed, Played, Made, Told, Done, Refused, Misused, IsPlayed, IsSomeScript, IsStatus, EndsSo, Plays, Wrote, empty_book, given_script, run_text, told_text}
+use Rattle.top_call.specs.Runs.{Given, IsAnswerable, IsBookOf, IsCausalRun, IsDone, IsRefusedAt, IsOwed, IsPlay, IsServed, Played, Made, Told, Done, Refused, Misused, IsPlayed, IsSomeScript, IsStatus, EndsSo, Plays, Wrote, empty_book, given_form, has_trails, run_text, told_text}
 use Rattle.command_line.specs.declared.form.Form.{Form}
-use Rattle.command_line.specs.declared.form.Form.TheVariants.{Serial, Make, Help, Version}
-use Rattle.command_line.specs.Forms.{spelled}
+use Rattle.command_line.specs.declared.form.Form.TheVariants.{Run, Serial, Make, Help, Version}
+use Rattle.command_line.specs.Forms.{IsForm, spelled}
+use Rattle.command_line.proofs.Spelled.{one_form}
+
+-- the book that a form leaves fits
+pub book_fits : (form : Form) (script : Script) (book : Book) → IsBookOf form script book → FitsWith book (setup_of script)
+book_fits (Run trail) script book run = run.fits
+book_fits (Serial trail) script book run = run.fits
+book_fits (Make num) script book run = absurd run
+book_fits Help script book run = absurd run
+book_fits Version script book run = absurd run
 
 -- what is owed for a script is a run of its steps
-pub run_plays : (trail : Bool) (bytes : List ℕ) (script : Script) (owed : Owed) → script_read bytes ≡ Ok script → owed.status ≡ 0 → IsRunOf script owed.book → owed.text.items ≡ run_text trail owed.book (setup_of script) → owed.fault ≡ None → IsPlayed (given_script trail (Some bytes)) owed
-run_plays trail bytes script owed spelled status run text sound = record {
-  trail = trail;
+pub run_plays : (form : Form) (bytes : List ℕ) (script : Script) (owed : Owed) → script_read bytes ≡ Ok script → owed.status ≡ 0 → IsBookOf form script owed.book → owed.text.items ≡ run_text (has_trails form) owed.book (setup_of script) → owed.fault ≡ None → IsPlayed (given_form form (Some bytes)) owed
+run_plays form bytes script owed spelled status run text sound = record {
+  asked = form;
   form = refl;
   status = status;
   run = record {
@@ -32,7 +42,7 @@ run_plays trail bytes script owed spelled status run text sound = record {
     script = script;
     spelled = spelled;
     run = run;
-    causal = causal owed.book (setup_of script) run.fits;
+    causal = causal owed.book (setup_of script) (book_fits form script owed.book run);
   };
   text = text;
   sound = sound;
@@ -69,29 +79,62 @@ refused_left bytes false (Some rest) line cause fault limits whole = ap script_r
 abbrev first_byte : List (List ℕ) → ℕ
 first_byte words = get_or (get_or words 0 []) 0 0
 
-pub some≢none : {X : Type 0} (x : X) → Some x ≡ None → ⊥
-some≢none x e = true≢false (ap is_some e)
+-- words that play a script begin with r or s
+play_first : (form : Form) → IsPlay form → 114 ≤ first_byte (spelled form)
+play_first (Run trail) play = omega arith
+play_first (Serial trail) play = omega arith
+play_first (Make num) play = absurd play
+play_first Help play = absurd play
+play_first Version play = absurd play
+
+-- no other words do
+late_first : (form : Form) → 114 ≤ first_byte (spelled form) → IsPlay form
+late_first (Run trail) late = tt
+late_first (Serial trail) late = tt
+late_first (Make num) late = absurd (omega (arith, late))
+late_first Help late = absurd (omega (arith, late))
+late_first Version late = absurd (omega (arith, late))
 
 -- words that play a script spell no other form
-serial_first : (form : Form) → (trail : Bool) → spelled (Serial trail) ≡ spelled form → IsPlay form
-serial_first (Serial again) trail same = tt
-serial_first (Make num) trail same = absurd (let bad : 115 ≡ 109 = ap first_byte same in omega (arith, bad))
-serial_first Help trail same = absurd (let bad : 115 ≡ 45 = ap first_byte same in omega (arith, bad))
-serial_first Version trail same = absurd (let bad : 115 ≡ 45 = ap first_byte same in omega (arith, bad))
-
 pub play_of : (words : List (List ℕ)) (form : Form) → words ≡ spelled form → Plays words → IsPlay form
-play_of words form is plays = serial_first form plays.0 (sym plays.1 ∙ is)
+play_of words form is plays = late_first form (subst (λ w. 114 ≤ first_byte w) (sym plays.form ∙ is) (play_first plays.asked plays.plays))
 
 -- a form that plays a script is spelled by words that do
 pub plays_by : (words : List (List ℕ)) (form : Form) → words ≡ spelled form → IsPlay form → Plays words
-plays_by words (Serial trail) is play = (trail, is)
-plays_by words (Make num) is play = absurd play
-plays_by words Help is play = absurd play
-plays_by words Version is play = absurd play
+plays_by words form is play = record { asked = form; plays = play; form = is }
+
+-- a form that plays a script is one that the program knows
+pub play_known : (form : Form) → IsPlay form → IsForm form
+play_known (Run trail) play = tt
+play_known (Serial trail) play = tt
+play_known (Make num) play = absurd play
+play_known Help play = absurd play
+play_known Version play = absurd play
+
+-- a form that leaves a book of a script plays it
+pub book_plays : (form : Form) (script : Script) (book : Book) → IsBookOf form script book → IsPlay form
+book_plays (Run trail) script book run = tt
+book_plays (Serial trail) script book run = tt
+book_plays (Make num) script book run = run
+book_plays Help script book run = run
+book_plays Version script book run = run
+
+-- a form by which a script was played plays it
+pub played_by : (given : Given) (owed : Owed) (p : IsPlayed given owed) → IsPlay p.asked
+played_by given owed p = book_plays p.asked p.run.script owed.book p.run.run
+
+-- words by which a script was played ask for one
+pub asks : (given : Given) (owed : Owed) → IsPlayed given owed → Plays given.words
+asks given owed p = plays_by given.words p.asked p.form (played_by given owed p)
+
+-- words ask for a script to be played by one form
+pub one_play : (form again : Form) → IsPlay form → IsPlay again → spelled form ≡ spelled again → form ≡ again
+one_play form again play too same = one_form form again (play_known form play) (play_known again too) same
 
 -- a question is no form that plays a script
 pub no_question : (form : Form) (text : List ℕ) → told_text form ≡ Some text → IsPlay form → ⊥
-no_question (Serial trail) text told play = some≢none text (sym told)
+no_question (Run trail) text told play = none-some text told
+no_question (Serial trail) text told play = none-some text told
 no_question (Make num) text told play = play
 no_question Help text told play = play
 no_question Version text told play = play
@@ -103,9 +146,9 @@ played_of given owed plays (Made m) = absurd (play_of given.words (Make m.num) m
 played_of given owed plays (Told t) = absurd (no_question t.question owed.text.items t.text (play_of given.words t.question t.form plays))
 
 -- what is owed for the bytes that were read is owed for what the source had left
-pub owed_left : (trail : Bool) (old new : Option (List ℕ)) (bytes : List ℕ) (past : Bool) (owed : Owed) → old ≡ puts_back bytes new → (IsTrue past ↔ PassesLimits bytes) → (past ≡ false → IfSome new (λ rest. rest ≡ [])) → IsOwed (given_script trail (Some bytes)) owed → IsOwed (given_script trail old) owed
-owed_left trail old new bytes past owed parts limits whole (Done d) = Done (Played (record {
-  trail = p.trail;
+pub owed_left : (form : Form) (old new : Option (List ℕ)) (bytes : List ℕ) (past : Bool) (owed : Owed) → IsPlay form → old ≡ puts_back bytes new → (IsTrue past ↔ PassesLimits bytes) → (past ≡ false → IfSome new (λ rest. rest ≡ [])) → IsOwed (given_form form (Some bytes)) owed → IsOwed (given_form form old) owed
+owed_left form old new bytes past owed play parts limits whole (Done d) = Done (Played (record {
+  asked = p.asked;
   form = p.form;
   status = p.status;
   run = record {
@@ -120,15 +163,15 @@ owed_left trail old new bytes past owed parts limits whole (Done d) = Done (Play
   sound = p.sound;
 }))
   where
-    p : IsPlayed (given_script trail (Some bytes)) owed
-    p = played_of (given_script trail (Some bytes)) owed (trail, refl) d
+    p : IsPlayed (given_form form (Some bytes)) owed
+    p = played_of (given_form form (Some bytes)) owed (plays_by (spelled form) form refl play) d
 
     spells : script_read bytes ≡ Ok p.run.script
     spells = ap script_read p.run.input ∙ p.run.spelled
 
     within : PassesLimits bytes → ⊥
     within past = past_is_none bytes p.run.script past spells
-owed_left trail old new bytes past owed parts limits whole (Refused r) = Refused (record {
+owed_left form old new bytes past owed play parts limits whole (Refused r) = Refused (record {
   form = r.form;
   status = r.status;
   line = r.line;
@@ -142,28 +185,27 @@ owed_left trail old new bytes past owed parts limits whole (Refused r) = Refused
   book = r.book;
   told = r.told;
 })
-owed_left trail old new bytes past owed parts limits whole (Misused u) = absurd (u.form (Serial trail) tt refl)
+owed_left form old new bytes past owed play parts limits whole (Misused u) = absurd (u.form form (play_known form play) refl)
 
 -- where the bytes that were read are played, nothing is left
-pub end_met : (trail : Bool) (new : Option (List ℕ)) (bytes : List ℕ) (past : Bool) (owed : Owed) → (IsTrue past ↔ PassesLimits bytes) → (past ≡ false → IfSome new (λ rest. rest ≡ [])) → IsOwed (given_script trail (Some bytes)) owed → owed.status ≡ 0 → IfSome new (λ rest. rest ≡ [])
-end_met trail new bytes past owed limits whole (Done d) zero =
-    let p = played_of (given_script trail (Some bytes)) owed (trail, refl) d in
+pub end_met : (form : Form) (new : Option (List ℕ)) (bytes : List ℕ) (past : Bool) (owed : Owed) → IsPlay form → (IsTrue past ↔ PassesLimits bytes) → (past ≡ false → IfSome new (λ rest. rest ≡ [])) → IsOwed (given_form form (Some bytes)) owed → owed.status ≡ 0 → IfSome new (λ rest. rest ≡ [])
+end_met form new bytes past owed play limits whole (Done d) zero =
+    let p = played_of (given_form form (Some bytes)) owed (plays_by (spelled form) form refl play) d in
     whole_of bytes past new (λ over. past_is_none bytes p.run.script over (ap script_read p.run.input ∙ p.run.spelled)) limits whole
-end_met trail new bytes past owed limits whole (Refused r) zero = absurd (omega (arith, zero, r.status))
-end_met trail new bytes past owed limits whole (Misused u) zero = absurd (omega (arith, zero, u.status))
+end_met form new bytes past owed play limits whole (Refused r) zero = absurd (omega (arith, zero, r.status))
+end_met form new bytes past owed play limits whole (Misused u) zero = absurd (omega (arith, zero, u.status))
 
 -- a run of what a source had left
-abbrev run_left : (left other : Option (List ℕ)) (book : Book) → left ≡ other → IsCausalRun left book → IsCausalRun other book
-run_left left other book same run = record { bytes = run.bytes; input = subst (λ l. IfSome l (λ all. all ≡ run.bytes)) same run.input; script = run.script; spelled = run.spelled; run = run.run; causal = run.causal }
+abbrev run_left : (form : Form) (left other : Option (List ℕ)) (book : Book) → left ≡ other → IsCausalRun form left book → IsCausalRun form other book
+run_left form left other book same run = record { bytes = run.bytes; input = subst (λ l. IfSome l (λ all. all ≡ run.bytes)) same run.input; script = run.script; spelled = run.spelled; run = run.run; causal = run.causal }
 
--- what is owed for a script is owed for the words that play it, whatever the sink has
-pub owed_given : (trail : Bool) (given : Given) (left : Option (List ℕ)) (owed : Owed) → given.words ≡ spelled (Serial trail) → given.left ≡ left → IsOwed (given_script trail left) owed → IsOwed given owed
-owed_given trail given left owed form same (Done d) = Done (Played (record { trail = p.trail; form = form ∙ p.form; status = p.status; run = run_left left given.left owed.book (sym same) p.run; text = p.text; sound = p.sound }))
-  where
-    p : IsPlayed (given_script trail left) owed
-    p = played_of (given_script trail left) owed (trail, refl) d
-owed_given trail given left owed form same (Refused r) = Refused (record { form = (trail, form); status = r.status; line = r.line; cause = r.cause; refused = subst (λ l. IsRefusedAt l r.line r.cause) (sym same) r.refused; text = r.text; book = r.book; told = r.told })
-owed_given trail given left owed form same (Misused u) = absurd (u.form (Serial trail) tt refl)
+-- what is owed for the words of a form is owed whatever the sink has
+pub owed_given : (form : Form) (given : Given) (left : Option (List ℕ)) (owed : Owed) → given.words ≡ spelled form → given.left ≡ left → IsOwed (given_form form left) owed → IsOwed given owed
+owed_given form given left owed spells same (Done (Played p)) = Done (Played (record { asked = p.asked; form = spells ∙ p.form; status = p.status; run = run_left p.asked left given.left owed.book (sym same) p.run; text = p.text; sound = p.sound }))
+owed_given form given left owed spells same (Done (Made m)) = Done (Made (record { num = m.num; known = m.known; form = spells ∙ m.form; status = m.status; text = m.text; book = m.book; sound = m.sound }))
+owed_given form given left owed spells same (Done (Told t)) = Done (Told (record { question = t.question; form = spells ∙ t.form; status = t.status; text = t.text; book = t.book; sound = t.sound }))
+owed_given form given left owed spells same (Refused r) = Refused (record { form = record { asked = r.form.asked; plays = r.form.plays; form = spells ∙ r.form.form }; status = r.status; line = r.line; cause = r.cause; refused = subst (λ l. IsRefusedAt l r.line r.cause) (sym same) r.refused; text = r.text; book = r.book; told = r.told })
+owed_given form given left owed spells same (Misused u) = Misused (record { form = λ other known is. u.form other known (sym spells ∙ is); status = u.status; text = u.text; book = u.book; sound = u.sound })
 
 -- ---- the ends
 
@@ -251,10 +293,7 @@ not_both (Some bytes) line cause (script, spelled) refused = absurd (let both : 
 
 -- what a form wants of the source is there, so nothing is refused
 never_refused : (given : Given) (line : ℕ) (cause : Cause) (asked : Form) → given.words ≡ spelled asked → IsServed asked given.left → Plays given.words → IsRefusedAt given.left line cause → ⊥
-never_refused given line cause (Serial trail) form served plays refused = not_both given.left line cause served refused
-never_refused given line cause (Make num) form served plays refused = play_of given.words (Make num) form plays
-never_refused given line cause Help form served plays refused = play_of given.words Help form plays
-never_refused given line cause Version form served plays refused = play_of given.words Version form plays
+never_refused given line cause asked form served plays refused = not_both given.left line cause (served (play_of given.words asked form plays)) refused
 
 -- what can be answered is, where no read and no write failed and memory sufficed
 pub ends_complete : (given : Given) (ended : Ended) (taken : Option (List ℕ)) → IsAnswerable given → ended.status ≢ 4 → ended.status ≢ 5 → EndsSo given ended taken → (ended.status ≡ 0) ⊎ (ended.status ≡ 6)
@@ -269,8 +308,14 @@ ends_complete given ended taken asks no_read no_write ends = by_status ends.stat
     by_status (inr (inr (inr (inr (inr six))))) = inr six
 
 -- where a script was to be played and the run ended well, its book is causal
-pub ends_causal : (given : Given) (ended : Ended) (taken : Option (List ℕ)) → EndsSo given ended taken → ended.status ≡ 0 → Plays given.words → IsCausalRun given.left ended.book
-ends_causal given ended taken ends zero plays = subst (IsCausalRun given.left) (sym wrote.book) (played_of given wrote.owed plays wrote.kind).run
+pub ends_causal : (given : Given) (ended : Ended) (taken : Option (List ℕ)) → EndsSo given ended taken → ended.status ≡ 0 → (play : Plays given.words) → IsCausalRun play.asked given.left ended.book
+ends_causal given ended taken ends zero play = subst (IsCausalRun play.asked given.left) (sym wrote.book) (subst (λ form. IsCausalRun form given.left wrote.owed.book) same p.run)
   where
     wrote : Wrote IsDone given ended taken
     wrote = ends.done zero
+
+    p : IsPlayed given wrote.owed
+    p = played_of given wrote.owed play wrote.kind
+
+    same : p.asked ≡ play.asked
+    same = one_play p.asked play.asked (played_by given wrote.owed p) play.plays (sym p.form ∙ play.form)

@@ -3,7 +3,7 @@ use Rattle.std.specs.Prelude.{◌≡◌, ◌≢◌, ◌⊎◌, ⊤, ℕ, Bool, t
 use Rattle.std.specs.Global.{Global}
 use Rattle.std.specs.String.{string_bytes}
 use Rattle.command_line.specs.declared.form.Form.{Form}
-use Rattle.command_line.specs.declared.form.Form.TheVariants.{Serial, Make, Help, Version}
+use Rattle.command_line.specs.declared.form.Form.TheVariants.{Run, Serial, Make, Help, Version}
 use Rattle.command_line.specs.Forms.{IsForm, spelled}
 use Rattle.command_line.specs.Texts.{help_text, usage_text, version_text}
 use Rattle.io_edge.specs.Streams.{TookFront, puts_behind}
@@ -18,6 +18,7 @@ use Rattle.run_book.specs.Causal.{IsCausal}
 use Rattle.print_text.specs.Text.{text_of}
 use Rattle.trail_text.specs.Trails.{trail_text}
 use Rattle.load_maker.specs.Made.{made_script}
+use Rattle.run_sections.specs.Runs.{IsSectionRunOf}
 use Rattle.world_core.specs.Runs.{IsRunOf}
 use Rattle.top_call.specs.declared.engine.Owed.{Owed}
 use Rattle.top_call.specs.declared.top.Ended.{Ended}
@@ -36,14 +37,30 @@ texts words = map string_bytes words
 abbrev pub given_by : List (String Global) → Option (List ℕ) → Option (List ℕ) → Given
 given_by words left taken = record { words = texts words; left = left; taken = taken }
 
--- the words ask for a script to be played on one thread: `serial`, with the trails or without
-abbrev pub Plays : List (List ℕ) → Type 0
-Plays words = (trail : Bool) × (words ≡ spelled (Serial trail))
-
--- a form that plays a script
+-- a form that plays a script: `run` or `serial`, with the trails or without
 abbrev pub IsPlay : Form → Type 0
+IsPlay (Run trail) = ⊤
 IsPlay (Serial trail) = ⊤
 IsPlay _ = ⊥
+
+-- whether a form asks for the trails
+abbrev pub has_trails : Form → Bool
+has_trails (Run trail) = trail
+has_trails (Serial trail) = trail
+has_trails _ = false
+
+-- the words ask for a script to be played
+pub record Plays (words : List (List ℕ)) : Type 0 where
+  pub asked : Form
+  pub plays : IsPlay asked
+  pub form : words ≡ spelled asked
+
+-- a book that a form leaves of a script: one of a run section by section, with threads in the phases, or of a run on one
+-- thread
+abbrev pub IsBookOf : Form → Script → Book → Type 0
+IsBookOf (Run trail) script book = IsSectionRunOf script book
+IsBookOf (Serial trail) script book = IsRunOf script book
+IsBookOf _ script book = ⊥
 
 -- what words are answered with that ask for neither a script nor an input: help and the version
 abbrev pub told_text : Form → Option (List ℕ)
@@ -69,13 +86,13 @@ abbrev pub IsSomeScript : List ℕ → Type 0
 IsSomeScript bytes = (script : Script) × (script_read bytes ≡ Ok script)
 
 -- all that a source had left, as far as it tells that, are bytes that are a script, and the book is one
--- of a run of this script and causal
-pub record IsCausalRun (left : Option (List ℕ)) (book : Book) : Type 0 where
+-- that the form leaves of this script, and causal
+pub record IsCausalRun (form : Form) (left : Option (List ℕ)) (book : Book) : Type 0 where
   pub bytes : List ℕ
   pub input : IfSome left (λ all. all ≡ bytes)
   pub script : Script
   pub spelled : script_read bytes ≡ Ok script
-  pub run : IsRunOf script book
+  pub run : IsBookOf form script book
   pub causal : IsCausal book (setup_of script)
 
 -- all that a source had left, as far as it tells that, are bytes that are no script: the first line at fault has this
@@ -89,11 +106,11 @@ pub record IsRefusedAt (left : Option (List ℕ)) (line : ℕ) (cause : Cause) :
 
 -- what is owed for a script: status 0, the book of a run of it, and the text of this run
 pub record IsPlayed (given : Given) (owed : Owed) : Type 0 where
-  pub trail : Bool
-  pub form : given.words ≡ spelled (Serial trail)
+  pub asked : Form
+  pub form : given.words ≡ spelled asked
   pub status : owed.status ≡ 0
-  pub run : IsCausalRun given.left owed.book
-  pub text : owed.text.items ≡ run_text trail owed.book (setup_of run.script)
+  pub run : IsCausalRun asked given.left owed.book
+  pub text : owed.text.items ≡ run_text (has_trails asked) owed.book (setup_of run.script)
   pub sound : owed.fault ≡ None
 
 -- what is owed for a number: status 0, and the script that is made of it
@@ -182,8 +199,7 @@ pub record WroteShort (given : Given) (ended : Ended) (taken : Option (List ℕ)
 
 -- what a form wants of the source: that it tells that it has a script left, where one is played
 abbrev pub IsServed : Form → Option (List ℕ) → Type 0
-IsServed (Serial trail) left = IsSomeAnd left IsSomeScript
-IsServed _ left = ⊤
+IsServed form left = IsPlay form → IsSomeAnd left IsSomeScript
 
 -- the words have a form, and the source has what this form wants
 pub record IsAnswerable (given : Given) : Type 0 where
@@ -194,9 +210,9 @@ pub record IsAnswerable (given : Given) : Type 0 where
 
 -- ---- on the way to the top call
 
--- what is given by a source that has this left of a script to be played, with a sink that tells nothing
-abbrev pub given_script : Bool → Option (List ℕ) → Given
-given_script trail left = record { words = spelled (Serial trail); left = left; taken = None }
+-- what is given by the words of a form, by a source that has this left, and by a sink that tells nothing
+abbrev pub given_form : Form → Option (List ℕ) → Given
+given_form form left = record { words = spelled form; left = left; taken = None }
 
 -- what a run left, by its status
 pub record EndsSo (given : Given) (ended : Ended) (taken : Option (List ℕ)) : Type 0 where

@@ -3,16 +3,20 @@ ghost use Rattle.std.specs.Prelude.{◌≡◌, Some, None, IfOk};
 ghost use Rattle.run_book.specs.Fit.{FitsWith};
 ghost use Rattle.run_book.specs.Setups.{Setup, setup_of};
 ghost use Rattle.script_text.specs.Scripts.{IsInRange};
-ghost use Rattle.world_core.specs.Runs.{IsRunOf};
-ghost use Rattle.top_call.specs.Runs.{IsOwed, empty_book, given_script, refusal_text, run_text};
+ghost use Rattle.top_call.specs.Runs.{IsBookOf, IsOwed, IsPlay, empty_book, given_form, has_trails, refusal_text, run_text};
 
 use crate::refusal::refusal_line;
+use command_line::Form;
 use ids_core::NoMemory;
+use io_edge::Gate;
 use print_text::text_of;
 use run_book::Book;
 use script_reader::{Cause, ScriptFault, parse};
 use script_text::Script;
 use std::alloc::Global;
+use std::sync::Wait;
+use std::thread::Threads;
+use thread_run::run;
 use trail_text::trail_text;
 use world_core::serial;
 
@@ -74,16 +78,53 @@ fn text_of_run(alloc: Global, book: &Book, trail: bool) -> Result<Vec<u8>, NoMem
     Ok(text)
 }
 
-// What is owed for a script: it is played on one thread, and its text is that of the run.
-fn script_run(alloc: Global, script: &Script, trail: bool) -> Result<Owed, NoMemory>
-    requires { IsInRange script.now }
+// Whether a form asks for the trails.
+fn asks_for_trails(form: Form) -> bool
+    ensures { result ≡ has_trails form }
+{
+    match form {
+        Form::Run { trail } | Form::Serial { trail } => trail,
+        _ => false,
+    }
+}
+
+// The book that a form leaves of a script.
+fn book_of<R: Threads + Wait + Sync, G: Gate>(
+    rt: &R,
+    alloc: Global,
+    gate: &G,
+    form: Form,
+    script: &Script,
+) -> Result<Book, NoMemory>
+    requires play { IsPlay form }
+    requires range { IsInRange script.now }
+    ensures { IfOk result (IsBookOf form script.now) }
+{
+    match form {
+        Form::Run { .. } => run(rt, alloc, gate, script),
+        Form::Serial { .. } => serial(alloc, script),
+        _ => unreachable!(),
+    }
+}
+
+// What is owed for a script: it is played as the form says, and its text is that of the run.
+#[tactic(auto, using(crate::proofs::Owing::book_fits))]
+fn script_run<R: Threads + Wait + Sync, G: Gate>(
+    rt: &R,
+    alloc: Global,
+    gate: &G,
+    form: Form,
+    script: &Script,
+) -> Result<Owed, NoMemory>
+    requires play { IsPlay form }
+    requires range { IsInRange script.now }
     ensures status { IfOk result (λ owed. owed.status ≡ 0) }
-    ensures run { IfOk result (λ owed. IsRunOf script.now owed.book) }
-    ensures text { IfOk result (λ owed. owed.text.items ≡ run_text trail owed.book (setup_of script.now)) }
+    ensures run { IfOk result (λ owed. IsBookOf form script.now owed.book) }
+    ensures text { IfOk result (λ owed. owed.text.items ≡ run_text (has_trails form) owed.book (setup_of script.now)) }
     ensures sound { IfOk result (λ owed. owed.fault ≡ None) }
 {
-    let book = serial(alloc, script)?;
-    let text = text_of_run(alloc, &book, trail)?;
+    let book = book_of(rt, alloc, gate, form, script)?;
+    let text = text_of_run(alloc, &book, asks_for_trails(form))?;
     Ok(Owed {
         status: 0,
         text,
@@ -93,12 +134,19 @@ fn script_run(alloc: Global, script: &Script, trail: bool) -> Result<Owed, NoMem
 }
 
 /// What is owed for an input: a script is played, and other bytes are refused.
-pub fn owed_for(alloc: Global, bytes: &[u8], trail: bool) -> Result<Owed, NoMemory>
-    ensures { IfOk result (IsOwed (given_script trail (Some bytes.now))) }
+pub fn owed_for<R: Threads + Wait + Sync, G: Gate>(
+    rt: &R,
+    alloc: Global,
+    gate: &G,
+    form: Form,
+    bytes: &[u8],
+) -> Result<Owed, NoMemory>
+    requires { IsPlay form }
+    ensures { IfOk result (IsOwed (given_form form (Some bytes.now))) }
 {
     match parse(alloc, bytes) {
         Ok(script) => {
-            let owed = script_run(alloc, &script, trail)?;
+            let owed = script_run(rt, alloc, gate, form, &script)?;
             Ok(owed)
         }
         Err(ScriptFault::Refused { line, cause }) => {

@@ -3,7 +3,7 @@ ghost use Rattle.std.specs.Prelude.{◌≡◌, ◌≢◌, ◌⊎◌, ℕ, List, 
 ghost use Rattle.command_line.specs.Forms.{IsForm, spelled};
 ghost use Rattle.command_line.specs.Texts.{usage_text};
 ghost use Rattle.io_edge.specs.Streams.{HasRisen};
-ghost use Rattle.top_call.specs.Runs.{EndsSo, Given, IsAnswerable, IsCausalRun, IsDone, IsOwed, IsPlay, IsRefusal, IsStatus, IsUsage, Plays, Wrote, WroteFront, WroteNothing, WroteShort, empty_book, given_by, given_script, texts};
+ghost use Rattle.top_call.specs.Runs.{EndsSo, Given, IsAnswerable, IsCausalRun, IsDone, IsOwed, IsPlay, IsRefusal, IsStatus, IsUsage, Plays, Wrote, WroteFront, WroteNothing, WroteShort, empty_book, given_by, given_form, texts};
 
 use crate::engine::{Fault, Owed, answer, owed_for};
 use crate::stream::{ReadFault, read_input, write_all};
@@ -13,6 +13,8 @@ use io_edge::{Gate, Sink, Source, WriteFault};
 use load_maker::script_of;
 use run_book::Book;
 use std::alloc::Global;
+use std::sync::Wait;
+use std::thread::Threads;
 
 /// How a run ended.
 #[derive(Drop)]
@@ -41,20 +43,33 @@ fn usage(alloc: Global) -> Result<Owed, NoMemory>
     })
 }
 
-// Reads an input, and what is owed for it.
-fn owed_of<S: Source>(alloc: Global, source: &mut S, trail: bool) -> Result<Owed, ReadFault>
-    ensures owed { IfOk result (IsOwed (given_script trail (S.left source.old))) }
+// Reads an input, and what is owed for it by a form that plays it.
+fn owed_of<R: Threads + Wait + Sync, S: Source, G: Gate>(
+    rt: &R,
+    alloc: Global,
+    gate: &G,
+    form: Form,
+    source: &mut S,
+) -> Result<Owed, ReadFault>
+    requires { IsPlay form }
+    ensures owed { IfOk result (IsOwed (given_form form (S.left source.old))) }
     ensures end { IfOk result (λ owed. owed.status ≡ 0 → IfSome (S.left source.new) (λ rest. rest ≡ [])) }
     ensures failed { result ≡ Err ReadFault.Failed → HasRisen (S.faults source.old) (S.faults source.new) }
     ensures quiet { result ≢ Err ReadFault.Failed → S.faults source.new ≡ S.faults source.old }
 {
     let input = read_input(alloc, source)?;
-    let owed = owed_for(alloc, &input.bytes, trail)?;
+    let owed = owed_for(rt, alloc, gate, form, &input.bytes)?;
     Ok(owed)
 }
 
 // What is owed for a form. Only a script that is to be played is read from the source.
-fn owed_by<S: Source>(alloc: Global, form: Form, source: &mut S) -> Result<Owed, ReadFault>
+fn owed_by<R: Threads + Wait + Sync, S: Source, G: Gate>(
+    rt: &R,
+    alloc: Global,
+    gate: &G,
+    form: Form,
+    source: &mut S,
+) -> Result<Owed, ReadFault>
     requires { IsForm form }
     ensures owed { IfOk result (λ owed. (given : Given) → given.words ≡ spelled form → given.left ≡ S.left source.old → IsOwed given owed) }
     ensures end { IfOk result (λ owed. owed.status ≡ 0 → IsPlay form → IfSome (S.left source.new) (λ rest. rest ≡ [])) }
@@ -64,8 +79,8 @@ fn owed_by<S: Source>(alloc: Global, form: Form, source: &mut S) -> Result<Owed,
     ensures quiet { result ≢ Err ReadFault.Failed → S.faults source.new ≡ S.faults source.old }
 {
     match form {
-        Form::Serial { trail } => {
-            let owed = owed_of(alloc, source, trail)?;
+        Form::Run { .. } | Form::Serial { .. } => {
+            let owed = owed_of(rt, alloc, gate, form, source)?;
             Ok(owed)
         }
         Form::Make { num } => Ok(answer(alloc, script_of(alloc, num)?)),
@@ -75,7 +90,13 @@ fn owed_by<S: Source>(alloc: Global, form: Form, source: &mut S) -> Result<Owed,
 }
 
 // What is owed for the words and the source, from which nothing is read for words of another form.
-fn owed_to<S: Source>(alloc: Global, words: &[String], source: &mut S) -> Result<Owed, ReadFault>
+fn owed_to<R: Threads + Wait + Sync, S: Source, G: Gate>(
+    rt: &R,
+    alloc: Global,
+    gate: &G,
+    words: &[String],
+    source: &mut S,
+) -> Result<Owed, ReadFault>
     ensures owed { IfOk result (λ owed. (taken : Option (List ℕ)) → IsOwed (given_by words.now (S.left source.old) taken) owed) }
     ensures end { IfOk result (λ owed. owed.status ≡ 0 → Plays (texts words.now) → IfSome (S.left source.new) (λ rest. rest ≡ [])) }
     ensures unread { (Plays (texts words.now) → ⊥) → S.left source.new ≡ S.left source.old }
@@ -85,7 +106,7 @@ fn owed_to<S: Source>(alloc: Global, words: &[String], source: &mut S) -> Result
 {
     match form_of(alloc, words)? {
         Some(form) => {
-            let owed = owed_by(alloc, form, source)?;
+            let owed = owed_by(rt, alloc, gate, form, source)?;
             Ok(owed)
         }
         None => {
@@ -109,7 +130,14 @@ fn ended_empty(alloc: Global, status: u8) -> Ended
 }
 
 // Runs the words, by what is owed for them.
-fn run<S: Source, W: Sink>(alloc: Global, words: &[String], source: &mut S, sink: &mut W) -> Ended
+fn run<R: Threads + Wait + Sync, S: Source, W: Sink, G: Gate>(
+    rt: &R,
+    alloc: Global,
+    words: &[String],
+    source: &mut S,
+    sink: &mut W,
+    gate: &G,
+) -> Ended
     ensures ends { EndsSo (given_by words.now (S.left source.old) (W.taken sink.old)) result (W.taken sink.new) }
     ensures end { result.status ≡ 0 → Plays (texts words.now) → IfSome (S.left source.new) (λ rest. rest ≡ []) }
     ensures unread { (Plays (texts words.now) → ⊥) → S.left source.new ≡ S.left source.old }
@@ -118,7 +146,7 @@ fn run<S: Source, W: Sink>(alloc: Global, words: &[String], source: &mut S, sink
     ensures read_quiet { result.status ≢ 4 → S.faults source.new ≡ S.faults source.old }
     ensures write_quiet { result.status ≢ 5 → W.faults sink.new ≡ W.faults sink.old }
 {
-    match owed_to(alloc, words, source) {
+    match owed_to(rt, alloc, gate, words, source) {
         Ok(owed) => match write_all(sink, &owed.text) {
             Ok(()) => Ended {
                 status: owed.status,
@@ -140,21 +168,24 @@ fn run<S: Source, W: Sink>(alloc: Global, words: &[String], source: &mut S, sink
 /// Does what the words ask for ([`Form`]): plays the script that the source has and writes the text of the
 /// run to the sink, the values read and the answers of the steps; writes the script that is made of a number; or
 /// tells how the program is used. The statuses are those of [`Ended`]. After the first read or write that fails
-/// no other is made. The gate is for runs with threads.
-pub fn swift_main<S: Source, W: Sink, G: Gate>(
+/// no other is made. `run` plays a script with threads, and each call that one of them makes of a centre passes through
+/// the gate; so there it may wait for ever.
+pub fn swift_main<R: Threads + Wait + Sync, S: Source, W: Sink, G: Gate>(
+    rt: &R,
     alloc: Global,
     words: &[String],
     source: &mut S,
     sink: &mut W,
-    _gate: &G,
+    gate: &G,
 ) -> Ended
     // There are no other statuses.
     ensures statuses { IsStatus result.status }
 
     // 0: the words have a form. Where it is one that plays a script, all that the source had is a script that was
-    // played, the book is one of its run, and the sink took the text of that book, and of its trails where they were
-    // asked for. Of a number the sink took the script that is made of it, and of a question the text that answers it;
-    // then the book is empty.
+    // played, the book is one that the form leaves of it, and the sink took the text of that book, and of its trails
+    // where they were asked for. `serial` leaves a run on one thread; `run` one section by section, where the actors of
+    // a phase did all that is theirs and no more, each in its order, in whatever order among them. Of a number the sink
+    // took the script that is made of it, and of a question the text that answers it; then the book is empty.
     ensures success { result.status ≡ 0 → Wrote IsDone (given_by words.now (S.left source.old) (W.taken sink.old)) result (W.taken sink.new) }
 
     ensures read_to_end { result.status ≡ 0 → Plays (texts words.now) → IfSome (S.left source.new) (λ rest. rest ≡ []) }
@@ -165,7 +196,7 @@ pub fn swift_main<S: Source, W: Sink, G: Gate>(
     // Each value that was read stands on a causally closed set of transactions. This set holds all that
     // the session committed and the sets of its earlier reads, each other member of it was known to K
     // centres, and the value is that of the object over the set and the open updates.
-    ensures causal { result.status ≡ 0 → Plays (texts words.now) → IsCausalRun (S.left source.old) result.book }
+    ensures causal { result.status ≡ 0 → (play : Plays (texts words.now)) → IsCausalRun play.asked (S.left source.old) result.book }
 
     // 2: words of no form. 3: an input that is no script; the text names the first line at fault and the cause.
     ensures words { result.status ≡ 2 → Wrote IsUsage (given_by words.now (S.left source.old) (W.taken sink.old)) result (W.taken sink.new) }
@@ -195,5 +226,5 @@ pub fn swift_main<S: Source, W: Sink, G: Gate>(
     ensures read_quiet { result.status ≢ 4 → S.faults source.new ≡ S.faults source.old }
     ensures write_quiet { result.status ≢ 5 → W.faults sink.new ≡ W.faults sink.old }
 {
-    run(alloc, words, source, sink)
+    run(rt, alloc, words, source, sink, gate)
 }

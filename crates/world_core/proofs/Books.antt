@@ -1,46 +1,24 @@
 -- The book of a world.
-use Rattle.std.proofs.Common.{◌≡◌, ℕ, zero, suc, List, [], map, length, Option, Some, None, refl, sym, ap, ◌∙◌, subst, arith}
-use Rattle.std.specs.Prelude.{slice_get, Result, Ok, Err, IfOk}
-use Rattle.std.specs.Option.{option_map, unwrap_or}
-use Rattle.std.proofs.lemmas.Option.{slice_get-map, unwrap_or-slice_get}
+use Rattle.std.proofs.Common.{◌≡◌, List, map, length, sym, ap, ◌∙◌, subst, arith}
+use Rattle.std.specs.Prelude.{Result, Ok, Err, IfOk}
 use Rattle.std.proofs.lemmas.List.{length-map}
 use Rattle.dc_talk.specs.Entries.{Entry}
 use Rattle.dc_talk.specs.Logs.{Logged}
 use Rattle.dc_host.specs.Centres.{CentreTrail}
-use Rattle.dc_host.specs.KeptDoors.{entries_of, trail_at}
 use Rattle.script_text.specs.declared.script.Script.{Script}
 use Rattle.run_book.specs.declared.book.Book.{Book}
 use Rattle.run_book.specs.Setups.{setup_of}
-use Rattle.run_book.specs.Parts.{trail_of, log_of}
 use Rattle.run_book.specs.Happenings.{Happened, InRange, IsBookOf}
 use Rattle.run_book.specs.Moves.{moves_of}
 use Rattle.run_book.specs.Played.{HavePlayed}
 use Rattle.run_book.proofs.Happenings.Fits.{fits}
 use Rattle.run_book.proofs.Happenings.Timely.{timely}
 use Rattle.run_book.proofs.Happenings.Playing.{scripted}
-use Rattle.run_table.specs.Tables.{log_at}
 use Rattle.world_core.specs.Worlds.{WorldView, IsWorld}
 use Rattle.script_text.specs.Scripts.{IsInRange}
 use Rattle.world_core.specs.Runs.{IsSound, IsWorldBook, HasPlayed, IsRunOf}
+use Rattle.run_table.proofs.Reading.{trails_match, logs_match}
 use Rattle.world_core.proofs.Worlds.{centre_count}
-
--- a trail by its number, in the book and at its centre
-trails_match : (cs : List CentreTrail) (b : Book) (i : ℕ) → b.trails ≡ map (λ (centre : CentreTrail). centre.entries) cs → trail_of b i ≡ trail_at cs i
-trails_match cs b zero are = refl
-trails_match cs b (suc place) are =
-    sym (unwrap_or-slice_get b.trails place [])
-    ∙ (ap (λ (trails : List (List Entry)). unwrap_or (slice_get trails place) []) are
-    ∙ (ap (λ (o : Option (List Entry)). unwrap_or o []) (slice_get-map (λ (centre : CentreTrail). centre.entries) cs place)
-    ∙ in_either (slice_get cs place)))
-  where
-    in_either : (o : Option CentreTrail) → unwrap_or (option_map (λ (centre : CentreTrail). centre.entries) o) [] ≡ entries_of o
-    in_either None = refl
-    in_either (Some centre) = refl
-
--- a log by its number
-logs_match : (logs : List Logged) (b : Book) (a : ℕ) → b.logs ≡ logs → log_of b a ≡ log_at logs a
-logs_match logs b zero are = refl
-logs_match logs b (suc place) are = ap (λ logs. log_at logs (suc place)) are
 
 -- the numbers of the run are in range
 in_range : (script : Script) → IsInRange script → InRange script.n script.k (setup_of script)

@@ -1,12 +1,12 @@
 -- Worlds at first, and worlds in which an actor did more.
-use Rattle.std.proofs.Common.{◌≡◌, ◌≢◌, ◌≤◌, ◌<◌, ℕ, zero, suc, ◌+◌, ◌-◌, ◌*◌, Bool, ⊎_elim, List, [], ◌∷◌, ◌++◌, map, length, Option, Some, None, refl, sym, ap, ◌∙◌, subst, arith}
-use Rattle.std.specs.Prelude.{slice_get, slice_set, slice_index_or}
+use Rattle.std.proofs.Common.{◌≡◌, ◌≢◌, ◌≤◌, ◌<◌, ℕ, zero, suc, ◌+◌, ◌-◌, ◌*◌, Bool, ⊎_elim, List, [], ◌++◌, map, length, Some, sym, ap, ◌∙◌, subst, arith}
+use Rattle.std.specs.Prelude.{slice_get, slice_set}
 use Rattle.std.specs.Option.{option_map}
 use Rattle.std.specs.List.{range_with_len}
 use Rattle.std.proofs.lemmas.Bool.{cases_eq}
 use Rattle.std.proofs.lemmas.Option.{none-some, same_Some, slice_get-map, slice_get_within}
-use Rattle.std.proofs.lemmas.List.{length-map, get_or-set_same, get_or-set_other}
-use Rattle.std.proofs.lemmas.List.FromFn.{get_or-map-range_with_len, length-map-range_with_len}
+use Rattle.std.proofs.lemmas.List.{length-map}
+use Rattle.std.proofs.lemmas.List.FromFn.{length-map-range_with_len}
 use Rattle.std.proofs.Math.ListN.{set, length-set}
 use Rattle.list_core.proofs.Gets.{get_within, all_get}
 use Rattle.vv_core.specs.Vectors.{centres}
@@ -15,7 +15,7 @@ use Rattle.dc_talk.specs.declared.log.Deed.{Deed}
 use Rattle.dc_talk.specs.Logs.{Logged, entries_made}
 use Rattle.dc_talk.specs.Answers.{History}
 use Rattle.dc_talk.specs.Rule.{client_after}
-use Rattle.dc_host.specs.Centres.{CentreTrail, new_centre, new_centres}
+use Rattle.dc_host.specs.Centres.{CentreTrail}
 use Rattle.dc_host.specs.KeptDoors.{entries_of, trail_at}
 use Rattle.ids_core.specs.declared.limits.TheConstants.{MOST_CENTRES}
 use Rattle.script_text.specs.declared.script.Script.{Script}
@@ -29,8 +29,9 @@ use Rattle.run_book.proofs.Happenings.Steps.{trail_marked}
 use Rattle.run_book.proofs.Happenings.More.{together_none}
 use Rattle.run_table.specs.declared.table.Table.{Table}
 use Rattle.world_core.specs.Worlds.{WorldView, IsWorld, IsMailSent, Acts, stub_at, notes_in, log_after, seen_of}
-use Rattle.run_table.specs.Tables.{AreHistories as AreKept, IsNew, new_stub, new_stubs, new_logs, Turn, log_at}
+use Rattle.run_table.specs.Tables.{AreHistories as AreKept, IsNew, new_stub, new_stubs, Turn, log_at}
 use Rattle.world_core.specs.Runs.{IsSound}
+use Rattle.run_table.proofs.Reading.{log_here, log_else, new_trails, new_settings, new_notes, new_actors}
 use Rattle.run_table.proofs.Numbered.{get_below}
 use Rattle.world_core.proofs.Mail.{new_mail}
 
@@ -46,48 +47,7 @@ pub stub_got : (stubs : List StubView) (client : ℕ) (stub : StubView) → stub
 stub_got stubs zero stub there = absurd (none-some stub there)
 stub_got stubs (suc place) stub there = let same : place ≡ suc place - 1 = omega arith in (omega arith, subst (λ k. slice_get stubs k ≡ Some stub) same there)
 
--- a log that was put in place of an actor's
-pub log_here : (logs : List Logged) (a : ℕ) (log : Logged) → 1 ≤ a → a ≤ length logs → log_at (slice_set logs (a - 1) log) a ≡ log
-log_here logs zero log low high = absurd (omega (arith, low))
-log_here logs (suc place) log low high =
-    let same : place ≡ suc place - 1 = omega arith in
-    subst (λ k. log_at (slice_set logs k log) (suc place) ≡ log) same (get_or-set_same logs place log (idle_log 0) (omega (arith, high)))
-
--- the logs of the others then
-pub log_else : (logs : List Logged) (a b : ℕ) (log : Logged) → 1 ≤ a → b ≢ a → log_at (slice_set logs (a - 1) log) b ≡ log_at logs b
-log_else logs a zero log low differs = refl
-log_else logs a (suc place) log low differs = get_or-set_other logs (a - 1) place log (idle_log 0) (λ same. differs (omega (arith, same, low)))
-
 -- ---- at first
-
--- the trails of new centres are empty
-new_trails : (n k limit i : ℕ) → trail_at (new_centres n k limit) i ≡ []
-new_trails n k limit zero = refl
-new_trails n k limit (suc i) = ap entries_of (slice_get-map (new_centre n k limit) (centres n) i) ∙ none (slice_get (centres n) i)
-  where
-    none : (o : Option ℕ) → entries_of (option_map (new_centre n k limit) o) ≡ []
-    none None = refl
-    none (Some me) = refl
-
--- their settings
-new_settings : (n k : ℕ) (setup : Setup) (numbers : List ℕ) → map (λ (centre : CentreTrail). centre.settings) (map (new_centre n k setup.limit) numbers) ≡ map (settings_among n k setup) numbers
-new_settings n k setup [] = refl
-new_settings n k setup (i ∷ numbers) = ap (λ (rest : List Settings). settings_among n k setup i ∷ rest) (new_settings n k setup numbers)
-
--- new logs have no notes
-new_notes : (actors : List ℕ) (a : ℕ) → (log_at (map idle_log actors) a).notes ≡ []
-new_notes actors zero = refl
-new_notes actors (suc place) = idle actors place
-  where
-    idle : (actors : List ℕ) (place : ℕ) → (slice_index_or (map idle_log actors) place (idle_log 0)).notes ≡ []
-    idle [] place = refl
-    idle (a ∷ actors) zero = refl
-    idle (a ∷ actors) (suc place) = idle actors place
-
--- and each is the one of its actor
-new_actors : (count a : ℕ) → 1 ≤ a → a ≤ count → (log_at (new_logs count) a).actor ≡ a
-new_actors count zero low high = absurd (omega (arith, low))
-new_actors count (suc place) low high = ap (λ (log : Logged). log.actor) (get_or-map-range_with_len idle_log 1 count place (suc place) (idle_log 0) (omega (arith, high)) (omega arith))
 
 -- a new client is as its empty log says
 new_client_is : (n cache clients client : ℕ) (stub : StubView) → stub_at (new_stubs n cache clients) client ≡ Some stub → stub.client ≡ client_after n client cache []

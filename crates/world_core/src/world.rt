@@ -1,6 +1,5 @@
 // A world: the system on one thread.
 ghost use Rattle.std.specs.Prelude.{◌≡◌, ◌≤◌, ◌+◌, true, false, [], map, length, IfOk, OnOk, OnErr, IsErr};
-ghost use Rattle.dc_host.specs.Centres.{all_seen};
 ghost use Rattle.script_text.specs.Steps.{IsStep, IsOperatorStep};
 ghost use Rattle.world_core.specs.Worlds.{IsWorld};
 ghost use Rattle.run_table.specs.Tables.{new_stubs};
@@ -10,12 +9,10 @@ ghost use Rattle.run_table.specs.Works.{work_of};
 ghost use Rattle.world_core.specs.Events.{TakesStep, TakesOrder, TakesRound, AsksOnce, MayAsk, turn_of};
 ghost use Rattle.world_core.specs.Runs.{IsWorldBook};
 
-use dc_centre::Centre;
 use dc_talk::Ask;
-use hist_lock::Kept;
 use ids_core::NoMemory;
-use run_book::{Book, Logs, Trails};
-use run_table::{Table, Work};
+use run_book::{Book, Logs};
+use run_table::{Table, Work, trails_of};
 use script_text::{ClientStep, OperatorStep, Script};
 use std::alloc::Global;
 use std::marker::Model;
@@ -43,17 +40,6 @@ impl<'a> Model for World<'a> {
     ghost view = { λ w. seen_of w.script.now w.spent w.table };
 
     ghost invariant = { λ w. w.spent ≡ false → IsSound (seen_of w.script.now w.spent w.table) };
-}
-
-// The trails of centres that are kept with them.
-fn trails_of(alloc: Global, kept: Vec<Kept<Centre>>) -> Result<Trails, NoMemory>
-    ensures { IfOk result (λ trails. trails ≡ map (λ centre. centre.entries) (all_seen kept.items)) }
-{
-    let mut trails = Trails::new(alloc);
-    'kept: for one in kept {
-        trails.push(one.trail)?;
-    }
-    Ok(trails)
 }
 
 impl<'a> World<'a> {

@@ -1,21 +1,23 @@
 use Rattle.std.proofs.Common.{◌∙◌, rules}
 use Rattle.clap.specs.Words.{subcommand_rows_of}
-use Rattle.command_line.proofs.Matches.{make_form, name_is, no_form, serial_form}
+use Rattle.command_line.proofs.Matches.{make_form, name_is, no_form, run_form, serial_form}
 use Rattle.command_line.proofs.matched.form_in.Goals as goal
 
--- src/matched.rt:35:1
 pub returns-then-eq-clause-found : goal.returns-then-eq-clause-found
 returns-then-eq-clause-found c form fits is =
-    serial_form form fits (subcommand_rows_of c.args.matches.now) is c.in-Some.name.now (search rules) (c.in-Some.ensures.name ∙ name_is c.args.matches.now)
+    run_form form fits (subcommand_rows_of c.args.matches.now) is c.in-Some.name.now (search rules) (c.in-Some.ensures.name ∙ name_is c.args.matches.now)
     _ c.in-Some.ensures.rows c.has_trail.result c.has_trail.ensures
 
--- src/matched.rt:35:1
 pub returns-then-eq-2-clause-found : goal.returns-then-eq-2-clause-found
 returns-then-eq-2-clause-found c form fits is =
+    serial_form form fits (subcommand_rows_of c.args.matches.now) is c.in-Some.name.now (search rules) (c.in-Some.ensures.name ∙ name_is c.args.matches.now)
+    _ c.in-Some.ensures.rows c.has_trail-then-eq-2.result c.has_trail-then-eq-2.ensures
+
+pub returns-then-eq-3-clause-found : goal.returns-then-eq-3-clause-found
+returns-then-eq-3-clause-found c form fits is =
     make_form form fits (subcommand_rows_of c.args.matches.now) is c.in-Some.name.now (search rules) (c.in-Some.ensures.name ∙ name_is c.args.matches.now)
     _ c.in-Some.ensures.rows c.made.result c.made.ensures.found
 
--- src/matched.rt:35:1
 pub returns-in-None-clause-found : goal.returns-in-None-clause-found
 returns-in-None-clause-found c form fits is =
     absurd (no_form form fits (subcommand_rows_of c.args.matches.now) is (c.in-None.ensures.name ∙ name_is c.args.matches.now))

@@ -1,6 +1,7 @@
-use Rattle.std.proofs.Common.{◌≡◌, ◌+◌, ◌∷◌, ◌++◌, [], length, take, refl, sym, ap, ◌∙◌, subst, arith}
+use Rattle.std.proofs.Common.{◌≡◌, ◌+◌, ◌∷◌, ◌++◌, [], length, take, get_or, refl, sym, ◌∙◌, subst, arith}
 use Rattle.std.proofs.lemmas.List.{length-take-le, take_more}
 use Rattle.dc_talk.specs.Acting.{acting}
+use Rattle.script_text.specs.declared.steps.OperatorStep.TheVariants.{Down}
 use Rattle.run_sections.specs.Orders.{OperatorGoes}
 use Rattle.phase_play.specs.Workers.{PlaysOperator}
 use Rattle.phase_play.proofs.Growing.{plays_none}
@@ -17,8 +18,8 @@ steps-preserved g c =
     let e = acting (g.D.Door.shown c.operate.new.door) c.operate.new.log in
     let all = c.operator_line-steps.result.now in
     let place = c.steps.step-index in
-    let step = c.step-item.result in
-    let longer : take (place + 1) all ≡ take place all ++ step ∷ [] = take_more all place step (omega (arith, c.steps-test.true)) ∙ ap (λ step. take place all ++ step ∷ []) (sym c.step-item.is) in
+    let step = get_or all place (Down 0) in
+    let longer : take (place + 1) all ≡ take place all ++ step ∷ [] = take_more all place (Down 0) (omega (arith, c.steps-test.true)) in
     let number : c.steps.number + 1 ≡ 1 + length (take place all) = omega (arith, c.steps.invariant.number, length-take-le place all (omega (arith, c.steps-test.true))) in
     record {
       place = c.in_ok-operate.ensures.place ∙ c.steps.invariant.place;

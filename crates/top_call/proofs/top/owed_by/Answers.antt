@@ -1,8 +1,6 @@
-use Rattle.std.proofs.Common.{ap, ◌∙◌}
-use Rattle.command_line.specs.Forms.{spelled}
 use Rattle.top_call.proofs.Owing.{owed_given}
 use Rattle.top_call.proofs.top.owed_by.Goals as goal
 
-pub returns-in_ok-owed-in-Serial-clause-owed : goal.returns-in_ok-owed-in-Serial-clause-owed
-returns-in_ok-owed-in-Serial-clause-owed g c given words left =
-    owed_given c.in-Serial.trail given (g.S.Source.left c.args.source.now) c.in_ok-owed-in-Serial.owed (words ∙ ap spelled c.in-Serial.is) left c.in_ok-owed-in-Serial.ensures.owed
+pub returns-in_ok-owed-in-Run-clause-owed : goal.returns-in_ok-owed-in-Run-clause-owed
+returns-in_ok-owed-in-Run-clause-owed g c given words left =
+    owed_given c.args.form given (g.S.Source.left c.args.source.now) c.in_ok-owed-in-Run.owed words left c.in_ok-owed-in-Run.ensures.owed

@@ -1,6 +1,6 @@
 use Rattle.std.proofs.Common.{◌≡◌, map}
 use Rattle.dc_host.specs.Centres.{CentreTrail, all_seen}
-use Rattle.world_core.proofs.world.trails_of.Given as goal
+use Rattle.run_table.proofs.trails.trails_of.Given as goal
 
 abbrev pub invariant-kept : goal.invariant-kept
 invariant-kept l = l.trails ≡ map (λ (centre : CentreTrail). centre.entries) (all_seen l.yielded)
