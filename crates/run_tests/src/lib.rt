@@ -24,6 +24,8 @@ mod script_reader_tests;
 #[cfg(test)]
 mod script_text_tests;
 #[cfg(test)]
+mod thread_run_tests;
+#[cfg(test)]
 mod top_call_tests;
 #[cfg(test)]
 mod trail_text_tests;
