@@ -10,7 +10,9 @@ use crate::law::{
 use hist_lock::{Kept, Machine};
 use ids_core::NoMemory;
 use std::sync::Wait;
+use std::sync::atomic::AtomicU64;
 use std::thread;
+use std::time::Duration;
 
 // The words of the table.
 const LENGTH: usize = 0;
@@ -21,6 +23,11 @@ const DRAWN: usize = 2;
 
 // The slot of the machine.
 const SLOT: usize = 0;
+
+// So often a caller yields between two tries before it sleeps between them, for so many microseconds at most.
+const YIELDS: u32 = 50;
+
+const NAP_MICROS: u64 = 50;
 
 /// The seat of a new pass, with the next number.
 pub fn next_seat<M: Machine>(shared: &LockShared<M>, maker: &mut LockSeat<M>) -> LockSeat<M>
@@ -44,7 +51,17 @@ pub fn try_turn<M: Machine>(shared: &LockShared<M>, seat: &mut LockSeat<M>, numb
     shared.compare_exchange::<TakeTurn>(seat, TURN, 0, u64::from(number))
 }
 
-/// HasTried until the seat has the turn.
+// Lets others go on after so many tries: a caller yields at first, and then sleeps, so that callers that wait take no
+// processor from those that work.
+fn pause<R: Wait>(rt: &R, tries: u32) {
+    if tries < YIELDS {
+        thread::yield_now();
+    } else {
+        AtomicU64::new(0).park_timeout(rt, 0, Duration::from_micros(NAP_MICROS));
+    }
+}
+
+/// Tries until the seat has the turn.
 pub fn wait_turn<M: Machine, R: Wait>(
     rt: &R,
     shared: &LockShared<M>,
@@ -56,11 +73,13 @@ pub fn wait_turn<M: Machine, R: Wait>(
     ensures table { seat.new.table_id ≡ shared.now.table_id }
     ensures won { (found : List ℕ) × (seat.new.me ≡ (at_turn (found_more seat.old.me.0 found), seat.old.me.1)) }
 {
+    let mut tries = 0;
     for _ in rt.forever() {
         if try_turn(shared, seat, number) == 0 {
             return;
         }
-        thread::yield_now();
+        pause(rt, tries);
+        tries = tries.saturating_add(1);
     }
     unreachable!()
 }
