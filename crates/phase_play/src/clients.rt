@@ -8,6 +8,7 @@ ghost use Rattle.phase_play.specs.Clients.{ClientAt, client_at, HasTurned, seat_
 ghost use Rattle.phase_play.specs.Casts.{IsPlayerOf, HasTakenSteps, IsSeatOf, HasTurnedSeat, HasSeatCome};
 
 use crate::callers::Caller;
+use crate::pace::Pace;
 use crate::scene::Scene;
 use client_stub::Stub;
 use dc_host::HostDoor;
@@ -119,10 +120,11 @@ fn turn_all<'a, R: Wait, G: Gate>(
     Ok(turned)
 }
 
-// So many turns.
+// So many turns, each of which counts for the pace.
 fn take_turns<'a, R: Wait, G: Gate>(
     alloc: Global,
     scene: Scene<'a>,
+    pace: &Pace,
     turns: u32,
     mut seats: Vec<Seat<'a, R, G>>,
 ) -> Result<Vec<Seat<'a, R, G>>, NoMemory>
@@ -132,6 +134,7 @@ fn take_turns<'a, R: Wait, G: Gate>(
 {
     'turns: for before in 0..turns {
         seats = turn_all(alloc, scene, before + 1, seats)?;
+        pace.advance(seats.len() as u64);
     }
     Ok(seats)
 }
@@ -221,6 +224,7 @@ pub(crate) fn play_clients<R: Wait, G: Gate>(
     alloc: Global,
     scene: Scene<'_>,
     gate: &G,
+    pace: &Pace,
     players: Vec<Player>,
 ) -> Result<Vec<Player>, NoMemory>
     requires scene { IsScene scene }
@@ -228,6 +232,6 @@ pub(crate) fn play_clients<R: Wait, G: Gate>(
     ensures { IfOk result (λ played. AllZip (HasTakenSteps scene.entry) players.items played.items) }
 {
     let seats = sit_all(rt, alloc, scene, gate, players)?;
-    let seats = take_turns(alloc, scene, scene.dealt.longest() as u32, seats)?;
+    let seats = take_turns(alloc, scene, pace, scene.dealt.longest() as u32, seats)?;
     stand_all(alloc, seats)
 }

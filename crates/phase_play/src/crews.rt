@@ -5,6 +5,7 @@ ghost use Rattle.phase_play.specs.Scenes.{IsScene};
 ghost use Rattle.phase_play.specs.Casts.{IsCallerOf, IsSenderOf, HasSent, IsReceiverOf, HasReceived, HasReported, HasPruned, IsCrewOf, HasCrewPlayed};
 
 use crate::callers::Caller;
+use crate::pace::Pace;
 use crate::receivers::{ReceiverEnd, receive_through};
 use crate::reporters::{prune_through, report_through};
 use crate::scene::Scene;
@@ -29,6 +30,7 @@ fn carry<R: Threads + Wait + Sync, G: Gate>(
     rt: &R,
     scene: Scene<'_>,
     gate: &G,
+    pace: &Pace,
     centre: u8,
     sender: SenderEnd,
     receiver: ReceiverEnd,
@@ -60,7 +62,7 @@ fn carry<R: Threads + Wait + Sync, G: Gate>(
             hosts,
             links,
         };
-        send_through(rt, scene, gate, centre, sender)
+        send_through(rt, scene, gate, pace, centre, sender)
     };
     let receives = move || -> Result<ReceiverEnd, NoMemory>
         requires { IsScene (record { script = script; section = section; number = number; dealt = dealt; hosts = hosts; links = links }) × IsCount script.now.n centre × IsReceiverOf (record { script = script; section = section; number = number; dealt = dealt; hosts = hosts; links = links }) centre receiver }
@@ -74,7 +76,7 @@ fn carry<R: Threads + Wait + Sync, G: Gate>(
             hosts,
             links,
         };
-        receive_through(rt, scene, gate, centre, receiver)
+        receive_through(rt, scene, gate, pace, centre, receiver)
     };
     join(rt, sends, receives)
 }
@@ -84,6 +86,7 @@ fn tend<R: Threads + Wait + Sync, G: Gate>(
     rt: &R,
     scene: Scene<'_>,
     gate: &G,
+    pace: &Pace,
     centre: u8,
     reporter: Caller,
     pruner: Caller,
@@ -115,7 +118,7 @@ fn tend<R: Threads + Wait + Sync, G: Gate>(
             hosts,
             links,
         };
-        report_through(rt, scene, gate, centre, reporter)
+        report_through(rt, scene, gate, pace, centre, reporter)
     };
     let prunes = move || -> Result<Caller, NoMemory>
         requires { IsScene (record { script = script; section = section; number = number; dealt = dealt; hosts = hosts; links = links }) × IsCount script.now.n centre × IsCallerOf (record { script = script; section = section; number = number; dealt = dealt; hosts = hosts; links = links }) pruner }
@@ -129,7 +132,7 @@ fn tend<R: Threads + Wait + Sync, G: Gate>(
             hosts,
             links,
         };
-        prune_through(rt, scene, gate, centre, pruner)
+        prune_through(rt, scene, gate, pace, centre, pruner)
     };
     join(rt, reports, prunes)
 }
@@ -140,6 +143,7 @@ pub(crate) fn play_crew<R: Threads + Wait + Sync, G: Gate>(
     rt: &R,
     scene: Scene<'_>,
     gate: &G,
+    pace: &Pace,
     crew: Crew,
 ) -> Result<Crew, NoMemory>
     requires scene { IsScene scene }
@@ -173,7 +177,7 @@ pub(crate) fn play_crew<R: Threads + Wait + Sync, G: Gate>(
             hosts,
             links,
         };
-        carry(rt, scene, gate, centre, sender, receiver)
+        carry(rt, scene, gate, pace, centre, sender, receiver)
     };
     let tends = move || -> (Result<Caller, NoMemory>, Result<Caller, NoMemory>)
         requires { IsScene (record { script = script; section = section; number = number; dealt = dealt; hosts = hosts; links = links }) × IsCount script.now.n centre × IsCallerOf (record { script = script; section = section; number = number; dealt = dealt; hosts = hosts; links = links }) reporter × IsCallerOf (record { script = script; section = section; number = number; dealt = dealt; hosts = hosts; links = links }) pruner }
@@ -187,7 +191,7 @@ pub(crate) fn play_crew<R: Threads + Wait + Sync, G: Gate>(
             hosts,
             links,
         };
-        tend(rt, scene, gate, centre, reporter, pruner)
+        tend(rt, scene, gate, pace, centre, reporter, pruner)
     };
     let ((sender, receiver), (reporter, pruner)) = join(rt, carries, tends);
     Ok(Crew {

@@ -7,6 +7,7 @@ mod callers;
 mod clients;
 mod crews;
 mod operators;
+mod pace;
 mod receivers;
 mod reporters;
 mod scene;

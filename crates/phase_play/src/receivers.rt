@@ -11,6 +11,7 @@ ghost use Rattle.phase_play.specs.Workers.{PlaysReceiver};
 ghost use Rattle.phase_play.specs.Casts.{IsReceiverOf, HasReceived, HasClosed};
 
 use crate::callers::Caller;
+use crate::pace::{Pace, Worker};
 use crate::scene::Scene;
 use dc_host::HostDoor;
 use dc_links::{Links, drain_all, receive_all};
@@ -34,6 +35,7 @@ pub struct ReceiverEnd {
 // The rounds of the receiver of a centre through a door.
 fn receive_rounds<R: Wait, D: Door>(
     rt: &R,
+    pace: &Pace,
     door: &mut D,
     n: u8,
     section: u32,
@@ -56,8 +58,10 @@ fn receive_rounds<R: Wait, D: Door>(
     ensures plays { OnOk result (PlaysReceiver n centre section (replicate rounds takes_some) (record { acting = acting (D.shown door.old) log.old; takers = takers.old.items; inlets = inlets.old.items }) (record { acting = acting (D.shown door.new) log.new; takers = takers.new.items; inlets = inlets.new.items })) }
 {
     'rounds: for before in 0..rounds {
+        pace.wait_for(rt, Worker::Receiver, before + 1);
         log.set(section, before + 1);
         receive_all(rt, door, n, centre, links, takers, inlets, log)?;
+        pace.has_made(Worker::Receiver);
     }
     Ok(())
 }
@@ -68,6 +72,7 @@ pub(crate) fn receive_through<R: Wait, G: Gate>(
     rt: &R,
     scene: Scene<'_>,
     gate: &G,
+    pace: &Pace,
     centre: u8,
     end: ReceiverEnd,
 ) -> Result<ReceiverEnd, NoMemory>
@@ -86,6 +91,7 @@ pub(crate) fn receive_through<R: Wait, G: Gate>(
     let mut door = HostDoor::new(rt, scene.hosts, row, log.actor(), gate);
     receive_rounds(
         rt,
+        pace,
         &mut door,
         script.n,
         scene.number,

@@ -9,6 +9,7 @@ ghost use Rattle.phase_play.specs.Workers.{PlaysReporter, PlaysPruner};
 ghost use Rattle.phase_play.specs.Casts.{IsCallerOf, HasReported, HasPruned};
 
 use crate::callers::Caller;
+use crate::pace::{Pace, Worker};
 use crate::scene::Scene;
 use dc_host::HostDoor;
 use dc_mail::report_all;
@@ -19,7 +20,9 @@ use run_table::prune;
 use std::sync::Wait;
 
 // The rounds of the reporter of a centre through a door.
-fn report_rounds<D: Door>(
+fn report_rounds<R: Wait, D: Door>(
+    rt: &R,
+    pace: &Pace,
     door: &mut D,
     n: u8,
     section: u32,
@@ -34,14 +37,18 @@ fn report_rounds<D: Door>(
     ensures plays { OnOk result (PlaysReporter n centre section rounds (acting (D.shown door.old) log.old) (acting (D.shown door.new) log.new)) }
 {
     'rounds: for before in 0..rounds {
+        pace.wait_for(rt, Worker::Reporter, before + 1);
         log.set(section, before + 1);
         report_all(door, n, centre, log)?;
+        pace.has_made(Worker::Reporter);
     }
     Ok(())
 }
 
 // The rounds of the pruner of a centre through a door.
-fn prune_rounds<D: Door>(
+fn prune_rounds<R: Wait, D: Door>(
+    rt: &R,
+    pace: &Pace,
     door: &mut D,
     section: u32,
     rounds: u32,
@@ -53,6 +60,7 @@ fn prune_rounds<D: Door>(
     ensures plays { OnOk result (PlaysPruner centre section rounds (acting (D.shown door.old) log.old) (acting (D.shown door.new) log.new)) }
 {
     'rounds: for before in 0..rounds {
+        pace.wait_for(rt, Worker::Pruner, before + 1);
         log.set(section, before + 1);
         prune(door, before + 1, centre, log)?;
     }
@@ -65,6 +73,7 @@ pub(crate) fn report_through<R: Wait, G: Gate>(
     rt: &R,
     scene: Scene<'_>,
     gate: &G,
+    pace: &Pace,
     centre: u8,
     caller: Caller,
 ) -> Result<Caller, NoMemory>
@@ -77,6 +86,8 @@ pub(crate) fn report_through<R: Wait, G: Gate>(
     let script = scene.script;
     let mut door = HostDoor::new(rt, scene.hosts, row, log.actor(), gate);
     report_rounds(
+        rt,
+        pace,
         &mut door,
         script.n,
         scene.number,
@@ -94,6 +105,7 @@ pub(crate) fn prune_through<R: Wait, G: Gate>(
     rt: &R,
     scene: Scene<'_>,
     gate: &G,
+    pace: &Pace,
     centre: u8,
     caller: Caller,
 ) -> Result<Caller, NoMemory>
@@ -105,7 +117,15 @@ pub(crate) fn prune_through<R: Wait, G: Gate>(
     let Caller { row, mut log } = caller;
     let script = scene.script;
     let mut door = HostDoor::new(rt, scene.hosts, row, log.actor(), gate);
-    prune_rounds(&mut door, scene.number, script.rounds, centre, &mut log)?;
+    prune_rounds(
+        rt,
+        pace,
+        &mut door,
+        scene.number,
+        script.rounds,
+        centre,
+        &mut log,
+    )?;
     let row = door.part();
     Ok(Caller { row, log })
 }

@@ -10,6 +10,7 @@ ghost use Rattle.phase_play.specs.Workers.{PlaysSender};
 ghost use Rattle.phase_play.specs.Casts.{IsSenderOf, HasSent};
 
 use crate::callers::Caller;
+use crate::pace::{Pace, Worker};
 use crate::scene::Scene;
 use dc_host::HostDoor;
 use dc_links::{Links, send_all};
@@ -30,6 +31,7 @@ pub struct SenderEnd {
 // The rounds of the sender of a centre through a door.
 fn send_rounds<R: Wait, D: Door>(
     rt: &R,
+    pace: &Pace,
     door: &mut D,
     n: u8,
     section: u32,
@@ -49,8 +51,10 @@ fn send_rounds<R: Wait, D: Door>(
     ensures plays { OnOk result (PlaysSender n centre section rounds (record { acting = acting (D.shown door.old) log.old; givers = givers.old.items }) (record { acting = acting (D.shown door.new) log.new; givers = givers.new.items })) }
 {
     'rounds: for before in 0..rounds {
+        pace.wait_for(rt, Worker::Sender, before + 1);
         log.set(section, before + 1);
         send_all(rt, door, n, centre, links, givers, log)?;
+        pace.has_made(Worker::Sender);
     }
     Ok(())
 }
@@ -61,6 +65,7 @@ pub(crate) fn send_through<R: Wait, G: Gate>(
     rt: &R,
     scene: Scene<'_>,
     gate: &G,
+    pace: &Pace,
     centre: u8,
     end: SenderEnd,
 ) -> Result<SenderEnd, NoMemory>
@@ -75,6 +80,7 @@ pub(crate) fn send_through<R: Wait, G: Gate>(
     let mut door = HostDoor::new(rt, scene.hosts, row, log.actor(), gate);
     send_rounds(
         rt,
+        pace,
         &mut door,
         script.n,
         scene.number,

@@ -9,6 +9,7 @@ use crate::callers::Caller;
 use crate::clients::{Player, play_clients};
 use crate::crews::{Crew, play_crew};
 use crate::operators::operate_through;
+use crate::pace::Pace;
 use crate::scene::Scene;
 use ids_core::NoMemory;
 use io_edge::Gate;
@@ -41,6 +42,7 @@ fn play_players<R: Threads + Wait + Sync, G: Gate>(
     alloc: Global,
     scene: Scene<'_>,
     gate: &G,
+    pace: &Pace,
     players: Vec<Player>,
 ) -> Result<Vec<Player>, NoMemory>
     requires scene { IsScene scene }
@@ -51,7 +53,7 @@ fn play_players<R: Threads + Wait + Sync, G: Gate>(
     let each = |block: Vec<Player>| -> Result<Vec<Player>, NoMemory>
         requires { IsScene scene × All (IsPlayerOf scene) block.items }
         ensures { IfOk result (λ played. AllZip (HasTakenSteps scene.entry) block.items played.items) }
-    { play_clients(rt, alloc, scene, gate, block) };
+    { play_clients(rt, alloc, scene, gate, pace, block) };
     let results = map_vec(rt, blocks, &each)?;
     join_blocks(alloc, all_of(alloc, results)?)
 }
@@ -62,6 +64,7 @@ fn play_crews<R: Threads + Wait + Sync, G: Gate>(
     alloc: Global,
     scene: Scene<'_>,
     gate: &G,
+    pace: &Pace,
     crews: Vec<Crew>,
 ) -> Result<Vec<Crew>, NoMemory>
     requires scene { IsScene scene }
@@ -71,7 +74,7 @@ fn play_crews<R: Threads + Wait + Sync, G: Gate>(
     let each = |crew: Crew| -> Result<Crew, NoMemory>
         requires { IsScene scene × IsCrewOf scene crew }
         ensures { IfOk result (HasCrewPlayed scene.entry crew) }
-    { play_crew(rt, scene, gate, crew) };
+    { play_crew(rt, scene, gate, pace, crew) };
     let results = map_vec(rt, crews, &each)?;
     all_of(alloc, results)
 }
@@ -82,6 +85,7 @@ fn play_others<R: Threads + Wait + Sync, G: Gate>(
     alloc: Global,
     scene: Scene<'_>,
     gate: &G,
+    pace: &Pace,
     operator: Caller,
     crews: Vec<Crew>,
 ) -> (Result<Caller, NoMemory>, Result<Vec<Crew>, NoMemory>)
@@ -125,7 +129,7 @@ fn play_others<R: Threads + Wait + Sync, G: Gate>(
             hosts,
             links,
         };
-        play_crews(rt, alloc, scene, gate, crews)
+        play_crews(rt, alloc, scene, gate, pace, crews)
     };
     join(rt, orders, workers)
 }
@@ -156,6 +160,9 @@ pub fn play_in_threads<R: Threads + Wait + Sync, G: Gate>(
         hosts,
         links,
     } = scene;
+    let turns = (dealt.longest() as u64).saturating_mul(u64::from(script.clients));
+    let made = Pace::new(turns, script.rounds, script.n);
+    let pace = &made;
     let players = move || -> Result<Vec<Player>, NoMemory>
         requires { IsScene (record { script = script; section = section; number = number; dealt = dealt; hosts = hosts; links = links }) × All (IsPlayerOf (record { script = script; section = section; number = number; dealt = dealt; hosts = hosts; links = links })) clients.items }
         ensures { IfOk result (λ played. AllZip (HasTakenSteps (record { script = script.entry; section = section.entry; number = number; dealt = dealt.entry; hosts = hosts.entry; links = links.entry })) clients.items played.items) }
@@ -168,7 +175,9 @@ pub fn play_in_threads<R: Threads + Wait + Sync, G: Gate>(
             hosts,
             links,
         };
-        play_players(rt, alloc, scene, gate, clients)
+        let played = play_players(rt, alloc, scene, gate, pace, clients);
+        pace.finish();
+        played
     };
     let others = move || -> (Result<Caller, NoMemory>, Result<Vec<Crew>, NoMemory>)
         requires { IsScene (record { script = script; section = section; number = number; dealt = dealt; hosts = hosts; links = links }) × IsCallerOf (record { script = script; section = section; number = number; dealt = dealt; hosts = hosts; links = links }) operator × All (IsCrewOf (record { script = script; section = section; number = number; dealt = dealt; hosts = hosts; links = links })) crews.items }
@@ -182,9 +191,9 @@ pub fn play_in_threads<R: Threads + Wait + Sync, G: Gate>(
             hosts,
             links,
         };
-        play_others(rt, alloc, scene, gate, operator, crews)
+        play_others(rt, alloc, scene, gate, pace, operator, crews)
     };
-    let (clients, (operator, crews)) = join(rt, players, others);
+    let ((operator, crews), clients) = join(rt, others, players);
     Ok(Cast {
         operator: operator?,
         clients: clients?,

@@ -7,7 +7,7 @@ use complaint::complain;
 use io_edge::{FreeGate, StdSink, StdSource};
 use std::process::ExitCode;
 use std::rt::Env;
-use std::{env, io};
+use std::{env, io, mem};
 use top_call::swift_main;
 
 // The words behind the program's name.
@@ -38,5 +38,8 @@ fn main(rt: HostRuntime) -> ExitCode {
         Ok(()) => {}
         Err(_) => {}
     }
-    ExitCode::from(ended.status)
+    let status = ended.status;
+    // The process ends, and its memory goes back as a whole.
+    mem::forget(ended);
+    ExitCode::from(status)
 }
