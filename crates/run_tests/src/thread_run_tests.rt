@@ -1,5 +1,6 @@
 // A phase in which callers wait for one another, which ends in time only where they go on at once.
 use io_edge::{Gate, SteadySink, SteadySource};
+use run_progress::{Extent, Progress};
 use std::sync::atomic::{AtomicU64, Ordering};
 use std::test::Fail;
 use std::thread;
@@ -43,6 +44,10 @@ impl Gate for Meeting {
     }
 
     fn after(&self, _actor: u32, _step: u64) {}
+}
+
+impl Progress for Meeting {
+    fn played(&self, _sections: u64, _of: Extent) {}
 }
 
 #[test]

@@ -2,9 +2,11 @@
 #![tactic(auto)]
 
 mod complaint;
+mod progress;
 
 use complaint::complain;
-use io_edge::{FreeGate, StdSink, StdSource};
+use io_edge::{StdSink, StdSource};
+use progress::Teller;
 use std::process::ExitCode;
 use std::rt::Env;
 use std::{env, io, mem};
@@ -19,9 +21,27 @@ fn words(rt: &(impl Env + AllocGlobal)) -> io::Result<Vec<String>> {
     Ok(words)
 }
 
+// The word that has the program tell no progress.
+const QUIET: &str = "--quiet";
+
+// Takes that word from the words where it is the first of them or else the last, and says whether it did. The other
+// words are those of a form.
+fn take_quiet(words: &mut Vec<String>) -> bool {
+    if !words.is_empty() && words[0].as_str() == QUIET {
+        words.remove(0);
+        return true;
+    }
+    let last = words.len().saturating_sub(1);
+    if !words.is_empty() && words[last].as_str() == QUIET {
+        words.remove(last);
+        return true;
+    }
+    false
+}
+
 // Words of which one is no UTF-8 are of no form, as no words are.
 fn main(rt: HostRuntime) -> ExitCode {
-    let words = match words(&rt) {
+    let mut words = match words(&rt) {
         Ok(words) => words,
         Err(error) => {
             if error.kind() == io::ErrorKind::OutOfMemory {
@@ -32,7 +52,9 @@ fn main(rt: HostRuntime) -> ExitCode {
     };
     let mut source = StdSource::new(rt.reader());
     let mut sink = StdSink::new(io::writer(&rt));
-    let ended = swift_main(&rt, rt.alloc(), &words, &mut source, &mut sink, &FreeGate);
+    let teller = Teller::new(rt, take_quiet(&mut words));
+    let ended = swift_main(&rt, rt.alloc(), &words, &mut source, &mut sink, &teller);
+    teller.clear();
     // Where standard error takes nothing, the status says what there is to say.
     match complain(rt, &ended) {
         Ok(()) => {}

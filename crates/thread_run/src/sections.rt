@@ -13,6 +13,7 @@ use crate::phases::play_phase;
 use ids_core::NoMemory;
 use io_edge::Gate;
 use run_book::{Book, Logs};
+use run_progress::{Extent, Progress};
 use run_table::{Table, trails_of};
 use script_text::{Script, Section, Step};
 use std::alloc::Global;
@@ -84,7 +85,7 @@ fn play_section<R: Threads + Wait + Sync, G: Gate>(
 }
 
 // All sections, one after another.
-fn play_all<R: Threads + Wait + Sync, G: Gate>(
+fn play_all<R: Threads + Wait + Sync, G: Gate + Progress>(
     rt: &R,
     alloc: Global,
     gate: &G,
@@ -96,9 +97,12 @@ fn play_all<R: Threads + Wait + Sync, G: Gate>(
     let mut table = Table::new(alloc, script)?;
     let mut number = 0;
     let sections = script.sections.as_slice();
+    let extent = Extent::of(script);
+    gate.played(0, extent);
     'sections: for section in sections {
         number += 1;
         table = play_section(rt, alloc, gate, script, number, section, table)?;
+        gate.played(u64::from(number), extent);
     }
     Ok(table)
 }
@@ -119,9 +123,9 @@ fn book_of(alloc: Global, script: &Script, table: Table) -> Result<Book, NoMemor
 }
 
 /// Plays a script whose numbers are in range, section by section, and each phase with threads: some for the clients, one
-/// for the operator, and four for each centre. Each call of a host passes through the gate. An `Err` is want of memory.
-/// It may wait for ever, as each wait of a thread may.
-pub fn run<R: Threads + Wait + Sync, G: Gate>(
+/// for the operator, and four for each centre. Each call of a host passes through the gate, which also hears how far the
+/// play is. An `Err` is want of memory. It may wait for ever, as each wait of a thread may.
+pub fn run<R: Threads + Wait + Sync, G: Gate + Progress>(
     rt: &R,
     alloc: Global,
     gate: &G,

@@ -11,6 +11,7 @@ use ids_core::NoMemory;
 use io_edge::Gate;
 use print_text::text_of;
 use run_book::Book;
+use run_progress::Progress;
 use script_reader::{Cause, ScriptFault, parse};
 use script_text::Script;
 use std::alloc::Global;
@@ -18,7 +19,7 @@ use std::sync::Wait;
 use std::thread::Threads;
 use thread_run::run;
 use trail_text::trail_text;
-use world_core::serial;
+use world_core::serial_with;
 
 /// Where an input is no script: its first line at fault, counted from 1, and why it is.
 #[derive(Clone, Copy)]
@@ -89,7 +90,7 @@ fn asks_for_trails(form: Form) -> bool
 }
 
 // The book that a form leaves of a script.
-fn book_of<R: Threads + Wait + Sync, G: Gate>(
+fn book_of<R: Threads + Wait + Sync, G: Gate + Progress>(
     rt: &R,
     alloc: Global,
     gate: &G,
@@ -102,14 +103,14 @@ fn book_of<R: Threads + Wait + Sync, G: Gate>(
 {
     match form {
         Form::Run { .. } => run(rt, alloc, gate, script),
-        Form::Serial { .. } => serial(alloc, script),
+        Form::Serial { .. } => serial_with(alloc, script, gate),
         _ => unreachable!(),
     }
 }
 
 // What is owed for a script: it is played as the form says, and its text is that of the run.
 #[tactic(auto, using(crate::proofs::Owing::book_fits))]
-fn script_run<R: Threads + Wait + Sync, G: Gate>(
+fn script_run<R: Threads + Wait + Sync, G: Gate + Progress>(
     rt: &R,
     alloc: Global,
     gate: &G,
@@ -134,7 +135,7 @@ fn script_run<R: Threads + Wait + Sync, G: Gate>(
 }
 
 /// What is owed for an input: a script is played, and other bytes are refused.
-pub fn owed_for<R: Threads + Wait + Sync, G: Gate>(
+pub fn owed_for<R: Threads + Wait + Sync, G: Gate + Progress>(
     rt: &R,
     alloc: Global,
     gate: &G,

@@ -12,6 +12,7 @@ use ids_core::NoMemory;
 use io_edge::{Gate, Sink, Source, WriteFault};
 use load_maker::script_of;
 use run_book::Book;
+use run_progress::Progress;
 use std::alloc::Global;
 use std::sync::Wait;
 use std::thread::Threads;
@@ -44,7 +45,7 @@ fn usage(alloc: Global) -> Result<Owed, NoMemory>
 }
 
 // Reads an input, and what is owed for it by a form that plays it.
-fn owed_of<R: Threads + Wait + Sync, S: Source, G: Gate>(
+fn owed_of<R: Threads + Wait + Sync, S: Source, G: Gate + Progress>(
     rt: &R,
     alloc: Global,
     gate: &G,
@@ -63,7 +64,7 @@ fn owed_of<R: Threads + Wait + Sync, S: Source, G: Gate>(
 }
 
 // What is owed for a form. Only a script that is to be played is read from the source.
-fn owed_by<R: Threads + Wait + Sync, S: Source, G: Gate>(
+fn owed_by<R: Threads + Wait + Sync, S: Source, G: Gate + Progress>(
     rt: &R,
     alloc: Global,
     gate: &G,
@@ -90,7 +91,7 @@ fn owed_by<R: Threads + Wait + Sync, S: Source, G: Gate>(
 }
 
 // What is owed for the words and the source, from which nothing is read for words of another form.
-fn owed_to<R: Threads + Wait + Sync, S: Source, G: Gate>(
+fn owed_to<R: Threads + Wait + Sync, S: Source, G: Gate + Progress>(
     rt: &R,
     alloc: Global,
     gate: &G,
@@ -130,7 +131,7 @@ fn ended_empty(alloc: Global, status: u8) -> Ended
 }
 
 // Runs the words, by what is owed for them.
-fn run<R: Threads + Wait + Sync, S: Source, W: Sink, G: Gate>(
+fn run<R: Threads + Wait + Sync, S: Source, W: Sink, G: Gate + Progress>(
     rt: &R,
     alloc: Global,
     words: &[String],
@@ -169,8 +170,8 @@ fn run<R: Threads + Wait + Sync, S: Source, W: Sink, G: Gate>(
 /// run to the sink, the values read and the answers of the steps; writes the script that is made of a number; or
 /// tells how the program is used. The statuses are those of [`Ended`]. After the first read or write that fails
 /// no other is made. `run` plays a script with threads, and each call that one of them makes of a centre passes through
-/// the gate; so there it may wait for ever.
-pub fn swift_main<R: Threads + Wait + Sync, S: Source, W: Sink, G: Gate>(
+/// the gate; so there it may wait for ever. In both forms that play a script the gate hears how far the play is.
+pub fn swift_main<R: Threads + Wait + Sync, S: Source, W: Sink, G: Gate + Progress>(
     rt: &R,
     alloc: Global,
     words: &[String],

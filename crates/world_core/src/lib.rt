@@ -10,5 +10,5 @@ mod sections;
 mod world;
 
 pub use event::{Event, Played};
-pub use sections::serial;
+pub use sections::{serial, serial_with};
 pub use world::World;

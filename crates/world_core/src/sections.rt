@@ -9,7 +9,9 @@ ghost use Rattle.world_core.specs.Runs.{MakesMoves, HasPlayed, IsRunOf};
 use crate::phases::play_phase;
 use crate::world::World;
 use ids_core::NoMemory;
+use io_edge::FreeGate;
 use run_book::Book;
+use run_progress::{Extent, Progress};
 use script_text::{Script, Section, Step};
 use std::alloc::Global;
 
@@ -62,7 +64,11 @@ fn play_section(
 }
 
 // The world of a script after all its sections, one after another.
-fn play_all<'a>(alloc: Global, script: &'a Script) -> Result<World<'a>, NoMemory>
+fn play_all<'a, P: Progress>(
+    alloc: Global,
+    script: &'a Script,
+    progress: &P,
+) -> Result<World<'a>, NoMemory>
     requires { IsInRange script.now }
     ensures script { IfOk result (λ world. world.script ≡ script.now) }
     ensures played { IfOk result (HasPlayed (moves_of script.now)) }
@@ -70,9 +76,12 @@ fn play_all<'a>(alloc: Global, script: &'a Script) -> Result<World<'a>, NoMemory
     let mut world = World::new(alloc, script)?;
     let mut number = 0;
     let sections = script.sections.as_slice();
+    let extent = Extent::of(script);
+    progress.played(0, extent);
     'sections: for section in sections {
         number += 1;
         play_section(alloc, &mut world, number, section)?;
+        progress.played(u64::from(number), extent);
     }
     Ok(world)
 }
@@ -85,5 +94,17 @@ pub fn serial(alloc: Global, script: &Script) -> Result<Book, NoMemory>
     requires { IsInRange script.now }
     ensures { IfOk result (IsRunOf script.now) }
 {
-    play_all(alloc, script)?.finish(alloc)
+    serial_with(alloc, script, &FreeGate)
+}
+
+/// The same, where `progress` hears how far the play is.
+pub fn serial_with<P: Progress>(
+    alloc: Global,
+    script: &Script,
+    progress: &P,
+) -> Result<Book, NoMemory>
+    requires { IsInRange script.now }
+    ensures { IfOk result (IsRunOf script.now) }
+{
+    play_all(alloc, script, progress)?.finish(alloc)
 }
