@@ -1,4 +1,5 @@
 """The log: what refused each wrong body when it was last tried."""
+import datetime
 import re
 from typing import NamedTuple
 
@@ -52,6 +53,28 @@ class Record:
             it.write(HEAD)
             it.writelines(f"# commit {commit} of {date}: {crates}\n" for commit, date, crates in self.runs)
             it.writelines(" ".join(line) + "\n" for line in sorted(self.lines))
+
+
+class LogOfRun:
+    """The log of a run, which is written after each crate: a run that is broken off has told of those before."""
+
+    def __init__(self, file, commit, every=None):
+        """Begins with what the log has. The last argument has the crates of a whole run."""
+        self.file = file
+        self.commit = commit
+        self.every = every
+        self.before = Record.read(file)
+
+    def write(self, done):
+        """Puts the edits with their results, by crate, to what the log had: in the place of all of it once a whole run
+        has told of every crate."""
+        if not done:
+            return
+        record = Record(self.before.runs, self.before.lines)
+        is_whole = self.every is not None and set(self.every) <= set(done)
+        lines = [line_of(*it) for tried in done.values() for it in tried]
+        record.add_run(self.commit, datetime.date.today().isoformat(), set(done), lines, is_whole)
+        record.write(self.file)
 
 
 def without(run, crates):
