@@ -1,13 +1,12 @@
 // Some two hundred lists of events, each played in a world, with its book looked at slowly.
 ghost use Rattle.script_text.specs.Scripts.{IsInRange};
 
-use crate::checker::{Verdict, verdict_on, verdict_on_run};
-use crate::dice::{Dice, Order, Plan, step_named};
 use crate::scripts::SCRIPTS;
 use ids_core::NoMemory;
 use run_book::Book;
 use script_reader::parse;
 use script_text::{ClientStep, OperatorStep, Script, Step};
+use slow_check::{Dice, Order, Plan, Verdict, step_named, verdict_on, verdict_on_run};
 use std::alloc::Global;
 use std::process::Abort;
 use std::test::Fail;

@@ -1,4 +1,6 @@
 // Events that look random, the same in each run.
+ghost use Rattle.std.specs.Prelude.{◌<◌};
+
 use crate::same::records_in;
 use dc_talk::{Ask, Deed, Note, Say};
 use hist_lock::Entry;
@@ -18,8 +20,10 @@ impl Dice {
         Dice { state: seed }
     }
 
-    // A number below the count of sides, and 0 where there is none.
-    fn roll(&mut self, sides: u64) -> u64 {
+    /// A number below the count of sides, and 0 where there is none.
+    pub fn roll(&mut self, sides: u64) -> u64
+        ensures { 0 < sides → result < sides }
+    {
         self.state = self
             .state
             .wrapping_mul(6_364_136_223_846_793_005)
@@ -69,7 +73,7 @@ impl Plan {
 }
 
 // The actor of a step.
-fn actor_of(step: &Step) -> u32 {
+pub fn actor_of(step: &Step) -> u32 {
     match step {
         Step::Client { client, .. } => client.saturating_add(1),
         Step::Operator { .. } => 1,
