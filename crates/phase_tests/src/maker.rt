@@ -179,7 +179,9 @@ fn push_head(
     let cache = number(dice, 3);
     let threads = number(dice, 4);
     let rounds = word(dice, &["1", "2", "4", "8", "9"]);
-    text.push_str(format!(in alloc; "cache {cache}\nthreads {threads}\nrounds {rounds}\n")?.as_str())?;
+    text.push_str(format!(in alloc;
+        "cache {cache}\nthreads {threads}\nrounds {rounds}\n"
+    )?.as_str())?;
     if dice.roll(8) == 0 {
         text.push_str("limit 3\n")?;
     }

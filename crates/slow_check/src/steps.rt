@@ -1,5 +1,4 @@
 // Whether each actor did what the lines of a script say, looked at slowly: step by step, by what each may leave.
-use crate::dice::actor_of;
 use dc_talk::{Ask, Call, Change, Deed, Log, Note};
 use script_text::{ClientStep, OperatorStep, Script, Section, Step};
 
@@ -71,6 +70,14 @@ fn is_taken(step: &Step, notes: &[Note]) -> bool {
     match notes.first() {
         Some(note) => begins(step, &note.deed),
         None => may_be_silent(step),
+    }
+}
+
+/// The actor of a step.
+pub fn actor_of(step: &Step) -> u32 {
+    match step {
+        Step::Client { client, .. } => client.saturating_add(1),
+        Step::Operator { .. } => 1,
     }
 }
 

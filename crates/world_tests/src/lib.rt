@@ -2,6 +2,8 @@
 #![tactic(auto)]
 
 #[cfg(test)]
+mod dice;
+#[cfg(test)]
 mod events;
 #[cfg(test)]
 mod examples;
