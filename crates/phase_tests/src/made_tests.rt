@@ -19,8 +19,8 @@ use std::thread;
 use std::thread::Threads;
 use thread_run::run;
 
-// How many scripts a test has, and how often each is run.
-const SCRIPTS: u64 = 50;
+// How many scripts there are, and how often each is run.
+const SCRIPTS: u64 = 200;
 
 const RUNS: u64 = 5;
 
@@ -139,12 +139,12 @@ impl Tally {
     // Whether links lost and doubled records, and there was enough of all else.
     fn is_ample(&self) -> bool {
         let whole = self.brought.saturating_sub(self.doubled);
-        self.reads > 2_000
-            && self.put > 500
+        self.reads > 8_000
+            && self.put > 4_000
             && whole < self.put
-            && self.doubled > 50
-            && self.prunes > 200
-            && self.swayed > 5
+            && self.doubled > 400
+            && self.prunes > 800
+            && self.swayed > 20
     }
 }
 
@@ -201,36 +201,12 @@ fn look_at<R: Threads + Wait + Abort + Sync>(
     Ok(())
 }
 
-// The same of fifty seeds from one on.
-fn look_at_all<R: Threads + Wait + Abort + Sync>(
-    rt: &R,
-    alloc: Global,
-    from: u64,
-) -> Result<(), Fail> {
+#[test]
+fn the_books_of_a_thousand_runs_of_made_scripts_fit(rt: HostRuntime) -> Result<(), Fail> {
     let mut tally = Tally::new();
     for before in 0..SCRIPTS {
-        look_at(rt, alloc, from.saturating_add(before), &mut tally)?;
+        look_at(&rt, rt.alloc(), before.saturating_add(1), &mut tally)?;
     }
     assert!(rt; tally.is_ample(), "{tally:?}");
     Ok(())
-}
-
-#[test]
-fn the_books_of_the_first_fifty_scripts_fit(rt: HostRuntime) -> Result<(), Fail> {
-    look_at_all(&rt, rt.alloc(), 1)
-}
-
-#[test]
-fn the_books_of_the_second_fifty_scripts_fit(rt: HostRuntime) -> Result<(), Fail> {
-    look_at_all(&rt, rt.alloc(), 51)
-}
-
-#[test]
-fn the_books_of_the_third_fifty_scripts_fit(rt: HostRuntime) -> Result<(), Fail> {
-    look_at_all(&rt, rt.alloc(), 101)
-}
-
-#[test]
-fn the_books_of_the_last_fifty_scripts_fit(rt: HostRuntime) -> Result<(), Fail> {
-    look_at_all(&rt, rt.alloc(), 151)
 }
