@@ -1,4 +1,4 @@
-# Runs phases where threads cannot be started. tests/shell/run reads this file.
+# Phases where few threads can be started, or none: tests/shell/run reads this by `.` and calls check_threads.
 
 # busy_script: eight centres and 16 clients, of which the first eight push in a phase, each at a centre of its own, and
 # the others behind it. What is printed does not hang on the order in which the threads of the phase go on.
