@@ -1,47 +1,10 @@
 // Events that look random, the same in each run.
-use crate::same::records_in;
 use dc_talk::{Ask, Deed, Note, Say};
 use hist_lock::Entry;
 use run_book::Book;
 use script_text::{Script, Section, Step};
+use slow_check::{Dice, actor_of, records_in};
 use world_core::Event;
-
-/// Numbers that look random (Knuth's linear congruential generator).
-#[derive(Drop)]
-pub struct Dice {
-    state: u64,
-}
-
-impl Dice {
-    /// The numbers of a seed.
-    pub fn new(seed: u64) -> Dice {
-        Dice { state: seed }
-    }
-
-    // A number below the count of sides, and 0 where there is none.
-    fn roll(&mut self, sides: u64) -> u64 {
-        self.state = self
-            .state
-            .wrapping_mul(6_364_136_223_846_793_005)
-            .wrapping_add(1_442_695_040_888_963_407);
-        (self.state >> 33) % sides.max(1)
-    }
-
-    // The same of few sides.
-    fn pick(&mut self, sides: u32) -> u32 {
-        u32::try_from(self.roll(u64::from(sides))).unwrap_or(0)
-    }
-
-    // A number from 1 to `n`.
-    fn centre(&mut self, n: u8) -> u8 {
-        self.near(n.saturating_sub(1)).saturating_add(1)
-    }
-
-    // A number from 0 to `n`.
-    fn near(&mut self, n: u8) -> u8 {
-        u8::try_from(self.roll(u64::from(n).saturating_add(1))).unwrap_or(0)
-    }
-}
 
 /// How far the operator and the clients are in a script: the section and the number of the step that each took last. An
 /// actor beyond these has none.
@@ -65,14 +28,6 @@ impl Plan {
             }
             None => (0, 0),
         }
-    }
-}
-
-// The actor of a step.
-fn actor_of(step: &Step) -> u32 {
-    match step {
-        Step::Client { client, .. } => client.saturating_add(1),
-        Step::Operator { .. } => 1,
     }
 }
 
@@ -143,10 +98,23 @@ pub enum Order {
     Free,
 }
 
-impl Dice {
+/// Events that look random.
+#[derive(Drop)]
+pub struct Chance {
+    dice: Dice,
+}
+
+impl Chance {
+    /// The events of a seed.
+    pub fn new(seed: u64) -> Chance {
+        Chance {
+            dice: Dice::new(seed),
+        }
+    }
+
     /// The next event of a run of a script that has this book so far. Most name something that is there.
     pub fn event(&mut self, plan: &mut Plan, order: Order, script: &Script, book: &Book) -> Event {
-        let found = match self.roll(17) {
+        let found = match self.dice.roll(17) {
             0 | 1 => self.late(script, book),
             2 | 3 | 13 => self.carry(script, book),
             4 => Some(self.astray(script, order)),
@@ -163,6 +131,7 @@ impl Dice {
     // An actor takes the next of its steps.
     fn ahead(&mut self, plan: &mut Plan, script: &Script) -> Event {
         let actor = self
+            .dice
             .pick(script.clients.saturating_add(1))
             .saturating_add(1);
         let (section, step) = plan.next(script, actor);
@@ -172,11 +141,11 @@ impl Dice {
     // A step of some section is taken by its actor, where the order is free.
     fn anywhere(&mut self, script: &Script, order: Order) -> Option<Event> {
         let sections = script.sections.as_slice();
-        let place = self.pick(count_of(sections));
+        let place = self.dice.pick(count_of(sections));
         match (order, sections.get(place as usize)) {
             (Order::Free, Some(section)) => {
                 let steps = section.steps.as_slice();
-                let at = self.roll(steps.len() as u64) as usize;
+                let at = self.dice.roll(steps.len() as u64) as usize;
                 match steps.get(at) {
                     Some(step) => {
                         let actor = actor_of(step);
@@ -194,18 +163,21 @@ impl Dice {
     // A worker makes a round of some phase, where the script has one. A few name no round that is there.
     fn round(&mut self, script: &Script) -> Option<Event> {
         let sections = script.sections.as_slice();
-        let from = self.pick(count_of(sections));
-        let section = match self.pick(20) {
+        let from = self.dice.pick(count_of(sections));
+        let section = match self.dice.pick(20) {
             0 => from,
             _ => phase_from(sections, from)?,
         };
-        let (centre, role) = match self.pick(12) {
-            0 => (self.near(script.n.saturating_add(1)), self.near(5)),
-            _ => (self.centre(script.n), self.centre(4)),
+        let (centre, role) = match self.dice.pick(12) {
+            0 => (
+                self.dice.near(script.n.saturating_add(1)),
+                self.dice.near(5),
+            ),
+            _ => (self.dice.centre(script.n), self.dice.centre(4)),
         };
         Some(Event::Round {
             section,
-            round: self.pick(script.rounds.saturating_add(3)),
+            round: self.dice.pick(script.rounds.saturating_add(3)),
             centre,
             role,
         })
@@ -213,11 +185,16 @@ impl Dice {
 
     // An event that seldom names something that is there. Where the order is kept, no step does.
     fn astray(&mut self, script: &Script, order: Order) -> Event {
-        let (centre, other) = (self.near(script.n.saturating_add(1)), self.near(script.n));
-        let actor = self.pick(script.clients.saturating_add(3));
-        let section = self.pick(count_of(script.sections.as_slice()).saturating_add(2));
-        let place = self.roll(30);
-        match (self.roll(4), order) {
+        let (centre, other) = (
+            self.dice.near(script.n.saturating_add(1)),
+            self.dice.near(script.n),
+        );
+        let actor = self.dice.pick(script.clients.saturating_add(3));
+        let section = self
+            .dice
+            .pick(count_of(script.sections.as_slice()).saturating_add(2));
+        let place = self.dice.roll(30);
+        match (self.dice.roll(4), order) {
             (0, _) => Event::Again {
                 client: actor,
                 note: place,
@@ -226,21 +203,21 @@ impl Dice {
             (1, _) => Event::Carry {
                 from: other,
                 entry: place,
-                index: self.pick(2),
+                index: self.dice.pick(2),
                 to: centre,
             },
-            (_, Order::Kept) => taking(actor, section, self.pick(2).saturating_mul(100)),
-            (_, Order::Free) => taking(actor, section, self.pick(3)),
+            (_, Order::Kept) => taking(actor, section, self.dice.pick(2).saturating_mul(100)),
+            (_, Order::Free) => taking(actor, section, self.dice.pick(3)),
         }
     }
 
     // A commit of some client comes again, where it has asked for one.
     fn late(&mut self, script: &Script, book: &Book) -> Option<Event> {
-        let client = self.pick(script.clients).saturating_add(1);
-        let centre = self.centre(script.n);
+        let client = self.dice.pick(script.clients).saturating_add(1);
+        let centre = self.dice.centre(script.n);
         match book.logs.as_slice().get(client as usize) {
             Some(log) => {
-                let from = self.roll(log.as_slice().len() as u64);
+                let from = self.dice.roll(log.as_slice().len() as u64);
                 match commit_from(log.as_slice(), from) {
                     Some(note) => Some(Event::Again {
                         client,
@@ -256,19 +233,19 @@ impl Dice {
 
     // A record of an answer of some centre is carried to a centre, where one has answered with records.
     fn carry(&mut self, script: &Script, book: &Book) -> Option<Event> {
-        let (from, to) = (self.centre(script.n), self.centre(script.n));
+        let (from, to) = (self.dice.centre(script.n), self.dice.centre(script.n));
         match book
             .trails
             .as_slice()
             .get(usize::from(from).saturating_sub(1))
         {
             Some(trail) => {
-                let start = self.roll(trail.len() as u64);
+                let start = self.dice.roll(trail.len() as u64);
                 match records_from(trail.as_slice(), start) {
                     Some((entry, records)) => Some(Event::Carry {
                         from,
                         entry,
-                        index: self.pick(records),
+                        index: self.dice.pick(records),
                         to,
                     }),
                     None => None,

@@ -1,13 +1,13 @@
 // Some two hundred lists of events, each played in a world, with its book looked at slowly.
 ghost use Rattle.script_text.specs.Scripts.{IsInRange};
 
-use crate::checker::{Verdict, verdict_on, verdict_on_run};
-use crate::dice::{Dice, Order, Plan, step_named};
+use crate::dice::{Chance, Order, Plan, step_named};
 use crate::scripts::SCRIPTS;
 use ids_core::NoMemory;
 use run_book::Book;
 use script_reader::parse;
 use script_text::{ClientStep, OperatorStep, Script, Step};
+use slow_check::{Verdict, verdict_on, verdict_on_run};
 use std::alloc::Global;
 use std::process::Abort;
 use std::test::Fail;
@@ -118,12 +118,12 @@ fn list_of(
 ) -> Result<Vec<Event>, NoMemory>
     requires { IsInRange script.now }
 {
-    let mut dice = Dice::new(seed);
+    let mut chance = Chance::new(seed);
     let mut plan = Plan::new();
     let mut events = Vec::new(alloc);
     let mut run = run_of(alloc, script, &[])?;
     for place in 0..EVENTS {
-        let event = dice.event(&mut plan, order, script, &run.book);
+        let event = chance.event(&mut plan, order, script, &run.book);
         if place % LOOK == 0 {
             let old = run_of(alloc, script, events.as_slice())?;
             events.push(event)?;

@@ -1,9 +1,9 @@
 // The trail of a centre that prunes: the slow look takes it, and no other answer in its place.
-use crate::horizon::{Seat, tells_prunes};
 use dc_talk::{Ask, Records, Say};
 use hist_lock::Entry;
 use ids_core::{Dot, Sort};
 use samples::{counter, inc_tx, pair};
+use slow_check::{Seat, tells_prunes};
 use std::alloc::Global;
 use std::test::Fail;
 use tx_core::State;

@@ -2,10 +2,10 @@
 ghost use Rattle.script_text.specs.Scripts.{IsInRange};
 
 use crate::events::run_of;
-use crate::workers::{Worker, log_of};
 use ids_core::NoMemory;
 use script_reader::parse;
 use script_text::Script;
+use slow_check::{Worker, log_of};
 use std::alloc::Global;
 use std::test::Fail;
 use world_core::Event;

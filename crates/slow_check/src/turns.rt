@@ -1,5 +1,6 @@
-// The order of a trail in a script that is played in order, looked at slowly: section by section, turn by turn, and in
-// each the clients, then the operator, then the workers of one centre after another.
+// The order of a trail in a script that is played from end to end, looked at slowly: section by section. In one that goes
+// by turns, turn by turn, and in each the clients, then the operator, then the workers of one centre after another; in
+// one with threads, the closing round of a receiver last.
 use crate::checker::exchanged;
 use dc_centre::Centre;
 use dc_talk::{Log, Note};
@@ -14,9 +15,10 @@ pub fn are_in_turn(
     script: &Script,
     trails: &[Trail<Centre>],
     logs: &[Log],
+    by_turns: bool,
 ) -> Result<bool, NoMemory> {
     for (place, trail) in trails.iter().enumerate() {
-        if !is_in_turn(alloc, script, place, trail, logs)? {
+        if !is_in_turn(alloc, script, place, trail, logs, by_turns)? {
             return Ok(false);
         }
     }
@@ -30,6 +32,7 @@ fn is_in_turn(
     place: usize,
     trail: &Trail<Centre>,
     logs: &[Log],
+    by_turns: bool,
 ) -> Result<bool, NoMemory> {
     let mut next: Vec<usize> = Vec::new(alloc);
     for _ in logs {
@@ -40,7 +43,7 @@ fn is_in_turn(
         let caller = entry.caller.saturating_sub(1) as usize;
         if let (Some(log), Some(from)) = (logs.get(caller), next.get_mut(caller)) {
             if let Some((at, note)) = asked_from(log.as_slice(), place, *from) {
-                let now = (note.section, note.step, turn_of(script, entry.caller));
+                let now = time_of(script, entry.caller, note, by_turns);
                 if now < last {
                     return Ok(false);
                 }
@@ -60,6 +63,16 @@ fn asked_from(notes: &[Note], centre: usize, from: usize) -> Option<(usize, &Not
         }
     }
     None
+}
+
+// When a note has its time in the script: by its section, and in that by its turn, or by whether it is of a closing round.
+fn time_of(script: &Script, actor: u32, note: &Note, by_turns: bool) -> (u32, u32, u32) {
+    if by_turns {
+        return (note.section, note.step, turn_of(script, actor));
+    }
+    let is_worker = actor > script.clients.saturating_add(1);
+    let closes = is_worker && note.step > script.rounds;
+    (note.section, u32::from(closes), 0)
 }
 
 // When an actor has its turn among the others.

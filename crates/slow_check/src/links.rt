@@ -1,4 +1,4 @@
-// What links bring in a script that is played in order, looked at slowly: link by link, and record by record.
+// What links bring in a script that is played from end to end, looked at slowly: link by link, and record by record.
 use crate::same::records_in;
 use crate::workers::{Worker, asked_at, key_of, log_of};
 use dc_talk::{Ask, Deed, LinkFault, Log, Note};
@@ -19,12 +19,17 @@ struct Way {
     held: Option<u64>,
 }
 
-/// Whether each link brings what its fault makes of what was put on it, in each round and behind the last one, and each
-/// worker makes each of its rounds.
-pub fn all_bring(alloc: Global, script: &Script, logs: &[Log]) -> Result<bool, NoMemory> {
+/// Whether each link brings what its fault makes of what was put on it, and each worker makes each of its rounds. Where
+/// phases go by turns, each round is looked at, and what comes behind the last one; else all rounds of a phase together.
+pub fn all_bring(
+    alloc: Global,
+    script: &Script,
+    logs: &[Log],
+    by_turns: bool,
+) -> Result<bool, NoMemory> {
     for from in 1..=script.n {
         for to in 1..=script.n {
-            if from != to && !brings(alloc, script, logs, from, to)? {
+            if from != to && !brings(alloc, script, logs, (from, to), by_turns)? {
                 return Ok(false);
             }
         }
@@ -40,9 +45,10 @@ fn brings(
     alloc: Global,
     script: &Script,
     logs: &[Log],
-    from: u8,
-    to: u8,
+    ends: (u8, u8),
+    by_turns: bool,
 ) -> Result<bool, NoMemory> {
+    let (from, to) = ends;
     let mut way = Way {
         from,
         to,
@@ -55,14 +61,12 @@ fn brings(
     let mut number: u32 = 0;
     for section in script.sections.as_slice() {
         number = number.saturating_add(1);
+        let notes = logs_at(script, logs, from, to);
         if !section.phase {
             way.set_by(section);
-        } else if !way.plays(
-            alloc,
-            script.rounds,
-            logs_at(script, logs, from, to),
-            number,
-        )? {
+        } else if by_turns && !way.plays(alloc, script.rounds, notes, number)? {
+            return Ok(false);
+        } else if !by_turns && !way.brings_all(alloc, script.rounds, notes, number)? {
             return Ok(false);
         }
     }
@@ -140,6 +144,38 @@ impl Way {
         }
         let key = (number, rounds.saturating_add(1));
         Ok(is_brought(receiver, key, self.from, due.as_slice()))
+    }
+
+    // Whether the receiver's notes in a phase, of all its rounds and the closing one together, are what comes of all that
+    // the sender's rounds put.
+    fn brings_all(
+        &mut self,
+        alloc: Global,
+        rounds: u32,
+        notes: (&[Note], &[Note]),
+        number: u32,
+    ) -> Result<bool, NoMemory> {
+        let (sender, receiver) = notes;
+        for round in 1..=rounds {
+            self.mail(sender, (number, round))?;
+        }
+        let mut due = Vec::new(alloc);
+        let most = self.put.len();
+        self.take(most, &mut due)?;
+        if let Some(held) = self.held.take() {
+            due.push(held)?;
+        }
+        let mut place: usize = 0;
+        for round in 1..=rounds.saturating_add(1) {
+            let key = (number, round);
+            let behind = place.saturating_add(count_from(receiver, key, self.from));
+            let part = due.as_slice().get(place..behind).unwrap_or(&[]);
+            if !is_brought(receiver, key, self.from, part) {
+                return Ok(false);
+            }
+            place = behind;
+        }
+        Ok(place == due.len())
     }
 
     // Puts what the sender got for the link's end in a round.
@@ -235,6 +271,17 @@ fn is_brought(notes: &[Note], key: (u32, u32), from: u8, due: &[u64]) -> bool {
         }
     }
     place == due.len()
+}
+
+// How many records of a centre a receiver delivers in a round.
+fn count_from(notes: &[Note], key: (u32, u32), from: u8) -> usize {
+    let mut count: usize = 0;
+    for note in notes {
+        if key_of(note) == key && matches!(stamped(note), Some((centre, _)) if centre == from) {
+            count = count.saturating_add(1);
+        }
+    }
+    count
 }
 
 // The stamp of the record that a note delivers.

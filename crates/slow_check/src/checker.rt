@@ -4,7 +4,9 @@
 use crate::conduct::follows;
 use crate::horizon::{Seat, tells_prunes};
 use crate::links::all_bring;
+use crate::reads::all_read;
 use crate::same::{is_same_ask, is_same_record, is_same_say, records_in, vector_in};
+use crate::steps::all_take;
 use crate::turns::are_in_turn;
 use crate::workers::{all_work, was_mailed};
 use dc_centre::Centre;
@@ -34,10 +36,14 @@ pub enum Verdict {
     Conduct,
     /// A worker did what is no round of it.
     Workers,
-    /// Some link of a script that was played in order brought what it should not, or a round was not made.
+    /// The operator or a client did not take its steps as the lines of the script say.
+    Steps,
+    /// Some link of a script that was played from end to end brought what it should not, or a round was not made.
     Links,
-    /// A trail is not in the order of the script.
+    /// A log or a trail is not in the order of the script.
     Turns,
+    /// A read has not the value of its object over what it stands on, or stands on less than the read before.
+    Reads,
 }
 
 /// What is wrong with the book of a script. Where sections were played in order, those of each log are looked at too.
@@ -70,16 +76,41 @@ pub fn verdict_on(
     Ok(Verdict::Fits)
 }
 
-/// What is wrong with the book of a script that was played from end to end.
+/// What is wrong with the book of a script that was played from end to end, on one thread.
 pub fn verdict_on_run(alloc: Global, script: &Script, book: &Book) -> Result<Verdict, NoMemory> {
+    verdict_on_whole(alloc, script, book, true)
+}
+
+/// What is wrong with the book of a script that was played from end to end, with threads in its phases. Of a phase it
+/// looks at what does not hang on when each thread went on: the order of each actor, all rounds of each worker, what
+/// each link brought in all, and that the closing rounds come last.
+pub fn verdict_on_threads(
+    alloc: Global,
+    script: &Script,
+    book: &Book,
+) -> Result<Verdict, NoMemory> {
+    verdict_on_whole(alloc, script, book, false)
+}
+
+// What is wrong with the book of a script that was played from end to end, where phases went by turns or not.
+fn verdict_on_whole(
+    alloc: Global,
+    script: &Script,
+    book: &Book,
+    by_turns: bool,
+) -> Result<Verdict, NoMemory> {
     let verdict = verdict_on(alloc, script, book, true)?;
     let (trails, logs) = (book.trails.as_slice(), book.logs.as_slice());
     if verdict != Verdict::Fits {
         Ok(verdict)
-    } else if !all_bring(alloc, script, logs)? {
+    } else if !all_take(script, logs) {
+        Ok(Verdict::Steps)
+    } else if !all_bring(alloc, script, logs, by_turns)? {
         Ok(Verdict::Links)
-    } else if !are_in_turn(alloc, script, trails, logs)? {
+    } else if !all_ascend(logs) || !are_in_turn(alloc, script, trails, logs, by_turns)? {
         Ok(Verdict::Turns)
+    } else if !all_read(alloc, book)? {
+        Ok(Verdict::Reads)
     } else {
         Ok(Verdict::Fits)
     }
@@ -333,6 +364,16 @@ fn all_follow(script: &Script, logs: &[Log], in_order: bool) -> bool {
             return false;
         }
         if in_order && actor <= script.clients.saturating_add(1) && !ascends(log.as_slice()) {
+            return false;
+        }
+    }
+    true
+}
+
+// Whether no log goes back in its sections, and in each in its steps or rounds.
+fn all_ascend(logs: &[Log]) -> bool {
+    for log in logs {
+        if !ascends(log.as_slice()) {
             return false;
         }
     }
