@@ -24,6 +24,8 @@ forms_text = codes "\nforms:\n"
     ++ codes "  swift_sim run < SCRIPT             plays the script with threads in its phases and writes the answers\n"
     ++ codes "  swift_sim run --trail < SCRIPT     and then the trails and transactions, as serial --trail does\n"
     ++ codes "  swift_sim make NUM                 writes a script made from the number, 1 to 999999999\n"
+    ++ codes "  swift_sim load NUM                 plays the script made from the number with threads and writes its\n"
+    ++ codes "                                     last reads\n"
     ++ codes "  swift_sim --help                   writes this text\n"
     ++ codes "  swift_sim --version                writes the version\n"
 
