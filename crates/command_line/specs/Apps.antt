@@ -15,15 +15,15 @@ num_rule = record (new_rule (codes "num")) { required = true; action = Some Set 
 abbrev pub play_app : List ℕ → App
 play_app name = with_rule (new_app name) trail_rule
 
--- `make` with its value
-abbrev pub make_app : App
-make_app = with_rule (new_app (codes "make")) num_rule
+-- a command of this name that takes a number
+abbrev pub number_app : List ℕ → App
+number_app name = with_rule (new_app name) num_rule
 
 -- the program, whose words come without its name
 abbrev pub bare_app : App
 bare_app = let app = new_app (codes "swift_sim") in
     record app { top = record app.top { no_binary_name = true; disable_help_flag = true; disable_help_subcommand = true } }
 
--- the program with its three subcommands
+-- the program with its four subcommands
 abbrev pub program_app : App
-program_app = with_subcommand (with_subcommand (with_subcommand bare_app (play_app (codes "run")).top) (play_app (codes "serial")).top) make_app.top
+program_app = with_subcommand (with_subcommand (with_subcommand (with_subcommand bare_app (play_app (codes "run")).top) (play_app (codes "serial")).top) (number_app (codes "make")).top) (number_app (codes "load")).top

@@ -1,7 +1,7 @@
 -- Which words ask for which form.
 use Rattle.std.specs.Prelude.{◌≡◌, ◌≢◌, ◌≤◌, ⊤, ℕ, Bool, true, false, List, [], ◌∷◌, Option, Some, None, codes, decimal}
 use Rattle.command_line.specs.declared.form.Form.{Form}
-use Rattle.command_line.specs.declared.form.Form.TheVariants.{Run, Serial, Make, Help, Version}
+use Rattle.command_line.specs.declared.form.Form.TheVariants.{Run, Serial, Make, Load, Help, Version}
 
 -- the greatest number of which a script is made
 abbrev pub most_num : ℕ
@@ -17,12 +17,14 @@ abbrev pub spelled : Form → List (List ℕ)
 spelled (Run trail) = codes "run" ∷ trail_flag trail
 spelled (Serial trail) = codes "serial" ∷ trail_flag trail
 spelled (Make num) = codes "make" ∷ decimal num ∷ []
+spelled (Load num) = codes "load" ∷ decimal num ∷ []
 spelled Help = codes "--help" ∷ []
 spelled Version = codes "--version" ∷ []
 
 -- a form that the program knows: a made script has a number from 1 to the greatest
 abbrev pub IsForm : Form → Type 0
 IsForm (Make num) = (1 ≤ num) × (num ≤ most_num)
+IsForm (Load num) = (1 ≤ num) × (num ≤ most_num)
 IsForm _ = ⊤
 
 -- a form that is a command of the program with a name of its own

@@ -2,7 +2,7 @@
 ghost use Rattle.std.specs.Prelude.{◌≡◌, IfOk, false};
 ghost use Rattle.clap.specs.Words.{app_of};
 ghost use Rattle.clap.specs.declared.builder.command.Command.TheViews.{out-Command as fields_of};
-ghost use Rattle.command_line.specs.Apps.{make_app, play_app, program_app};
+ghost use Rattle.command_line.specs.Apps.{number_app, play_app, program_app};
 
 use clap::{Arg, ArgAction, Command};
 use std::alloc::{AllocError, Global};
@@ -18,23 +18,24 @@ fn player<'a>(alloc: Global, name: &'a str) -> Result<Command<'a>, AllocError>
     Command::new(alloc, name).arg(trail)
 }
 
-// The subcommand `make`, with the value NUM.
-fn maker<'a>(alloc: Global) -> Result<Command<'a>, AllocError>
-    ensures app { IfOk result (λ command. app_of command ≡ make_app) }
+// A subcommand that takes a number, with the value NUM.
+fn numbered<'a>(alloc: Global, name: &'a str) -> Result<Command<'a>, AllocError>
+    ensures app { IfOk result (λ command. app_of command ≡ number_app name.now) }
     ensures local { IfOk result (λ command. (fields_of command).has_globals ≡ false) }
 {
     let num = Arg::new(alloc, "num").required(true).action(ArgAction::Set);
-    Command::new(alloc, "make").arg(num)
+    Command::new(alloc, name).arg(num)
 }
 
-/// Three subcommands: `run` and `serial` with one flag each, and `make` with one value. The words come without the
-/// program's name, and help is no business of `clap`.
+/// Four subcommands: `run` and `serial` with one flag each, `make` and `load` with one value each. The words come
+/// without the program's name, and help is no business of `clap`.
 pub fn program<'a>(alloc: Global) -> Result<Command<'a>, AllocError>
     ensures { IfOk result (λ command. app_of command ≡ program_app) }
 {
     let run = player(alloc, "run")?;
     let serial = player(alloc, "serial")?;
-    let make = maker(alloc)?;
+    let make = numbered(alloc, "make")?;
+    let load = numbered(alloc, "load")?;
     let program = Command::new(alloc, "swift_sim")
         .no_binary_name(true)
         .disable_help_flag(true)
@@ -42,5 +43,6 @@ pub fn program<'a>(alloc: Global) -> Result<Command<'a>, AllocError>
     program
         .subcommand(run)?
         .subcommand(serial)?
-        .subcommand(make)
+        .subcommand(make)?
+        .subcommand(load)
 }

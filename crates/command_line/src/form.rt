@@ -13,6 +13,9 @@ pub enum Form {
     Serial { trail: bool },
     /// `make NUM`: to write the script that is made of the number, 1 to [`MOST_NUM`].
     Make { num: u32 },
+    /// `load NUM`: to play with threads the script that is made of the number, 1 to [`MOST_NUM`], and to write the
+    /// values that its clients read after the last phase.
+    Load { num: u32 },
     /// `--help`: to tell how the program is used.
     Help,
     /// `--version`: to tell which version this is.

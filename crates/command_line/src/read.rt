@@ -1,5 +1,5 @@
 // Reading a list of words.
-ghost use Rattle.std.specs.Prelude.{◌≡◌, ◌↔◌, [], ◌∷◌, Some, IfOk, IfSome, IsTrue, codes, decimal, map, true, is_some};
+ghost use Rattle.std.specs.Prelude.{◌≡◌, ◌↔◌, [], ◌∷◌, Some, IfOk, IfSome, IsTrue, decimal, map, true, is_some};
 ghost use Rattle.std.specs.String.{string_bytes};
 ghost use Rattle.clap.specs.Words.{HasMatchesOf, takes};
 ghost use Rattle.command_line.specs.Apps.{program_app};
@@ -41,12 +41,12 @@ fn are_two(words: &[String], first: &str, second: &str) -> bool
     }
 }
 
-// Whether the words are `make` and the number.
-fn are_make(words: &[String], num: u32) -> bool
-    ensures { IsTrue result ↔ (map string_bytes words.now ≡ codes "make" ∷ decimal num ∷ []) }
+// Whether the words are this command and the number.
+fn are_numbered(words: &[String], name: &str, num: u32) -> bool
+    ensures { IsTrue result ↔ (map string_bytes words.now ≡ name.now ∷ decimal num ∷ []) }
 {
     match words {
-        [one, two] => is(one.as_str(), "make") && is_num(two.as_str(), num),
+        [one, two] => is(one.as_str(), name) && is_num(two.as_str(), num),
         _ => false,
     }
 }
@@ -60,7 +60,8 @@ fn are_spelled(words: &[String], form: Form) -> bool
         Form::Run { trail: false } => is_one(words, "run"),
         Form::Serial { trail: true } => are_two(words, "serial", "--trail"),
         Form::Serial { trail: false } => is_one(words, "serial"),
-        Form::Make { num } => are_make(words, num),
+        Form::Make { num } => are_numbered(words, "make", num),
+        Form::Load { num } => are_numbered(words, "load", num),
         Form::Help => is_one(words, "--help"),
         Form::Version => is_one(words, "--version"),
     }

@@ -35,6 +35,9 @@ forms:
   swift_sim run < SCRIPT             plays the script with threads in its phases and writes the answers
   swift_sim run --trail < SCRIPT     and then the trails and transactions, as serial --trail does
   swift_sim make NUM                 writes a script made from the number, 1 to 999999999
+  swift_sim load NUM                 plays the script made from the number with threads and writes its
+                                     last reads
+  swift_sim FORM --quiet             does the same, and tells no progress on a terminal
   swift_sim --help                   writes this text
   swift_sim --version                writes the version
 

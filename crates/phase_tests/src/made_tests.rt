@@ -8,6 +8,7 @@ use hist_lock::Trail;
 use ids_core::NoMemory;
 use io_edge::Gate;
 use run_book::Book;
+use run_progress::{Extent, Progress};
 use script_reader::parse;
 use script_text::Script;
 use slow_check::{Verdict, Worker, count_reads, log_of, records_in, verdict_on_threads};
@@ -43,6 +44,10 @@ impl Gate for Sway {
     }
 
     fn after(&self, _actor: u32, _step: u64) {}
+}
+
+impl Progress for Sway {
+    fn played(&self, _sections: u64, _of: Extent) {}
 }
 
 // What there was in books: reads with a value, records that senders put on links and that receivers delivered, those of

@@ -5,15 +5,15 @@ use Rattle.script_text.specs.declared.script.Script.{Script}
 use Rattle.run_book.specs.declared.book.Book.{Book}
 use Rattle.world_core.specs.Runs.{IsRunOf}
 use Rattle.command_line.specs.declared.form.Form.{Form}
-use Rattle.command_line.specs.declared.form.Form.TheVariants.{Run, Serial, Make, Help, Version}
+use Rattle.command_line.specs.declared.form.Form.TheVariants.{Run, Serial, Make, Load, Help, Version}
 use Rattle.command_line.specs.Forms.{IsForm, spelled}
 use Rattle.command_line.proofs.Spelled.{one_form}
 use Rattle.load_maker.specs.Made.{made_script}
 use Rattle.print_text.specs.Text.{text_of}
 use Rattle.trail_text.specs.Trails.{trail_text}
 use Rattle.run_book.specs.Setups.{Setup, setup_of}
-use Rattle.top_call.specs.Runs.{IsBookOf, IsDone, IsOwed, IsPlayed, IsRefusal, Played, Made, Told, Done, Refused, Misused, Wrote, has_trails, run_text, told_text}
-use Rattle.top_call.proofs.Owing.{asks, no_question, one_play, play_known, play_of, played_by, played_of}
+use Rattle.top_call.specs.Runs.{IsBookOf, IsDone, IsOwed, IsPlay, IsPlayed, IsRead, IsRefusal, Played, Made, Told, Done, Refused, Misused, Plays, Wrote, form_text, run_text, told_text}
+use Rattle.top_call.proofs.Owing.{asks, no_question, one_play, play_known, play_of, played_of, plays_by, question_known, read_known, read_of, read_plays}
 use Rattle.std.proofs.lemmas.Option.{none-some}
 use Rattle.top_call.specs.declared.engine.Owed.{Owed}
 use Rattle.top_call.specs.declared.top.Ended.{Ended}
@@ -48,39 +48,50 @@ run_texts false b c setup texts trails = texts
 fixed_run : (form : Form) (script : Script) (book : Book) → IsFixed form → IsBookOf form script book → IsRunOf script book
 fixed_run (Run trail) script book fixed run = absurd fixed
 fixed_run (Serial trail) script book fixed run = run
+fixed_run (Load num) script book fixed run = absurd fixed
 fixed_run (Make num) script book fixed run = absurd run
 fixed_run Help script book fixed run = absurd run
 fixed_run Version script book fixed run = absurd run
+
+-- and the text of that form of two runs of a script
+fixed_text : (form : Form) (script : Script) (b c : Book) → IsFixed form → text_of b.logs ≡ text_of c.logs → trail_text b (setup_of script) ≡ trail_text c (setup_of script) → form_text form script b ≡ form_text form script c
+fixed_text (Run trail) script b c fixed texts trails = absurd fixed
+fixed_text (Serial trail) script b c fixed texts trails = run_texts trail b c (setup_of script) texts trails
+fixed_text (Load num) script b c fixed texts trails = absurd fixed
+fixed_text (Make num) script b c fixed texts trails = refl
+fixed_text Help script b c fixed texts trails = refl
+fixed_text Version script b c fixed texts trails = refl
+
+-- where it plays a script, it reads it
+fixed_read : (form : Form) → IsFixed form → IsPlay form → IsRead form
+fixed_read (Run trail) fixed plays = tt
+fixed_read (Serial trail) fixed plays = tt
+fixed_read (Load num) fixed plays = absurd fixed
+fixed_read (Make num) fixed plays = plays
+fixed_read Help fixed plays = plays
+fixed_read Version fixed plays = plays
 
 -- two runs that the same words and bytes ask for
 one_run : (words : List (List ℕ)) (bytes : List ℕ) (taken again : Option (List ℕ)) (one two : Owed) → AreFixed words → IsPlayed (given_bytes words bytes taken) one → IsPlayed (given_bytes words bytes again) two → AreAlike one two
 one_run words bytes taken again one two fixed p q =
     let script : Script = p.run.script in
-    let read : script ≡ q.run.script = one_script bytes script q.run.script (script_said bytes p.asked one.book p.run) (script_said bytes q.asked two.book q.run) in
+    let read : script ≡ q.run.script = one_script bytes script q.run.script (script_said bytes p.asked one.book (fixed_read p.asked (fixed p.asked p.form) p.plays) p.run) (script_said bytes q.asked two.book (fixed_read q.asked (fixed q.asked q.form) q.plays) q.run) in
     let mine : IsRunOf script one.book = fixed_run p.asked script one.book (fixed p.asked p.form) p.run.run in
     let ran : IsRunOf script two.book = subst (λ script. IsRunOf script two.book) (sym read) (fixed_run q.asked q.run.script two.book (fixed q.asked q.form) q.run.run) in
     let book = one_book script one.book two.book mine ran in
     let trails = same_trail_texts script one.book two.book (are_runs script one.book two.book mine ran) in
-    let form : p.asked ≡ q.asked = one_play p.asked q.asked (played_by (given_bytes words bytes taken) one p) (played_by (given_bytes words bytes again) two q) (sym p.form ∙ q.form) in
-    let text : run_text (has_trails p.asked) one.book (setup_of script) ≡ run_text (has_trails q.asked) two.book (setup_of q.run.script) =
-    run_texts (has_trails p.asked) one.book two.book (setup_of script) book.texts trails ∙ λ i. run_text (has_trails (form i)) two.book (setup_of (read i)) in
+    let form : p.asked ≡ q.asked = one_play p.asked q.asked p.plays q.plays (sym p.form ∙ q.form) in
+    let text : form_text p.asked script one.book ≡ form_text q.asked q.run.script two.book =
+    fixed_text p.asked script one.book two.book (fixed p.asked p.form) book.texts trails ∙ λ i. form_text (form i) (read i) two.book in
     record { status = p.status ∙ sym q.status; text = p.text ∙ (text ∙ sym q.text); book = book }
-
--- a question is a form that the program knows
-question_known : (question : Form) (text : List ℕ) → told_text question ≡ Some text → IsForm question
-question_known (Run trail) text told = tt
-question_known (Serial trail) text told = tt
-question_known (Make num) text told = absurd (none-some text told)
-question_known Help text told = tt
-question_known Version text told = tt
 
 -- what is done for the same words and bytes
 one_done : (words : List (List ℕ)) (bytes : List ℕ) (taken again : Option (List ℕ)) (one two : Owed) → AreFixed words → IsDone (given_bytes words bytes taken) one → IsDone (given_bytes words bytes again) two → AreAlike one two
 one_done words bytes taken again one two fixed (Played p) (Played q) = one_run words bytes taken again one two fixed p q
-one_done words bytes taken again one two fixed (Played p) (Made n) = absurd (play_of words (Make n.num) n.form (asks (given_bytes words bytes taken) one p))
-one_done words bytes taken again one two fixed (Played p) (Told t) = absurd (no_question t.question two.text.items t.text (play_of words t.question t.form (asks (given_bytes words bytes taken) one p)))
-one_done words bytes taken again one two fixed (Made m) (Played q) = absurd (play_of words (Make m.num) m.form (asks (given_bytes words bytes again) two q))
-one_done words bytes taken again one two fixed (Told s) (Played q) = absurd (no_question s.question one.text.items s.text (play_of words s.question s.form (asks (given_bytes words bytes again) two q)))
+one_done words bytes taken again one two fixed (Played p) (Made n) = absurd (play_of words (Make n.num) n.known n.form (asks (given_bytes words bytes taken) one p))
+one_done words bytes taken again one two fixed (Played p) (Told t) = absurd (no_question t.question two.text.items t.text (play_of words t.question (question_known t.question two.text.items t.text) t.form (asks (given_bytes words bytes taken) one p)))
+one_done words bytes taken again one two fixed (Made m) (Played q) = absurd (play_of words (Make m.num) m.known m.form (asks (given_bytes words bytes again) two q))
+one_done words bytes taken again one two fixed (Told s) (Played q) = absurd (no_question s.question one.text.items s.text (play_of words s.question (question_known s.question one.text.items s.text) s.form (asks (given_bytes words bytes again) two q)))
 one_done words bytes taken again one two fixed (Made m) (Made n) =
     let forms : Make m.num ≡ Make n.num = one_form (Make m.num) (Make n.num) m.known n.known (sym m.form ∙ n.form) in
     let num : m.num ≡ n.num = cc in
@@ -98,14 +109,16 @@ one_done words bytes taken again one two fixed (Told s) (Told t) =
 
 -- what was done was asked for by words of a form
 no_usage : (words : List (List ℕ)) (bytes : List ℕ) (taken : Option (List ℕ)) (one : Owed) → IsDone (given_bytes words bytes taken) one → ((form : Form) → IsForm form → words ≢ spelled form) → ⊥
-no_usage words bytes taken one (Played p) misused = misused p.asked (play_known p.asked (played_by (given_bytes words bytes taken) one p)) p.form
+no_usage words bytes taken one (Played p) misused = misused p.asked (play_known p.asked p.plays) p.form
 no_usage words bytes taken one (Made m) misused = misused (Make m.num) m.known m.form
 no_usage words bytes taken one (Told t) misused = misused t.question (question_known t.question one.text.items t.text) t.form
 
 -- bytes that were played are not refused
 no_refusal : (words : List (List ℕ)) (bytes : List ℕ) (taken again : Option (List ℕ)) (one two : Owed) → IsDone (given_bytes words bytes taken) one → IsRefusal (given_bytes words bytes again) two → ⊥
 no_refusal words bytes taken again one two done r =
-    let p = played_of (given_bytes words bytes taken) one r.form done in not_refused bytes p.asked one.book r.line r.cause p.run r.refused
+    let plays : Plays words = plays_by words r.form.asked r.form.form (read_plays r.form.asked r.form.reads) in
+    let p = played_of (given_bytes words bytes taken) one plays done in
+    not_refused bytes p.asked one.book r.line r.cause (read_of words p.asked (play_known p.asked p.plays) p.form r.form) p.run r.refused
 
 -- what is owed for the same words and bytes
 pub one_output : (words : List (List ℕ)) (bytes : List ℕ) (taken again : Option (List ℕ)) (one two : Owed) → AreFixed words → IsOwed (given_bytes words bytes taken) one → IsOwed (given_bytes words bytes again) two → AreAlike one two
@@ -115,9 +128,9 @@ one_output words bytes taken again one two fixed (Refused p) (Done e) = absurd (
 one_output words bytes taken again one two fixed (Refused p) (Refused q) = record { status = p.status ∙ sym q.status; text = p.text ∙ (one_refusal bytes p.line q.line p.cause q.cause p.refused q.refused ∙ sym q.text); book = one_self one.book two.book (p.book ∙ sym q.book) }
 one_output words bytes taken again one two fixed (Misused p) (Misused q) = record { status = p.status ∙ sym q.status; text = p.text ∙ sym q.text; book = one_self one.book two.book (p.book ∙ sym q.book) }
 one_output words bytes taken again one two fixed (Done d) (Misused q) = absurd (no_usage words bytes taken one d q.form)
-one_output words bytes taken again one two fixed (Refused p) (Misused q) = absurd (q.form p.form.asked (play_known p.form.asked p.form.plays) p.form.form)
+one_output words bytes taken again one two fixed (Refused p) (Misused q) = absurd (q.form p.form.asked (read_known p.form.asked p.form.reads) p.form.form)
 one_output words bytes taken again one two fixed (Misused p) (Done e) = absurd (no_usage words bytes again two e p.form)
-one_output words bytes taken again one two fixed (Misused p) (Refused q) = absurd (p.form q.form.asked (play_known q.form.asked q.form.plays) q.form.form)
+one_output words bytes taken again one two fixed (Misused p) (Refused q) = absurd (p.form q.form.asked (read_known q.form.asked q.form.reads) q.form.form)
 
 -- what a run in which nothing failed wrote
 whole_text : (words : List (List ℕ)) (bytes : List ℕ) (taken now : Option (List ℕ)) (ended : Ended) → IsWholeRun words bytes taken ended now → Wrote IsOwed (given_bytes words bytes taken) ended now

@@ -1,7 +1,7 @@
 -- When what two runs of the program owe is the same.
 use Rattle.std.specs.Prelude.{◌≡◌, ◌⊎◌, ⊤, ℕ, List, Option, Some}
 use Rattle.command_line.specs.declared.form.Form.{Form}
-use Rattle.command_line.specs.declared.form.Form.TheVariants.{Run}
+use Rattle.command_line.specs.declared.form.Form.TheVariants.{Run, Load}
 use Rattle.command_line.specs.Forms.{spelled}
 use Rattle.io_edge.specs.Streams.{puts_behind}
 use Rattle.top_call.specs.Runs.{Given, IsDone, IsRefusal, IsUsage, Wrote}
@@ -13,9 +13,10 @@ use Rattle.run_laws.specs.OneBook.{AreOne}
 abbrev pub given_bytes : List (List ℕ) → List ℕ → Option (List ℕ) → Given
 given_bytes words bytes taken = record { words = words; left = Some bytes; taken = taken }
 
--- a form whose output follows from its input: each but `run`, whose threads have no fixed order
+-- a form whose output follows from its input: each but `run` and `load`, whose threads have no fixed order
 abbrev pub IsFixed : Form → Type 0
 IsFixed (Run trail) = ⊥
+IsFixed (Load num) = ⊥
 IsFixed form = ⊤
 
 -- words that spell no other form

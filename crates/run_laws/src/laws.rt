@@ -23,10 +23,10 @@ pub fn law_one_script()
     ensures { (bytes : List ℕ) (s t : Script) → script_read bytes ≡ Ok s → script_read bytes ≡ Ok t → s ≡ t }
 {}
 
-/// The output of each form but `run` follows from the input. What the program owes for its words and the bytes of its
-/// input is one status, one text and one book (`owed`). Two runs by the same words, with the same bytes as their input,
-/// in which neither reading nor writing nor memory failed, end with one status and one book, and their sinks take the
-/// same text (`printed`).
+/// The output of each form but `run` and `load` follows from the input. What the program owes for its words and the bytes
+/// of its input is one status, one text and one book (`owed`). Two runs by the same words, with the same bytes as their
+/// input, in which neither reading nor writing nor memory failed, end with one status and one book, and their sinks take
+/// the same text (`printed`).
 pub fn law_one_output()
     ensures owed { (words : List (List ℕ)) (bytes : List ℕ) (taken again : Option (List ℕ)) (one two : Owed) → AreFixed words → IsOwed (given_bytes words bytes taken) one → IsOwed (given_bytes words bytes again) two → AreAlike one two }
     ensures printed { (words : List (List ℕ)) (bytes : List ℕ) (taken again now later : Option (List ℕ)) (one two : Ended) → AreFixed words → IsWholeRun words bytes taken one now → IsWholeRun words bytes again two later → PrintAlike one two taken again now later }

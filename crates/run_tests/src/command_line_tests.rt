@@ -40,9 +40,11 @@ fn words_spell_forms(rt: HostRuntime) -> Result<(), Fail> {
             Some(Form::Make { num: 999_999_999 })
         )
     );
+    assert!(rt; matches!(form(alloc, &["load", "7"])?, Some(Form::Load { num: 7 })));
     assert!(rt; matches!(form(alloc, &["--help"])?, Some(Form::Help)));
     assert!(rt; matches!(form(alloc, &["--version"])?, Some(Form::Version)));
     assert!(rt; form(alloc, &["make", "01"])?.is_none());
+    assert!(rt; form(alloc, &["load", "0"])?.is_none());
     law_one_form();
     Ok(())
 }

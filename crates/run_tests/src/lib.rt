@@ -8,6 +8,8 @@ mod command_line_tests;
 #[cfg(test)]
 mod load_maker_tests;
 #[cfg(test)]
+mod load_tests;
+#[cfg(test)]
 mod print_text_tests;
 #[cfg(test)]
 mod run_book_stamps;

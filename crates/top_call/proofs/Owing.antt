@@ -16,9 +16,9 @@ use Rattle.run_book.proofs.Causal.Theorem.{causal}
 use Rattle.run_book.specs.declared.book.Book.{Book}
 use Rattle.top_call.specs.declared.engine.Owed.{Owed}
 use Rattle.top_call.specs.declared.top.Ended.{Ended}
-use Rattle.top_call.specs.Runs.{Given, IsAnswerable, IsBookOf, IsCausalRun, IsDone, IsRefusedAt, IsOwed, IsPlay, IsServed, Played, Made, Told, Done, Refused, Misused, IsPlayed, IsSomeScript, IsStatus, EndsSo, Plays, Wrote, empty_book, given_form, has_trails, run_text, told_text}
+use Rattle.top_call.specs.Runs.{Given, IsAnswerable, IsBookOf, IsCausalRun, IsDone, IsRefusedAt, IsInput, IsOwed, IsPlay, IsRead, IsServed, Played, Made, Told, Done, Refused, Misused, IsPlayed, IsSomeScript, IsStatus, EndsSo, Plays, Reads, Wrote, empty_book, form_text, given_form, told_text}
 use Rattle.command_line.specs.declared.form.Form.{Form}
-use Rattle.command_line.specs.declared.form.Form.TheVariants.{Run, Serial, Make, Help, Version}
+use Rattle.command_line.specs.declared.form.Form.TheVariants.{Run, Serial, Make, Load, Help, Version}
 use Rattle.command_line.specs.Forms.{IsForm, spelled}
 use Rattle.command_line.proofs.Spelled.{one_form}
 
@@ -26,19 +26,22 @@ use Rattle.command_line.proofs.Spelled.{one_form}
 pub book_fits : (form : Form) (script : Script) (book : Book) → IsBookOf form script book → FitsWith book (setup_of script)
 book_fits (Run trail) script book run = run.fits
 book_fits (Serial trail) script book run = run.fits
+book_fits (Load num) script book run = run.fits
 book_fits (Make num) script book run = absurd run
 book_fits Help script book run = absurd run
 book_fits Version script book run = absurd run
 
 -- what is owed for a script is a run of its steps
-pub run_plays : (form : Form) (bytes : List ℕ) (script : Script) (owed : Owed) → script_read bytes ≡ Ok script → owed.status ≡ 0 → IsBookOf form script owed.book → owed.text.items ≡ run_text (has_trails form) owed.book (setup_of script) → owed.fault ≡ None → IsPlayed (given_form form (Some bytes)) owed
-run_plays form bytes script owed spelled status run text sound = record {
+pub run_plays : (form : Form) (left : Option (List ℕ)) (bytes : List ℕ) (script : Script) (owed : Owed) → IsPlay form → IsInput form left bytes → script_read bytes ≡ Ok script
+    → owed.status ≡ 0 → IsBookOf form script owed.book → owed.text.items ≡ form_text form script owed.book → owed.fault ≡ None → IsPlayed (given_form form left) owed
+run_plays form left bytes script owed plays input spelled status run text sound = record {
   asked = form;
+  plays = plays;
   form = refl;
   status = status;
   run = record {
     bytes = bytes;
-    input = refl;
+    input = input;
     script = script;
     spelled = spelled;
     run = run;
@@ -47,6 +50,74 @@ run_plays form bytes script owed spelled status run text sound = record {
   text = text;
   sound = sound;
 }
+
+-- ---- the forms
+
+-- a form that reads a script plays it
+pub read_plays : (form : Form) → IsRead form → IsPlay form
+read_plays (Run trail) read = tt
+read_plays (Serial trail) read = tt
+read_plays (Make num) read = read
+read_plays (Load num) read = absurd read
+read_plays Help read = read
+read_plays Version read = read
+
+-- a form that plays a script is one that the program knows
+pub play_known : (form : Form) → IsPlay form → IsForm form
+play_known (Run trail) play = tt
+play_known (Serial trail) play = tt
+play_known (Make num) play = absurd play
+play_known (Load num) play = play
+play_known Help play = absurd play
+play_known Version play = absurd play
+
+-- so is one that reads it
+pub read_known : (form : Form) → IsRead form → IsForm form
+read_known form read = play_known form (read_plays form read)
+
+-- and a question
+pub question_known : (question : Form) (text : List ℕ) → told_text question ≡ Some text → IsForm question
+question_known (Run trail) text told = tt
+question_known (Serial trail) text told = tt
+question_known (Make num) text told = absurd (none-some text told)
+question_known (Load num) text told = absurd (none-some text told)
+question_known Help text told = tt
+question_known Version text told = tt
+
+-- a question is no form that plays a script
+pub no_question : (form : Form) (text : List ℕ) → told_text form ≡ Some text → IsPlay form → ⊥
+no_question (Run trail) text told play = none-some text told
+no_question (Serial trail) text told play = none-some text told
+no_question (Make num) text told play = play
+no_question (Load num) text told play = none-some text told
+no_question Help text told play = play
+no_question Version text told play = play
+
+-- words that play a script spell no other form
+pub play_of : (words : List (List ℕ)) (form : Form) → IsForm form → words ≡ spelled form → Plays words → IsPlay form
+play_of words form known is plays = subst IsPlay (one_form plays.asked form (play_known plays.asked plays.plays) known (sym plays.form ∙ is)) plays.plays
+
+-- words that have one read spell no other form
+pub read_of : (words : List (List ℕ)) (form : Form) → IsForm form → words ≡ spelled form → Reads words → IsRead form
+read_of words form known is reads = subst IsRead (one_form reads.asked form (read_known reads.asked reads.reads) known (sym reads.form ∙ is)) reads.reads
+
+-- a form that plays a script is spelled by words that do
+pub plays_by : (words : List (List ℕ)) (form : Form) → words ≡ spelled form → IsPlay form → Plays words
+plays_by words form is play = record { asked = form; plays = play; form = is }
+
+-- words ask for a script to be played by one form
+pub one_play : (form again : Form) → IsPlay form → IsPlay again → spelled form ≡ spelled again → form ≡ again
+one_play form again play too same = one_form form again (play_known form play) (play_known again too) same
+
+-- words by which a script was played ask for one
+pub asks : (given : Given) (owed : Owed) → IsPlayed given owed → Plays given.words
+asks given owed p = plays_by given.words p.asked p.form p.plays
+
+-- what was done for words that play a script is a run
+pub played_of : (given : Given) (owed : Owed) → Plays given.words → IsDone given owed → IsPlayed given owed
+played_of given owed plays (Played p) = p
+played_of given owed plays (Made m) = absurd (play_of given.words (Make m.num) m.known m.form plays)
+played_of given owed plays (Told t) = absurd (no_question t.question owed.text.items t.text (play_of given.words t.question (question_known t.question owed.text.items t.text) t.form plays))
 
 -- ---- the input
 
@@ -75,103 +146,60 @@ refused_left bytes past None line cause fault limits whole = fault
 refused_left bytes true (Some rest) line cause fault limits whole = cut_off bytes rest (limits.0 refl) ∙ fault
 refused_left bytes false (Some rest) line cause fault limits whole = ap script_read (ap (λ l. bytes ++ l) (whole refl) ∙ append-nil bytes) ∙ fault
 
--- the first byte of the first word
-abbrev first_byte : List (List ℕ) → ℕ
-first_byte words = get_or (get_or words 0 []) 0 0
+-- the input of a form that reads a script is what the source had left
+pub input_read : (form : Form) (left : Option (List ℕ)) (bytes : List ℕ) → IsRead form → IsInput form left bytes → IfSome left (λ all. all ≡ bytes)
+input_read (Run trail) left bytes read input = input
+input_read (Serial trail) left bytes read input = input
+input_read (Make num) left bytes read input = absurd read
+input_read (Load num) left bytes read input = absurd read
+input_read Help left bytes read input = absurd read
+input_read Version left bytes read input = absurd read
 
--- words that play a script begin with r or s
-play_first : (form : Form) → IsPlay form → 114 ≤ first_byte (spelled form)
-play_first (Run trail) play = omega arith
-play_first (Serial trail) play = omega arith
-play_first (Make num) play = absurd play
-play_first Help play = absurd play
-play_first Version play = absurd play
+-- what the source had left is its input
+pub read_input : (form : Form) (left : Option (List ℕ)) (bytes : List ℕ) → IsRead form → IfSome left (λ all. all ≡ bytes) → IsInput form left bytes
+read_input (Run trail) left bytes read all = all
+read_input (Serial trail) left bytes read all = all
+read_input (Make num) left bytes read all = read
+read_input (Load num) left bytes read all = absurd read
+read_input Help left bytes read all = read
+read_input Version left bytes read all = read
 
--- no other words do
-late_first : (form : Form) → 114 ≤ first_byte (spelled form) → IsPlay form
-late_first (Run trail) late = tt
-late_first (Serial trail) late = tt
-late_first (Make num) late = absurd (omega (arith, late))
-late_first Help late = absurd (omega (arith, late))
-late_first Version late = absurd (omega (arith, late))
+-- what a form that reads a script did with these bytes: it played them
+record PlayedBytes (form : Form) (bytes : List ℕ) (owed : Owed) : Type 0 where
+  status : owed.status ≡ 0
+  script : Script
+  spells : script_read bytes ≡ Ok script
+  run : IsBookOf form script owed.book
+  text : owed.text.items ≡ form_text form script owed.book
+  sound : owed.fault ≡ None
 
--- words that play a script spell no other form
-pub play_of : (words : List (List ℕ)) (form : Form) → words ≡ spelled form → Plays words → IsPlay form
-play_of words form is plays = late_first form (subst (λ w. 114 ≤ first_byte w) (sym plays.form ∙ is) (play_first plays.asked plays.plays))
-
--- a form that plays a script is spelled by words that do
-pub plays_by : (words : List (List ℕ)) (form : Form) → words ≡ spelled form → IsPlay form → Plays words
-plays_by words form is play = record { asked = form; plays = play; form = is }
-
--- a form that plays a script is one that the program knows
-pub play_known : (form : Form) → IsPlay form → IsForm form
-play_known (Run trail) play = tt
-play_known (Serial trail) play = tt
-play_known (Make num) play = absurd play
-play_known Help play = absurd play
-play_known Version play = absurd play
-
--- a form that leaves a book of a script plays it
-pub book_plays : (form : Form) (script : Script) (book : Book) → IsBookOf form script book → IsPlay form
-book_plays (Run trail) script book run = tt
-book_plays (Serial trail) script book run = tt
-book_plays (Make num) script book run = run
-book_plays Help script book run = run
-book_plays Version script book run = run
-
--- a form by which a script was played plays it
-pub played_by : (given : Given) (owed : Owed) (p : IsPlayed given owed) → IsPlay p.asked
-played_by given owed p = book_plays p.asked p.run.script owed.book p.run.run
-
--- words by which a script was played ask for one
-pub asks : (given : Given) (owed : Owed) → IsPlayed given owed → Plays given.words
-asks given owed p = plays_by given.words p.asked p.form (played_by given owed p)
-
--- words ask for a script to be played by one form
-pub one_play : (form again : Form) → IsPlay form → IsPlay again → spelled form ≡ spelled again → form ≡ again
-one_play form again play too same = one_form form again (play_known form play) (play_known again too) same
-
--- a question is no form that plays a script
-pub no_question : (form : Form) (text : List ℕ) → told_text form ≡ Some text → IsPlay form → ⊥
-no_question (Run trail) text told play = none-some text told
-no_question (Serial trail) text told play = none-some text told
-no_question (Make num) text told play = play
-no_question Help text told play = play
-no_question Version text told play = play
-
--- what was done for words that play a script is a run
-pub played_of : (given : Given) (owed : Owed) → Plays given.words → IsDone given owed → IsPlayed given owed
-played_of given owed plays (Played p) = p
-played_of given owed plays (Made m) = absurd (play_of given.words (Make m.num) m.form plays)
-played_of given owed plays (Told t) = absurd (no_question t.question owed.text.items t.text (play_of given.words t.question t.form plays))
-
--- what is owed for the bytes that were read is owed for what the source had left
-pub owed_left : (form : Form) (old new : Option (List ℕ)) (bytes : List ℕ) (past : Bool) (owed : Owed) → IsPlay form → old ≡ puts_back bytes new → (IsTrue past ↔ PassesLimits bytes) → (past ≡ false → IfSome new (λ rest. rest ≡ [])) → IsOwed (given_form form (Some bytes)) owed → IsOwed (given_form form old) owed
-owed_left form old new bytes past owed play parts limits whole (Done d) = Done (Played (record {
-  asked = p.asked;
-  form = p.form;
+bytes_played : (form : Form) (bytes : List ℕ) (owed : Owed) → IsRead form → IsDone (given_form form (Some bytes)) owed → PlayedBytes form bytes owed
+bytes_played form bytes owed read done = record {
   status = p.status;
-  run = record {
-    bytes = bytes;
-    input = subst (λ left. IfSome left (λ all. all ≡ bytes)) (sym parts) (all_read bytes new (whole_of bytes past new within limits whole));
-    script = p.run.script;
-    spelled = spells;
-    run = p.run.run;
-    causal = p.run.causal;
-  };
-  text = p.text;
+  script = p.run.script;
+  spells = ap script_read (input_read p.asked (Some bytes) p.run.bytes (subst IsRead (sym same) read) p.run.input) ∙ p.run.spelled;
+  run = subst (λ form. IsBookOf form p.run.script owed.book) same p.run.run;
+  text = p.text ∙ ap (λ form. form_text form p.run.script owed.book) same;
   sound = p.sound;
-}))
+}
   where
     p : IsPlayed (given_form form (Some bytes)) owed
-    p = played_of (given_form form (Some bytes)) owed (plays_by (spelled form) form refl play) d
+    p = played_of (given_form form (Some bytes)) owed (plays_by (spelled form) form refl (read_plays form read)) done
 
-    spells : script_read bytes ≡ Ok p.run.script
-    spells = ap script_read p.run.input ∙ p.run.spelled
+    same : p.asked ≡ form
+    same = one_play p.asked form p.plays (read_plays form read) (sym p.form)
 
-    within : PassesLimits bytes → ⊥
-    within past = past_is_none bytes p.run.script past spells
-owed_left form old new bytes past owed play parts limits whole (Refused r) = Refused (record {
+-- bytes of a script are within the limits
+within_limits : (form : Form) (bytes : List ℕ) (owed : Owed) → PlayedBytes form bytes owed → PassesLimits bytes → ⊥
+within_limits form bytes owed p past = past_is_none bytes p.script past p.spells
+
+-- what is owed for the bytes that were read is owed for what the source had left
+pub owed_left : (form : Form) (old new : Option (List ℕ)) (bytes : List ℕ) (past : Bool) (owed : Owed) → IsRead form → old ≡ puts_back bytes new → (IsTrue past ↔ PassesLimits bytes) → (past ≡ false → IfSome new (λ rest. rest ≡ [])) → IsOwed (given_form form (Some bytes)) owed → IsOwed (given_form form old) owed
+owed_left form old new bytes past owed read parts limits whole (Done d) =
+    let p : PlayedBytes form bytes owed = bytes_played form bytes owed read d in
+    let all : IfSome old (λ all. all ≡ bytes) = subst (λ left. IfSome left (λ all. all ≡ bytes)) (sym parts) (all_read bytes new (whole_of bytes past new (within_limits form bytes owed p) limits whole)) in
+    Done (Played (run_plays form old bytes p.script owed (read_plays form read) (read_input form old bytes read all) p.spells p.status p.run p.text p.sound))
+owed_left form old new bytes past owed read parts limits whole (Refused r) = Refused (record {
   form = r.form;
   status = r.status;
   line = r.line;
@@ -185,26 +213,24 @@ owed_left form old new bytes past owed play parts limits whole (Refused r) = Ref
   book = r.book;
   told = r.told;
 })
-owed_left form old new bytes past owed play parts limits whole (Misused u) = absurd (u.form form (play_known form play) refl)
+owed_left form old new bytes past owed read parts limits whole (Misused u) = absurd (u.form form (read_known form read) refl)
 
 -- where the bytes that were read are played, nothing is left
-pub end_met : (form : Form) (new : Option (List ℕ)) (bytes : List ℕ) (past : Bool) (owed : Owed) → IsPlay form → (IsTrue past ↔ PassesLimits bytes) → (past ≡ false → IfSome new (λ rest. rest ≡ [])) → IsOwed (given_form form (Some bytes)) owed → owed.status ≡ 0 → IfSome new (λ rest. rest ≡ [])
-end_met form new bytes past owed play limits whole (Done d) zero =
-    let p = played_of (given_form form (Some bytes)) owed (plays_by (spelled form) form refl play) d in
-    whole_of bytes past new (λ over. past_is_none bytes p.run.script over (ap script_read p.run.input ∙ p.run.spelled)) limits whole
-end_met form new bytes past owed play limits whole (Refused r) zero = absurd (omega (arith, zero, r.status))
-end_met form new bytes past owed play limits whole (Misused u) zero = absurd (omega (arith, zero, u.status))
+pub end_met : (form : Form) (new : Option (List ℕ)) (bytes : List ℕ) (past : Bool) (owed : Owed) → IsRead form → (IsTrue past ↔ PassesLimits bytes) → (past ≡ false → IfSome new (λ rest. rest ≡ [])) → IsOwed (given_form form (Some bytes)) owed → owed.status ≡ 0 → IfSome new (λ rest. rest ≡ [])
+end_met form new bytes past owed read limits whole (Done d) zero = whole_of bytes past new (within_limits form bytes owed (bytes_played form bytes owed read d)) limits whole
+end_met form new bytes past owed read limits whole (Refused r) zero = absurd (omega (arith, zero, r.status))
+end_met form new bytes past owed read limits whole (Misused u) zero = absurd (omega (arith, zero, u.status))
 
 -- a run of what a source had left
 abbrev run_left : (form : Form) (left other : Option (List ℕ)) (book : Book) → left ≡ other → IsCausalRun form left book → IsCausalRun form other book
-run_left form left other book same run = record { bytes = run.bytes; input = subst (λ l. IfSome l (λ all. all ≡ run.bytes)) same run.input; script = run.script; spelled = run.spelled; run = run.run; causal = run.causal }
+run_left form left other book same run = record { bytes = run.bytes; input = subst (λ l. IsInput form l run.bytes) same run.input; script = run.script; spelled = run.spelled; run = run.run; causal = run.causal }
 
 -- what is owed for the words of a form is owed whatever the sink has
 pub owed_given : (form : Form) (given : Given) (left : Option (List ℕ)) (owed : Owed) → given.words ≡ spelled form → given.left ≡ left → IsOwed (given_form form left) owed → IsOwed given owed
-owed_given form given left owed spells same (Done (Played p)) = Done (Played (record { asked = p.asked; form = spells ∙ p.form; status = p.status; run = run_left p.asked left given.left owed.book (sym same) p.run; text = p.text; sound = p.sound }))
+owed_given form given left owed spells same (Done (Played p)) = Done (Played (record { asked = p.asked; plays = p.plays; form = spells ∙ p.form; status = p.status; run = run_left p.asked left given.left owed.book (sym same) p.run; text = p.text; sound = p.sound }))
 owed_given form given left owed spells same (Done (Made m)) = Done (Made (record { num = m.num; known = m.known; form = spells ∙ m.form; status = m.status; text = m.text; book = m.book; sound = m.sound }))
 owed_given form given left owed spells same (Done (Told t)) = Done (Told (record { question = t.question; form = spells ∙ t.form; status = t.status; text = t.text; book = t.book; sound = t.sound }))
-owed_given form given left owed spells same (Refused r) = Refused (record { form = record { asked = r.form.asked; plays = r.form.plays; form = spells ∙ r.form.form }; status = r.status; line = r.line; cause = r.cause; refused = subst (λ l. IsRefusedAt l r.line r.cause) (sym same) r.refused; text = r.text; book = r.book; told = r.told })
+owed_given form given left owed spells same (Refused r) = Refused (record { form = record { asked = r.form.asked; reads = r.form.reads; form = spells ∙ r.form.form }; status = r.status; line = r.line; cause = r.cause; refused = subst (λ l. IsRefusedAt l r.line r.cause) (sym same) r.refused; text = r.text; book = r.book; told = r.told })
 owed_given form given left owed spells same (Misused u) = Misused (record { form = λ other known is. u.form other known (sym spells ∙ is); status = u.status; text = u.text; book = u.book; sound = u.sound })
 
 -- ---- the ends
@@ -292,8 +318,8 @@ not_both None line cause some refused = some
 not_both (Some bytes) line cause (script, spelled) refused = absurd (let both : Ok script ≡ Err (RefusedAt line cause) = sym spelled ∙ (ap script_read refused.input ∙ refused.fault) in cc)
 
 -- what a form wants of the source is there, so nothing is refused
-never_refused : (given : Given) (line : ℕ) (cause : Cause) (asked : Form) → given.words ≡ spelled asked → IsServed asked given.left → Plays given.words → IsRefusedAt given.left line cause → ⊥
-never_refused given line cause asked form served plays refused = not_both given.left line cause (served (play_of given.words asked form plays)) refused
+never_refused : (given : Given) (line : ℕ) (cause : Cause) (asked : Form) → IsForm asked → given.words ≡ spelled asked → IsServed asked given.left → Reads given.words → IsRefusedAt given.left line cause → ⊥
+never_refused given line cause asked known form served reads refused = not_both given.left line cause (served (read_of given.words asked known form reads)) refused
 
 -- what can be answered is, where no read and no write failed and memory sufficed
 pub ends_complete : (given : Given) (ended : Ended) (taken : Option (List ℕ)) → IsAnswerable given → ended.status ≢ 4 → ended.status ≢ 5 → EndsSo given ended taken → (ended.status ≡ 0) ⊎ (ended.status ≡ 6)
@@ -302,7 +328,7 @@ ends_complete given ended taken asks no_read no_write ends = by_status ends.stat
     by_status : IsStatus ended.status → (ended.status ≡ 0) ⊎ (ended.status ≡ 6)
     by_status (inl zero) = inl zero
     by_status (inr (inl two)) = absurd ((ends.misused two).kind.form asks.asked asks.known asks.form)
-    by_status (inr (inr (inl three))) = (let kind = (ends.refused three).kind in absurd (never_refused given kind.line kind.cause asks.asked asks.form asks.served kind.form kind.refused))
+    by_status (inr (inr (inl three))) = (let kind = (ends.refused three).kind in absurd (never_refused given kind.line kind.cause asks.asked asks.known asks.form asks.served kind.form kind.refused))
     by_status (inr (inr (inr (inl four)))) = absurd (no_read four)
     by_status (inr (inr (inr (inr (inl five))))) = absurd (no_write five)
     by_status (inr (inr (inr (inr (inr six))))) = inr six
@@ -318,4 +344,4 @@ ends_causal given ended taken ends zero play = subst (IsCausalRun play.asked giv
     p = played_of given wrote.owed play wrote.kind
 
     same : p.asked ≡ play.asked
-    same = one_play p.asked play.asked (played_by given wrote.owed p) play.plays (sym p.form ∙ play.form)
+    same = one_play p.asked play.asked p.plays play.plays (sym p.form ∙ play.form)

@@ -3,7 +3,7 @@ use Rattle.std.specs.Prelude.{◌≡◌, ◌≢◌, ◌⊎◌, ⊤, ℕ, Bool, t
 use Rattle.std.specs.Global.{Global}
 use Rattle.std.specs.String.{string_bytes}
 use Rattle.command_line.specs.declared.form.Form.{Form}
-use Rattle.command_line.specs.declared.form.Form.TheVariants.{Run, Serial, Make, Help, Version}
+use Rattle.command_line.specs.declared.form.Form.TheVariants.{Run, Serial, Make, Load, Help, Version}
 use Rattle.command_line.specs.Forms.{IsForm, spelled}
 use Rattle.command_line.specs.Texts.{help_text, usage_text, version_text}
 use Rattle.io_edge.specs.Streams.{TookFront, puts_behind}
@@ -17,6 +17,7 @@ use Rattle.run_book.specs.Setups.{Setup, setup_of}
 use Rattle.run_book.specs.Causal.{IsCausal}
 use Rattle.print_text.specs.Text.{text_of}
 use Rattle.trail_text.specs.Trails.{trail_text}
+use Rattle.load_text.specs.LastReads.{load_text}
 use Rattle.load_maker.specs.Made.{made_script}
 use Rattle.run_sections.specs.Runs.{IsSectionRunOf}
 use Rattle.world_core.specs.Runs.{IsRunOf}
@@ -37,17 +38,22 @@ texts words = map string_bytes words
 abbrev pub given_by : List (String Global) → Option (List ℕ) → Option (List ℕ) → Given
 given_by words left taken = record { words = texts words; left = left; taken = taken }
 
--- a form that plays a script: `run` or `serial`, with the trails or without
-abbrev pub IsPlay : Form → Type 0
-IsPlay (Run trail) = ⊤
-IsPlay (Serial trail) = ⊤
-IsPlay _ = ⊥
+-- a form that reads a script from the source and plays it: `run` or `serial`, with the trails or without
+abbrev pub IsRead : Form → Type 0
+IsRead (Run trail) = ⊤
+IsRead (Serial trail) = ⊤
+IsRead _ = ⊥
 
--- whether a form asks for the trails
-abbrev pub has_trails : Form → Bool
-has_trails (Run trail) = trail
-has_trails (Serial trail) = trail
-has_trails _ = false
+-- a form that plays a script: one that it reads, or `load`, which plays the script that is made of its number
+abbrev pub IsPlay : Form → Type 0
+IsPlay (Load num) = IsForm (Load num)
+IsPlay form = IsRead form
+
+-- the words ask for a script to be read and played
+pub record Reads (words : List (List ℕ)) : Type 0 where
+  pub asked : Form
+  pub reads : IsRead asked
+  pub form : words ≡ spelled asked
 
 -- the words ask for a script to be played
 pub record Plays (words : List (List ℕ)) : Type 0 where
@@ -55,11 +61,20 @@ pub record Plays (words : List (List ℕ)) : Type 0 where
   pub plays : IsPlay asked
   pub form : words ≡ spelled asked
 
+-- the bytes of the script that a form plays: all that the source had left, as far as it tells that, or what is made of
+-- the number
+abbrev pub IsInput : Form → Option (List ℕ) → List ℕ → Type 0
+IsInput (Run trail) left bytes = IfSome left (λ all. all ≡ bytes)
+IsInput (Serial trail) left bytes = IfSome left (λ all. all ≡ bytes)
+IsInput (Load num) left bytes = bytes ≡ made_script num
+IsInput _ left bytes = ⊥
+
 -- a book that a form leaves of a script: one of a run section by section, with threads in the phases, or of a run on one
 -- thread
 abbrev pub IsBookOf : Form → Script → Book → Type 0
 IsBookOf (Run trail) script book = IsSectionRunOf script book
 IsBookOf (Serial trail) script book = IsRunOf script book
+IsBookOf (Load num) script book = IsSectionRunOf script book
 IsBookOf _ script book = ⊥
 
 -- what words are answered with that ask for neither a script nor an input: help and the version
@@ -73,6 +88,14 @@ abbrev pub run_text : Bool → Book → Setup → List ℕ
 run_text false book setup = text_of book.logs
 run_text true book setup = text_of book.logs ++ trail_text book setup
 
+-- the text that a form writes of a book that it leaves of a script: that of the run, or, for `load`, the values that were
+-- read behind the last phase alone
+abbrev pub form_text : Form → Script → Book → List ℕ
+form_text (Run trail) script book = run_text trail book (setup_of script)
+form_text (Serial trail) script book = run_text trail book (setup_of script)
+form_text (Load num) script book = load_text script book.logs
+form_text _ script book = []
+
 -- the line for an input that is no script: the number of the first line at fault, and the cause
 abbrev pub refusal_text : ℕ → Cause → List ℕ
 refusal_text line cause = codes "refused line " ++ decimal line ++ codes " " ++ cause_text cause ++ codes "\n"
@@ -85,11 +108,11 @@ empty_book = record { n = 1; k = 1; trails = []; logs = [] }
 abbrev pub IsSomeScript : List ℕ → Type 0
 IsSomeScript bytes = (script : Script) × (script_read bytes ≡ Ok script)
 
--- all that a source had left, as far as it tells that, are bytes that are a script, and the book is one
--- that the form leaves of this script, and causal
+-- the bytes that the form plays are a script, and the book is one that the form leaves of this script, and causal; where
+-- the script is read, the source had this left
 pub record IsCausalRun (form : Form) (left : Option (List ℕ)) (book : Book) : Type 0 where
   pub bytes : List ℕ
-  pub input : IfSome left (λ all. all ≡ bytes)
+  pub input : IsInput form left bytes
   pub script : Script
   pub spelled : script_read bytes ≡ Ok script
   pub run : IsBookOf form script book
@@ -104,13 +127,14 @@ pub record IsRefusedAt (left : Option (List ℕ)) (line : ℕ) (cause : Cause) :
 
 -- ---- what is owed: a status, a text and a book
 
--- what is owed for a script: status 0, the book of a run of it, and the text of this run
+-- what is owed for a script: status 0, the book of a run of it, and the text that the form writes of this book
 pub record IsPlayed (given : Given) (owed : Owed) : Type 0 where
   pub asked : Form
+  pub plays : IsPlay asked
   pub form : given.words ≡ spelled asked
   pub status : owed.status ≡ 0
   pub run : IsCausalRun asked given.left owed.book
-  pub text : owed.text.items ≡ run_text (has_trails asked) owed.book (setup_of run.script)
+  pub text : owed.text.items ≡ form_text asked run.script owed.book
   pub sound : owed.fault ≡ None
 
 -- what is owed for a number: status 0, and the script that is made of it
@@ -140,7 +164,7 @@ pub data IsDone (given : Given) (owed : Owed) : Type 0 where
 
 -- what is owed for an input that is no script: status 3, and the line that names the line at fault and the cause
 pub record IsRefusal (given : Given) (owed : Owed) : Type 0 where
-  pub form : Plays given.words
+  pub form : Reads given.words
   pub status : owed.status ≡ 3
   pub line : ℕ
   pub cause : Cause
@@ -186,9 +210,9 @@ pub record WroteFront (given : Given) (book : Book) (taken : Option (List ℕ)) 
   pub same_book : book ≡ owed.book
   pub front : TookFront owed.text.items given.taken taken
 
--- a script was to be played, the sink took nothing, and there is no run
+-- a script was to be read, the sink took nothing, and there is no run
 pub record WroteNothing (given : Given) (ended : Ended) (taken : Option (List ℕ)) : Type 0 where
-  pub form : Plays given.words
+  pub form : Reads given.words
   pub nothing : taken ≡ given.taken
   pub book : ended.book ≡ empty_book
 
@@ -197,9 +221,9 @@ pub record WroteShort (given : Given) (ended : Ended) (taken : Option (List ℕ)
   pub short : (taken ≡ given.taken) ⊎ ((book : Book) × WroteFront given book taken)
   pub book : ended.book ≡ empty_book
 
--- what a form wants of the source: that it tells that it has a script left, where one is played
+-- what a form wants of the source: that it tells that it has a script left, where one is read
 abbrev pub IsServed : Form → Option (List ℕ) → Type 0
-IsServed form left = IsPlay form → IsSomeAnd left IsSomeScript
+IsServed form left = IsRead form → IsSomeAnd left IsSomeScript
 
 -- the words have a form, and the source has what this form wants
 pub record IsAnswerable (given : Given) : Type 0 where

@@ -1,14 +1,18 @@
 // From an input to a status, a text and a book.
-ghost use Rattle.std.specs.Prelude.{◌≡◌, Some, None, IfOk};
+ghost use Rattle.std.specs.Prelude.{◌≡◌, ℕ, List, Option, Some, None, IfOk};
+ghost use Rattle.command_line.specs.Forms.{IsForm};
+ghost use Rattle.command_line.specs.declared.form.Form.TheVariants.{Load};
 ghost use Rattle.run_book.specs.Fit.{FitsWith};
 ghost use Rattle.run_book.specs.Setups.{Setup, setup_of};
 ghost use Rattle.script_text.specs.Scripts.{IsInRange};
-ghost use Rattle.top_call.specs.Runs.{IsBookOf, IsOwed, IsPlay, empty_book, given_form, has_trails, refusal_text, run_text};
+ghost use Rattle.top_call.specs.Runs.{IsBookOf, IsOwed, IsPlay, IsRead, empty_book, form_text, given_form, refusal_text, run_text};
 
 use crate::refusal::refusal_line;
 use command_line::Form;
 use ids_core::NoMemory;
 use io_edge::Gate;
+use load_maker::{law_made_script, script_of};
+use load_text::load_text;
 use print_text::text_of;
 use run_book::Book;
 use run_progress::Progress;
@@ -79,13 +83,16 @@ fn text_of_run(alloc: Global, book: &Book, trail: bool) -> Result<Vec<u8>, NoMem
     Ok(text)
 }
 
-// Whether a form asks for the trails.
-fn asks_for_trails(form: Form) -> bool
-    ensures { result ≡ has_trails form }
+// The text that a form writes of the book that it left of a script.
+fn text_by(alloc: Global, form: Form, script: &Script, book: &Book) -> Result<Vec<u8>, NoMemory>
+    requires play { IsPlay form }
+    requires fits { FitsWith book.now (setup_of script.now) }
+    ensures { IfOk result (λ text. text.items ≡ form_text form script.now book.now) }
 {
     match form {
-        Form::Run { trail } | Form::Serial { trail } => trail,
-        _ => false,
+        Form::Run { trail } | Form::Serial { trail } => text_of_run(alloc, book, trail),
+        Form::Load { .. } => load_text(alloc, script, book.logs.as_slice()),
+        _ => unreachable!(),
     }
 }
 
@@ -102,13 +109,13 @@ fn book_of<R: Threads + Wait + Sync, G: Gate + Progress>(
     ensures { IfOk result (IsBookOf form script.now) }
 {
     match form {
-        Form::Run { .. } => run(rt, alloc, gate, script),
+        Form::Run { .. } | Form::Load { .. } => run(rt, alloc, gate, script),
         Form::Serial { .. } => serial_with(alloc, script, gate),
         _ => unreachable!(),
     }
 }
 
-// What is owed for a script: it is played as the form says, and its text is that of the run.
+// What is owed for a script: it is played as the form says, and so is the text.
 #[tactic(auto, using(crate::proofs::Owing::book_fits))]
 fn script_run<R: Threads + Wait + Sync, G: Gate + Progress>(
     rt: &R,
@@ -121,11 +128,11 @@ fn script_run<R: Threads + Wait + Sync, G: Gate + Progress>(
     requires range { IsInRange script.now }
     ensures status { IfOk result (λ owed. owed.status ≡ 0) }
     ensures run { IfOk result (λ owed. IsBookOf form script.now owed.book) }
-    ensures text { IfOk result (λ owed. owed.text.items ≡ run_text (has_trails form) owed.book (setup_of script.now)) }
+    ensures text { IfOk result (λ owed. owed.text.items ≡ form_text form script.now owed.book) }
     ensures sound { IfOk result (λ owed. owed.fault ≡ None) }
 {
     let book = book_of(rt, alloc, gate, form, script)?;
-    let text = text_of_run(alloc, &book, asks_for_trails(form))?;
+    let text = text_by(alloc, form, script, &book)?;
     Ok(Owed {
         status: 0,
         text,
@@ -134,7 +141,8 @@ fn script_run<R: Threads + Wait + Sync, G: Gate + Progress>(
     })
 }
 
-/// What is owed for an input: a script is played, and other bytes are refused.
+/// What is owed for an input that a form reads: a script is played, and other bytes are refused.
+#[tactic(auto, using(crate::proofs::Owing::read_plays))]
 pub fn owed_for<R: Threads + Wait + Sync, G: Gate + Progress>(
     rt: &R,
     alloc: Global,
@@ -142,7 +150,7 @@ pub fn owed_for<R: Threads + Wait + Sync, G: Gate + Progress>(
     form: Form,
     bytes: &[u8],
 ) -> Result<Owed, NoMemory>
-    requires { IsPlay form }
+    requires { IsRead form }
     ensures { IfOk result (IsOwed (given_form form (Some bytes.now))) }
 {
     match parse(alloc, bytes) {
@@ -154,6 +162,28 @@ pub fn owed_for<R: Threads + Wait + Sync, G: Gate + Progress>(
             let owed = refusal(alloc, line, cause)?;
             Ok(owed)
         }
+        Err(ScriptFault::NoMemory) => Err(NoMemory),
+    }
+}
+
+/// What is owed for a number by `load`: the script that is made of it is played with threads.
+pub fn loaded<R: Threads + Wait + Sync, G: Gate + Progress>(
+    rt: &R,
+    alloc: Global,
+    gate: &G,
+    num: u32,
+) -> Result<Owed, NoMemory>
+    requires { IsForm (Load num) }
+    ensures { IfOk result (λ owed. (left : Option (List ℕ)) → IsOwed (given_form (Load num) left) owed) }
+{
+    law_made_script();
+    let bytes = script_of(alloc, num)?;
+    match parse(alloc, &bytes) {
+        Ok(script) => {
+            let owed = script_run(rt, alloc, gate, Form::Load { num }, &script)?;
+            Ok(owed)
+        }
+        Err(ScriptFault::Refused { .. }) => unreachable!(),
         Err(ScriptFault::NoMemory) => Err(NoMemory),
     }
 }
