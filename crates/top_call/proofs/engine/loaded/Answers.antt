@@ -5,5 +5,5 @@ use Rattle.top_call.specs.Runs.{Done, Played}
 use Rattle.top_call.proofs.Owing.{run_plays}
 use Rattle.top_call.proofs.engine.loaded.Goals as goal
 
-pub returns-in_ok-owed-in-Ok : goal.returns-in_ok-owed-in-Ok
-returns-in_ok-owed-in-Ok g c left = Done (Played (run_plays (Load c.args.num) left c.in_ok-bytes.bytes.items c.in-Ok.script c.in_ok-owed-in-Ok.owed c.requires c.in_ok-bytes.ensures (ap script_read (sym c.deref.ensures.value) ∙ sym (c.in-Ok.ensures.exact (λ bad. cc))) c.in_ok-owed-in-Ok.ensures.status c.in_ok-owed-in-Ok.ensures.run c.in_ok-owed-in-Ok.ensures.text c.in_ok-owed-in-Ok.ensures.sound))
+pub returns-in-Ok : goal.returns-in-Ok
+returns-in-Ok g c left = Done (Played (run_plays (Load c.args.num) left c.in_ok-bytes.bytes.items c.in-Ok.script c.in_ok-owed-in-Ok.owed c.requires c.in_ok-bytes.ensures (ap script_read (sym c.deref.ensures.value) ∙ sym (c.in-Ok.ensures.exact (λ bad. cc))) c.in_ok-owed-in-Ok.ensures.status c.in_ok-owed-in-Ok.ensures.run c.in_ok-owed-in-Ok.ensures.text c.in_ok-owed-in-Ok.ensures.sound))
