@@ -1,6 +1,1 @@
-pub mod Growing
-pub mod Rounds
-pub mod Turns
-pub mod Passing
-pub mod Seating
 pub mod Cutting

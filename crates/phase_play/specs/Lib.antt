@@ -1,5 +1,1 @@
-pub mod Playing
-pub mod Scenes
-pub mod Workers
-pub mod Clients
 pub mod Casts

@@ -1,8 +1,8 @@
 // Clients in blocks, one for each thread.
 ghost use Rattle.std.specs.Prelude.{◌≡◌, ◌≤◌, flat_map, IfOk};
 
-use crate::clients::Player;
 use ids_core::NoMemory;
+use phase_actors::Player;
 use std::alloc::Global;
 
 /// Cuts clients into so many blocks at most that are not empty, in order.

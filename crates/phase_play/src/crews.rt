@@ -1,17 +1,16 @@
 // The workers of a centre in a phase, each in a thread of its own.
 ghost use Rattle.std.specs.Prelude.{IfOk};
 ghost use Rattle.script_text.specs.Steps.{IsCount};
-ghost use Rattle.phase_play.specs.Scenes.{IsScene};
-ghost use Rattle.phase_play.specs.Casts.{IsCallerOf, IsSenderOf, HasSent, IsReceiverOf, HasReceived, HasReported, HasPruned, IsCrewOf, HasCrewPlayed};
+ghost use Rattle.phase_actors.specs.Scenes.{IsScene};
+ghost use Rattle.phase_actors.specs.Actors.{IsCallerOf, IsSenderOf, HasSent, IsReceiverOf, HasReceived, HasReported, HasPruned};
+ghost use Rattle.phase_play.specs.Casts.{IsCrewOf, HasCrewPlayed};
 
-use crate::callers::Caller;
-use crate::pace::Pace;
-use crate::receivers::{ReceiverEnd, receive_through};
-use crate::reporters::{prune_through, report_through};
-use crate::scene::Scene;
-use crate::senders::{SenderEnd, send_through};
 use ids_core::NoMemory;
 use io_edge::Gate;
+use phase_actors::{
+    Caller, Pace, ReceiverEnd, Scene, SenderEnd, prune_through, receive_through, report_through,
+    send_through,
+};
 use std::sync::Wait;
 use std::thread::{Threads, join};
 

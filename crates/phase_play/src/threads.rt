@@ -1,18 +1,15 @@
 // All actors of a phase in threads.
 ghost use Rattle.std.specs.Prelude.{◌≡◌, ◌≤◌, map, Ok, All, IfOk};
 ghost use Rattle.std.specs.List.{AllZip};
-ghost use Rattle.phase_play.specs.Scenes.{IsScene};
-ghost use Rattle.phase_play.specs.Casts.{IsCallerOf, HasOperated, IsPlayerOf, HasTakenSteps, IsCrewOf, HasCrewPlayed, IsCast, HaveAllPlayed};
+ghost use Rattle.phase_actors.specs.Scenes.{IsScene};
+ghost use Rattle.phase_actors.specs.Actors.{IsCallerOf, HasOperated, IsPlayerOf, HasTakenSteps};
+ghost use Rattle.phase_play.specs.Casts.{IsCrewOf, HasCrewPlayed, IsCast, HaveAllPlayed};
 
 use crate::blocks::{cut, join_blocks};
-use crate::callers::Caller;
-use crate::clients::{Player, play_clients};
 use crate::crews::{Crew, play_crew};
-use crate::operators::operate_through;
-use crate::pace::Pace;
-use crate::scene::Scene;
 use ids_core::NoMemory;
 use io_edge::Gate;
+use phase_actors::{Caller, Pace, Player, Scene, operate_through, play_clients};
 use std::alloc::Global;
 use std::sync::Wait;
 use std::thread::{Threads, join, map_vec};

@@ -39,14 +39,15 @@ use Rattle.run_table.specs.declared.table.Table.{Table}
 use Rattle.run_table.specs.Dealing.{IsOf, IsDealt}
 use Rattle.run_sections.specs.Sections.{actors_of}
 use Rattle.run_sections.proofs.Actors.{carrier_acts, client_acts}
-use Rattle.phase_play.specs.declared.callers.Caller.{Caller}
+use Rattle.phase_actors.specs.declared.callers.Caller.{Caller}
 use Rattle.phase_play.specs.declared.crews.Crew.{Crew}
-use Rattle.phase_play.specs.declared.clients.Player.{Player}
-use Rattle.phase_play.specs.declared.scene.Scene.{Scene}
+use Rattle.phase_actors.specs.declared.clients.Player.{Player}
+use Rattle.phase_actors.specs.declared.scene.Scene.{Scene}
 use Rattle.phase_play.specs.declared.threads.Cast.{Cast}
-use Rattle.phase_play.specs.Scenes.{IsScene}
-use Rattle.phase_play.specs.Playing.{seen_by}
-use Rattle.phase_play.specs.Casts.{IsCallerOf, IsSenderOf, IsReceiverOf, IsCrewOf, IsPlayerOf, IsCast}
+use Rattle.phase_actors.specs.Scenes.{IsScene}
+use Rattle.phase_actors.specs.Playing.{seen_by}
+use Rattle.phase_actors.specs.Actors.{IsCallerOf, IsSenderOf, IsReceiverOf, IsPlayerOf}
+use Rattle.phase_play.specs.Casts.{IsCrewOf, IsCast}
 use Rattle.thread_run.specs.declared.parts.Parts.{Parts}
 use Rattle.thread_run.specs.Casts.{IsCastOf}
 use Rattle.thread_run.specs.Lending.{AreInlets}

@@ -15,13 +15,14 @@ use Rattle.script_text.specs.declared.rounds.Role.{Role}
 use Rattle.script_text.specs.declared.rounds.Role.TheVariants.{Sender, Receiver, Reporter, Pruner}
 use Rattle.script_text.specs.Rounds.{worker_of}
 use Rattle.run_sections.specs.Orders.{deeds_of}
-use Rattle.phase_play.specs.declared.callers.Caller.{Caller}
-use Rattle.phase_play.specs.declared.receivers.ReceiverEnd.{ReceiverEnd}
+use Rattle.phase_actors.specs.declared.callers.Caller.{Caller}
+use Rattle.phase_actors.specs.declared.receivers.ReceiverEnd.{ReceiverEnd}
 use Rattle.phase_play.specs.declared.crews.Crew.{Crew}
-use Rattle.phase_play.specs.declared.clients.Player.{Player}
-use Rattle.phase_play.specs.declared.scene.Scene.{Scene}
-use Rattle.phase_play.specs.Playing.{Acted, seen_by, IsSameCaller}
-use Rattle.phase_play.specs.Casts.{HasSent, HasReceived, HasClosed, HasOperated, HasReported, HasPruned, HasTakenSteps, HasCrewPlayed}
+use Rattle.phase_actors.specs.declared.clients.Player.{Player}
+use Rattle.phase_actors.specs.declared.scene.Scene.{Scene}
+use Rattle.phase_actors.specs.Playing.{Acted, seen_by, IsSameCaller}
+use Rattle.phase_actors.specs.Actors.{HasSent, HasReceived, HasClosed, HasOperated, HasReported, HasPruned, HasTakenSteps}
+use Rattle.phase_play.specs.Casts.{HasCrewPlayed}
 use Rattle.thread_run.specs.Casts.{crew_callers, callers_among, HasCrewClosed}
 use Rattle.thread_run.proofs.Zips.{zip_append, zip_map, zip_flat, zip_then, get_image, get_behind}
 

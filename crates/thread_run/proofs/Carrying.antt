@@ -29,10 +29,10 @@ use Rattle.run_book.proofs.Happenings.WorkerRounds.{others_within}
 use Rattle.run_sections.specs.Orders.{deeds_of, InOrder, Intake, intake, Receipt, takes_some, takes_rest, delivered_of, inlet_then, ReceiverGoes}
 use Rattle.run_sections.specs.Sections.{linked, receipts_in}
 use Rattle.run_sections.proofs.Orders.{order_more}
-use Rattle.phase_play.specs.declared.receivers.ReceiverEnd.{ReceiverEnd}
-use Rattle.phase_play.specs.declared.scene.Scene.{Scene}
-use Rattle.phase_play.specs.Workers.{intakes_of, receiving}
-use Rattle.phase_play.specs.Casts.{HasReceived, HasClosed}
+use Rattle.phase_actors.specs.declared.receivers.ReceiverEnd.{ReceiverEnd}
+use Rattle.phase_actors.specs.declared.scene.Scene.{Scene}
+use Rattle.phase_actors.specs.Workers.{intakes_of, receiving}
+use Rattle.phase_actors.specs.Actors.{HasReceived, HasClosed}
 use Rattle.thread_run.proofs.Zips.{get_image}
 
 -- ---- a receiver's rounds

@@ -9,9 +9,9 @@ use Rattle.std.proofs.lemmas.Grind.{flat_map-append}
 use Rattle.vv_core.specs.Vectors.{centres}
 use Rattle.dc_talk.specs.Logs.{Logged}
 use Rattle.dc_host.specs.HostDoors.{CentrePass}
-use Rattle.phase_play.specs.declared.callers.Caller.{Caller}
+use Rattle.phase_actors.specs.declared.callers.Caller.{Caller}
 use Rattle.phase_play.specs.declared.crews.Crew.{Crew}
-use Rattle.phase_play.specs.declared.clients.Player.{Player}
+use Rattle.phase_actors.specs.declared.clients.Player.{Player}
 use Rattle.thread_run.specs.declared.parts.Parts.{Parts}
 use Rattle.thread_run.specs.declared.casting.Workers.{Workers}
 use Rattle.thread_run.specs.Casts.{crew_callers, callers_among, AreCallersOf, ArePlayersOf, AreCrewsOf, AreActorsOf}

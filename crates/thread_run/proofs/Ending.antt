@@ -21,13 +21,14 @@ use Rattle.script_text.specs.Links.{Inlet}
 use Rattle.script_text.specs.Steps.{IsCount}
 use Rattle.run_table.specs.declared.table.Table.{Table}
 use Rattle.run_sections.specs.Sections.{actors_of}
-use Rattle.phase_play.specs.declared.callers.Caller.{Caller}
+use Rattle.phase_actors.specs.declared.callers.Caller.{Caller}
 use Rattle.phase_play.specs.declared.crews.Crew.{Crew}
-use Rattle.phase_play.specs.declared.clients.Player.{Player}
-use Rattle.phase_play.specs.declared.scene.Scene.{Scene}
+use Rattle.phase_actors.specs.declared.clients.Player.{Player}
+use Rattle.phase_actors.specs.declared.scene.Scene.{Scene}
 use Rattle.phase_play.specs.declared.threads.Cast.{Cast}
-use Rattle.phase_play.specs.Playing.{IsCaller, IsSameCaller}
-use Rattle.phase_play.specs.Casts.{IsSenderOf, IsReceiverOf, IsCrewOf, HasCrewPlayed, HasTakenSteps, HaveAllPlayed}
+use Rattle.phase_actors.specs.Playing.{IsCaller, IsSameCaller}
+use Rattle.phase_actors.specs.Actors.{IsSenderOf, IsReceiverOf, HasTakenSteps}
+use Rattle.phase_play.specs.Casts.{IsCrewOf, HasCrewPlayed, HaveAllPlayed}
 use Rattle.thread_run.proofs.Zips.{get_source, get_image, zip_same}
 use Rattle.thread_run.proofs.Callers.{HasCrewDone}
 use Rattle.thread_run.proofs.Redeeming.{rows_stay, as_many, all_kept}

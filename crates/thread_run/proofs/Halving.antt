@@ -16,14 +16,15 @@ use Rattle.mail_link.specs.Ends.{GiverView}
 use Rattle.client_stub.specs.Playing.{StubView}
 use Rattle.script_text.specs.Steps.{IsCount}
 use Rattle.dc_links.specs.Links.{AreGiverRows, AreGivers, rows_of, row_of}
-use Rattle.phase_play.specs.declared.callers.Caller.{Caller}
-use Rattle.phase_play.specs.declared.receivers.ReceiverEnd.{ReceiverEnd}
+use Rattle.phase_actors.specs.declared.callers.Caller.{Caller}
+use Rattle.phase_actors.specs.declared.receivers.ReceiverEnd.{ReceiverEnd}
 use Rattle.phase_play.specs.declared.crews.Crew.{Crew}
-use Rattle.phase_play.specs.declared.clients.Player.{Player}
-use Rattle.phase_play.specs.declared.scene.Scene.{Scene}
+use Rattle.phase_actors.specs.declared.clients.Player.{Player}
+use Rattle.phase_actors.specs.declared.scene.Scene.{Scene}
 use Rattle.phase_play.specs.declared.threads.Cast.{Cast}
-use Rattle.phase_play.specs.Scenes.{IsScene}
-use Rattle.phase_play.specs.Casts.{IsCrewOf, HasClosed}
+use Rattle.phase_actors.specs.Scenes.{IsScene}
+use Rattle.phase_actors.specs.Actors.{HasClosed}
+use Rattle.phase_play.specs.Casts.{IsCrewOf}
 use Rattle.thread_run.specs.declared.parts.Parts.{Parts}
 use Rattle.thread_run.specs.declared.closing.Half.{Half}
 use Rattle.thread_run.specs.declared.closing.Halves.{Halves}

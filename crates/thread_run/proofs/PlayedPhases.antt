@@ -19,9 +19,9 @@ use Rattle.run_sections.specs.Orders.{deeds_of}
 use Rattle.run_sections.specs.Sections.{PlaysSection, actors_of}
 use Rattle.run_table.specs.declared.table.Table.{Table}
 use Rattle.run_table.specs.Tables.{AreHistories}
-use Rattle.phase_play.specs.declared.callers.Caller.{Caller}
-use Rattle.phase_play.specs.declared.clients.Player.{Player}
-use Rattle.phase_play.specs.declared.scene.Scene.{Scene}
+use Rattle.phase_actors.specs.declared.callers.Caller.{Caller}
+use Rattle.phase_actors.specs.declared.clients.Player.{Player}
+use Rattle.phase_actors.specs.declared.scene.Scene.{Scene}
 use Rattle.thread_run.specs.Tables.{notes_at, between_of, IsTableOf, HasPlayed}
 use Rattle.thread_run.proofs.Joining.{trail_past}
 use Rattle.thread_run.proofs.Zips.{zip_get, drop_front}

@@ -24,12 +24,13 @@ use Rattle.run_table.specs.Dealing.{IsDealt}
 use Rattle.run_table.specs.declared.table.Table.{Table}
 use Rattle.run_table.specs.Tables.{log_at}
 use Rattle.run_sections.specs.Sections.{Left, actors_of}
-use Rattle.phase_play.specs.declared.callers.Caller.{Caller}
+use Rattle.phase_actors.specs.declared.callers.Caller.{Caller}
 use Rattle.phase_play.specs.declared.crews.Crew.{Crew}
-use Rattle.phase_play.specs.declared.clients.Player.{Player}
-use Rattle.phase_play.specs.declared.scene.Scene.{Scene}
+use Rattle.phase_actors.specs.declared.clients.Player.{Player}
+use Rattle.phase_actors.specs.declared.scene.Scene.{Scene}
 use Rattle.phase_play.specs.declared.threads.Cast.{Cast}
-use Rattle.phase_play.specs.Casts.{HasTakenSteps, HaveAllPlayed}
+use Rattle.phase_actors.specs.Actors.{HasTakenSteps}
+use Rattle.phase_play.specs.Casts.{HaveAllPlayed}
 use Rattle.thread_run.specs.declared.parts.Parts.{Parts}
 use Rattle.thread_run.specs.Casts.{callers_among, IsCastOf, HaveParted}
 use Rattle.thread_run.specs.Lending.{AreInlets, HaveInlets}

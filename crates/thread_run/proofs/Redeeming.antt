@@ -35,7 +35,7 @@ use Rattle.run_book.specs.Parts.{exchanged, entries_by}
 use Rattle.run_table.specs.Tables.{AreHistories}
 use Rattle.run_table.proofs.Numbered.{get_below}
 use Rattle.run_sections.specs.Orders.{deeds_of}
-use Rattle.phase_play.specs.declared.callers.Caller.{Caller}
+use Rattle.phase_actors.specs.declared.callers.Caller.{Caller}
 use Rattle.thread_run.proofs.Zips.{zip_get, zip_same, get_source, get_image}
 use Rattle.thread_run.proofs.Callers.{HasActed}
 

@@ -20,10 +20,10 @@ use Rattle.run_table.specs.Tables.{log_at}
 use Rattle.run_sections.specs.Orders.{deeds_of, InOrder, ClientGoes, OperatorGoes, SenderGoes, ReporterGoes, PrunerGoes, ReceiverGoes, intake}
 use Rattle.run_sections.specs.Sections.{rounds_in, receipts_in, linked, mail_left, Receives}
 use Rattle.phase_play.specs.declared.crews.Crew.{Crew}
-use Rattle.phase_play.specs.declared.clients.Player.{Player}
-use Rattle.phase_play.specs.declared.scene.Scene.{Scene}
-use Rattle.phase_play.specs.Clients.{seat_of, seated, come_to}
-use Rattle.phase_play.specs.Workers.{intakes_of, receiving}
+use Rattle.phase_actors.specs.declared.clients.Player.{Player}
+use Rattle.phase_actors.specs.declared.scene.Scene.{Scene}
+use Rattle.phase_actors.specs.Clients.{seat_of, seated, come_to}
+use Rattle.phase_actors.specs.Workers.{intakes_of, receiving}
 use Rattle.thread_run.specs.Tables.{notes_at, come_of, between_of}
 use Rattle.thread_run.proofs.Zips.{get_image}
 use Rattle.thread_run.proofs.Callers.{player_stands}

@@ -9,12 +9,12 @@ use Rattle.dc_host.specs.HostDoors.{CentrePass}
 use Rattle.mail_link.specs.Ends.{GiverView, TakerView}
 use Rattle.script_text.specs.Links.{Inlet}
 use Rattle.client_stub.specs.Playing.{StubView}
-use Rattle.phase_play.specs.declared.callers.Caller.{Caller}
+use Rattle.phase_actors.specs.declared.callers.Caller.{Caller}
 use Rattle.phase_play.specs.declared.crews.Crew.{Crew}
-use Rattle.phase_play.specs.declared.clients.Player.{Player}
-use Rattle.phase_play.specs.declared.scene.Scene.{Scene}
+use Rattle.phase_actors.specs.declared.clients.Player.{Player}
+use Rattle.phase_actors.specs.declared.scene.Scene.{Scene}
 use Rattle.phase_play.specs.declared.threads.Cast.{Cast}
-use Rattle.phase_play.specs.Casts.{HasClosed}
+use Rattle.phase_actors.specs.Actors.{HasClosed}
 use Rattle.thread_run.specs.declared.parts.Parts.{Parts}
 
 -- the workers of a centre, as callers, in order

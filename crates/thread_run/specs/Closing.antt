@@ -4,12 +4,12 @@ use Rattle.std.specs.List.{AllZip}
 use Rattle.tx_core.specs.declared.tx.Record.{Record}
 use Rattle.mail_link.specs.Ends.{GiverView}
 use Rattle.script_text.specs.Steps.{IsCount}
-use Rattle.phase_play.specs.declared.callers.Caller.{Caller}
-use Rattle.phase_play.specs.declared.receivers.ReceiverEnd.{ReceiverEnd}
+use Rattle.phase_actors.specs.declared.callers.Caller.{Caller}
+use Rattle.phase_actors.specs.declared.receivers.ReceiverEnd.{ReceiverEnd}
 use Rattle.phase_play.specs.declared.crews.Crew.{Crew}
-use Rattle.phase_play.specs.declared.clients.Player.{Player}
-use Rattle.phase_play.specs.declared.scene.Scene.{Scene}
-use Rattle.phase_play.specs.Casts.{IsReceiverOf, HasClosed}
+use Rattle.phase_actors.specs.declared.clients.Player.{Player}
+use Rattle.phase_actors.specs.declared.scene.Scene.{Scene}
+use Rattle.phase_actors.specs.Actors.{IsReceiverOf, HasClosed}
 use Rattle.thread_run.specs.declared.parts.Parts.{Parts}
 use Rattle.thread_run.specs.declared.closing.Half.{Half}
 use Rattle.thread_run.specs.declared.closing.Halves.{Halves}

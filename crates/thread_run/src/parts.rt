@@ -9,7 +9,7 @@ use dc_worker::Inlet;
 use host_lock::Pass;
 use ids_core::NoMemory;
 use mail_link::{Giver, Taker};
-use phase_play::Caller;
+use phase_actors::Caller;
 use std::alloc::Global;
 use tx_core::Record;
 

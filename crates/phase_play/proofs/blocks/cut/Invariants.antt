@@ -1,6 +1,6 @@
 use Rattle.std.proofs.Common.{◌≡◌, ◌++◌, flat_map}
 use Rattle.std.specs.Global.{Vec}
-use Rattle.phase_play.specs.declared.clients.Player.{Player}
+use Rattle.phase_actors.specs.declared.clients.Player.{Player}
 use Rattle.phase_play.proofs.blocks.cut.Given as goal
 
 abbrev pub invariant-threads : goal.invariant-threads

@@ -3,8 +3,8 @@ use Rattle.std.specs.Prelude.{All}
 use Rattle.std.specs.List.{AllZip}
 use Rattle.std.specs.Global.{Vec}
 use Rattle.std.proofs.lemmas.Result.{IfOk-weaker}
-use Rattle.phase_play.specs.declared.clients.Player.{Player}
-use Rattle.phase_play.specs.Casts.{IsPlayerOf, HasTakenSteps}
+use Rattle.phase_actors.specs.declared.clients.Player.{Player}
+use Rattle.phase_actors.specs.Actors.{IsPlayerOf, HasTakenSteps}
 use Rattle.phase_play.proofs.Cutting.{in_blocks, block_all, blocks_zip, all_given}
 use Rattle.phase_play.proofs.threads.play_players.Goals as goal
 

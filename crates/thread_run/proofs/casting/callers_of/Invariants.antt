@@ -1,5 +1,5 @@
 use Rattle.std.proofs.Common.{◌≡◌, ◌++◌, map}
-use Rattle.phase_play.specs.declared.callers.Caller.{Caller}
+use Rattle.phase_actors.specs.declared.callers.Caller.{Caller}
 use Rattle.thread_run.proofs.casting.callers_of.Given as goal
 
 abbrev pub invariant-logs : goal.invariant-logs

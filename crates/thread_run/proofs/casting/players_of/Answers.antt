@@ -1,6 +1,6 @@
 use Rattle.std.proofs.Common.{◌+◌, arith}
 use Rattle.std.proofs.lemmas.Grind.{common_steps}
-use Rattle.phase_play.specs.declared.clients.Player.{Player}
+use Rattle.phase_actors.specs.declared.clients.Player.{Player}
 use Rattle.thread_run.proofs.Crews.{numbers_more}
 use Rattle.thread_run.proofs.casting.players_of.Goals as goal
 

@@ -1,6 +1,6 @@
 use Rattle.std.proofs.Common.{◌≡◌, ◌++◌, map, length}
 use Rattle.std.specs.List.{range_with_len}
-use Rattle.phase_play.specs.declared.clients.Player.{Player}
+use Rattle.phase_actors.specs.declared.clients.Player.{Player}
 use Rattle.thread_run.proofs.casting.players_of.Given as goal
 
 abbrev pub invariant-stubs : goal.invariant-stubs

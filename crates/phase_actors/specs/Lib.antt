@@ -1,0 +1,5 @@
+pub mod Playing
+pub mod Scenes
+pub mod Workers
+pub mod Clients
+pub mod Actors
