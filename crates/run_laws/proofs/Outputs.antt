@@ -1,7 +1,12 @@
 -- What is owed for the same words and bytes is the same.
 use Rattle.std.proofs.Common.{◌≡◌, ◌≢◌, inl, inr, ℕ, Bool, true, false, List, ◌++◌, Option, Some, refl, sym, ap, ◌∙◌, subst}
 use Rattle.io_edge.specs.Streams.{puts_behind}
+use Rattle.std.specs.Prelude.{Ok}
 use Rattle.script_text.specs.declared.script.Script.{Script}
+use Rattle.script_text.specs.Scripts.{IsInRange}
+use Rattle.script_reader.specs.declared.fault.Cause.{Cause}
+use Rattle.script_reader.specs.Scripts.{script_read}
+use Rattle.script_reader.proofs.ScriptRanges.{script_in_range}
 use Rattle.run_book.specs.declared.book.Book.{Book}
 use Rattle.world_core.specs.Runs.{IsRunOf}
 use Rattle.command_line.specs.declared.form.Form.{Form}
@@ -12,28 +17,58 @@ use Rattle.load_maker.specs.Made.{made_script}
 use Rattle.print_text.specs.Text.{text_of}
 use Rattle.trail_text.specs.Trails.{trail_text}
 use Rattle.run_book.specs.Setups.{Setup, setup_of}
-use Rattle.top_call.specs.Runs.{IsBookOf, IsDone, IsOwed, IsPlay, IsPlayed, IsRead, IsRefusal, Played, Made, Told, Done, Refused, Misused, Plays, Wrote, form_text, run_text, told_text}
+use Rattle.run_book.specs.Fit.{FitsWith}
+use Rattle.run_book.specs.Scripted.{HasSteps}
+use Rattle.run_sections.specs.Runs.{IsSectionRunOf, HasNoPhase}
+use Rattle.run_sections.proofs.InOneOrder.{has_steps}
+use Rattle.top_call.specs.Runs.{IsBookOf, IsDone, IsOwed, IsPlay, IsPlayed, IsRead, IsRefusal, IsRefusedAt, IsUsage, Played, Made, Told, Done, Refused, Misused, Plays, Wrote, form_text, run_text, told_text}
 use Rattle.top_call.proofs.Owing.{asks, no_question, one_play, play_known, play_of, played_of, plays_by, question_known, read_known, read_of, read_plays}
 use Rattle.std.proofs.lemmas.Option.{none-some}
 use Rattle.top_call.specs.declared.engine.Owed.{Owed}
 use Rattle.top_call.specs.declared.top.Ended.{Ended}
 use Rattle.run_laws.specs.OneBook.{AreOne}
-use Rattle.run_laws.specs.Outputs.{given_bytes, AreAlike, AreFixed, IsFixed, IsWhole, IsWholeRun, PrintAlike}
+use Rattle.run_laws.specs.Outputs.{given_bytes, AreAlike, AreFixed, HaveNoPhase, IsFixed, IsWhole, IsWholeRun, PrintAlike}
 use Rattle.run_forks.proofs.Books.{AreRuns, same_trails}
 use Rattle.run_laws.proofs.Logs.{same_logs, same_texts}
 use Rattle.run_laws.proofs.TrailTexts.{same_trail_texts}
 use Rattle.run_laws.proofs.Scripts.{one_script, script_said, not_refused, one_refusal}
 
--- two books are two runs of a script
-are_runs : (script : Script) (b c : Book) → IsRunOf script b → IsRunOf script c → AreRuns script b c
+-- a book of a script whose steps happened one after another
+record IsInOrder (script : Script) (b : Book) : Type 0 where
+  pub n : b.n ≡ script.n
+  pub k : b.k ≡ script.k
+  pub fits : FitsWith b (setup_of script)
+  pub steps : HasSteps script b
+
+-- so is each of a run on one thread
+run_in_order : (script : Script) (b : Book) → IsRunOf script b → IsInOrder script b
+run_in_order script b run = record { n = run.n; k = run.k; fits = run.fits; steps = run.steps }
+
+-- and each of a run section by section, where there is no phase
+sections_in_order : (script : Script) (b : Book) → IsInRange script → HasNoPhase script → IsSectionRunOf script b → IsInOrder script b
+sections_in_order script b range lines run = record { n = run.n; k = run.k; fits = run.fits; steps = has_steps script b range lines run }
+
+-- two such books are two runs of a script
+are_runs : (script : Script) (b c : Book) → IsInOrder script b → IsInOrder script c → AreRuns script b c
 are_runs script b c one two = record { n = one.n; also_n = two.n; k = one.k; also_k = two.k; one = one.fits; two = two.fits; steps = one.steps; again = two.steps }
 
--- two runs of a script have one book
-pub one_book : (script : Script) (b c : Book) → IsRunOf script b → IsRunOf script c → AreOne b c
-one_book script b c one two =
+-- they are one
+ordered_book : (script : Script) (b c : Book) → IsInOrder script b → IsInOrder script c → AreOne b c
+ordered_book script b c one two =
     let runs = are_runs script b c one two in
     let logs = same_logs script b c runs in
     record { n = one.n ∙ sym two.n; k = one.k ∙ sym two.k; trails = same_trails script b c runs; logs = logs; texts = same_texts b.logs c.logs logs }
+
+-- two runs of a script on one thread have one book
+pub one_book : (script : Script) (b c : Book) → IsRunOf script b → IsRunOf script c → AreOne b c
+one_book script b c one two = ordered_book script b c (run_in_order script b one) (run_in_order script c two)
+
+-- so have two of a script without a phase, one of them section by section, and both
+pub one_either_way : (script : Script) (b c : Book) → IsInRange script → HasNoPhase script → IsSectionRunOf script b → IsRunOf script c → AreOne b c
+one_either_way script b c range lines one two = ordered_book script b c (sections_in_order script b range lines one) (run_in_order script c two)
+
+pub one_by_sections : (script : Script) (b c : Book) → IsInRange script → HasNoPhase script → IsSectionRunOf script b → IsSectionRunOf script c → AreOne b c
+one_by_sections script b c range lines one two = ordered_book script b c (sections_in_order script b range lines one) (sections_in_order script c range lines two)
 
 -- a book is one with itself
 one_self : (b c : Book) → b ≡ c → AreOne b c
@@ -44,49 +79,64 @@ run_texts : (trail : Bool) (b c : Book) (setup : Setup) → text_of b.logs ≡ t
 run_texts true b c setup texts trails = λ i. texts i ++ trails i
 run_texts false b c setup texts trails = texts
 
--- a form whose output follows from its input leaves a run on one thread
-fixed_run : (form : Form) (script : Script) (book : Book) → IsFixed form → IsBookOf form script book → IsRunOf script book
-fixed_run (Run trail) script book fixed run = absurd fixed
-fixed_run (Serial trail) script book fixed run = run
-fixed_run (Load num) script book fixed run = absurd fixed
-fixed_run (Make num) script book fixed run = absurd run
-fixed_run Help script book fixed run = absurd run
-fixed_run Version script book fixed run = absurd run
+-- ---- forms whose output follows from their input
 
--- and the text of that form of two runs of a script
-fixed_text : (form : Form) (script : Script) (b c : Book) → IsFixed form → text_of b.logs ≡ text_of c.logs → trail_text b (setup_of script) ≡ trail_text c (setup_of script) → form_text form script b ≡ form_text form script c
-fixed_text (Run trail) script b c fixed texts trails = absurd fixed
-fixed_text (Serial trail) script b c fixed texts trails = run_texts trail b c (setup_of script) texts trails
-fixed_text (Load num) script b c fixed texts trails = absurd fixed
-fixed_text (Make num) script b c fixed texts trails = refl
-fixed_text Help script b c fixed texts trails = refl
-fixed_text Version script b c fixed texts trails = refl
+module _ (bytes : List ℕ) where
+  -- such a form leaves a book whose steps happened one after another
+  fixed_run : (form : Form) (script : Script) (book : Book) → IsFixed bytes form → script_read bytes ≡ Ok script → IsBookOf form script book → IsInOrder script book
+  fixed_run (Run trail) script book fixed read run = sections_in_order script book (script_in_range bytes script (sym read)) (fixed script read) run
+  fixed_run (Serial trail) script book fixed read run = run_in_order script book run
+  fixed_run (Load num) script book fixed read run = absurd fixed
+  fixed_run (Make num) script book fixed read run = absurd run
+  fixed_run Help script book fixed read run = absurd run
+  fixed_run Version script book fixed read run = absurd run
 
--- where it plays a script, it reads it
-fixed_read : (form : Form) → IsFixed form → IsPlay form → IsRead form
-fixed_read (Run trail) fixed plays = tt
-fixed_read (Serial trail) fixed plays = tt
-fixed_read (Load num) fixed plays = absurd fixed
-fixed_read (Make num) fixed plays = plays
-fixed_read Help fixed plays = plays
-fixed_read Version fixed plays = plays
+  -- and the text of that form of two runs of a script
+  fixed_text : (form : Form) (script : Script) (b c : Book) → IsFixed bytes form → text_of b.logs ≡ text_of c.logs → trail_text b (setup_of script) ≡ trail_text c (setup_of script) → form_text form script b ≡ form_text form script c
+  fixed_text (Run trail) script b c fixed texts trails = run_texts trail b c (setup_of script) texts trails
+  fixed_text (Serial trail) script b c fixed texts trails = run_texts trail b c (setup_of script) texts trails
+  fixed_text (Load num) script b c fixed texts trails = absurd fixed
+  fixed_text (Make num) script b c fixed texts trails = refl
+  fixed_text Help script b c fixed texts trails = refl
+  fixed_text Version script b c fixed texts trails = refl
+
+  -- where it plays a script, it reads it
+  fixed_read : (form : Form) → IsFixed bytes form → IsPlay form → IsRead form
+  fixed_read (Run trail) fixed plays = tt
+  fixed_read (Serial trail) fixed plays = tt
+  fixed_read (Load num) fixed plays = absurd fixed
+  fixed_read (Make num) fixed plays = plays
+  fixed_read Help fixed plays = plays
+  fixed_read Version fixed plays = plays
+
+  module _ (words others : List (List ℕ)) (taken again : Option (List ℕ)) (one two : Owed) where
+    -- two runs that the same bytes ask for, by forms that write the same
+    played_alike : (p : IsPlayed (given_bytes words bytes taken) one) (q : IsPlayed (given_bytes others bytes again) two) → IsFixed bytes p.asked → IsFixed bytes q.asked → ((script : Script) (book : Book) → form_text p.asked script book ≡ form_text q.asked script book) → AreAlike one two
+    played_alike p q fixed also same =
+        let script : Script = p.run.script in
+        let said : script_read bytes ≡ Ok script = script_said bytes p.asked one.book (fixed_read p.asked fixed p.plays) p.run in
+        let told : script_read bytes ≡ Ok q.run.script = script_said bytes q.asked two.book (fixed_read q.asked also q.plays) q.run in
+        let read : script ≡ q.run.script = one_script bytes script q.run.script said told in
+        let mine : IsInOrder script one.book = fixed_run p.asked script one.book fixed said p.run.run in
+        let ran : IsInOrder script two.book = subst (λ script. IsInOrder script two.book) (sym read) (fixed_run q.asked q.run.script two.book also told q.run.run) in
+        let book = ordered_book script one.book two.book mine ran in
+        let trails = same_trail_texts script one.book two.book (are_runs script one.book two.book mine ran) in
+        let text : form_text p.asked script one.book ≡ form_text q.asked q.run.script two.book =
+        fixed_text p.asked script one.book two.book fixed book.texts trails ∙ (same script two.book ∙ ap (λ script. form_text q.asked script two.book) read) in
+        record { status = p.status ∙ sym q.status; text = p.text ∙ (text ∙ sym q.text); book = book }
+
+    -- bytes that are refused, are so by the same line
+    refused_alike : IsRefusal (given_bytes words bytes taken) one → IsRefusal (given_bytes others bytes again) two → AreAlike one two
+    refused_alike p q = record { status = p.status ∙ sym q.status; text = p.text ∙ (one_refusal bytes p.line q.line p.cause q.cause p.refused q.refused ∙ sym q.text); book = one_self one.book two.book (p.book ∙ sym q.book) }
 
 -- two runs that the same words and bytes ask for
-one_run : (words : List (List ℕ)) (bytes : List ℕ) (taken again : Option (List ℕ)) (one two : Owed) → AreFixed words → IsPlayed (given_bytes words bytes taken) one → IsPlayed (given_bytes words bytes again) two → AreAlike one two
+one_run : (words : List (List ℕ)) (bytes : List ℕ) (taken again : Option (List ℕ)) (one two : Owed) → AreFixed words bytes → IsPlayed (given_bytes words bytes taken) one → IsPlayed (given_bytes words bytes again) two → AreAlike one two
 one_run words bytes taken again one two fixed p q =
-    let script : Script = p.run.script in
-    let read : script ≡ q.run.script = one_script bytes script q.run.script (script_said bytes p.asked one.book (fixed_read p.asked (fixed p.asked p.form) p.plays) p.run) (script_said bytes q.asked two.book (fixed_read q.asked (fixed q.asked q.form) q.plays) q.run) in
-    let mine : IsRunOf script one.book = fixed_run p.asked script one.book (fixed p.asked p.form) p.run.run in
-    let ran : IsRunOf script two.book = subst (λ script. IsRunOf script two.book) (sym read) (fixed_run q.asked q.run.script two.book (fixed q.asked q.form) q.run.run) in
-    let book = one_book script one.book two.book mine ran in
-    let trails = same_trail_texts script one.book two.book (are_runs script one.book two.book mine ran) in
     let form : p.asked ≡ q.asked = one_play p.asked q.asked p.plays q.plays (sym p.form ∙ q.form) in
-    let text : form_text p.asked script one.book ≡ form_text q.asked q.run.script two.book =
-    fixed_text p.asked script one.book two.book (fixed p.asked p.form) book.texts trails ∙ λ i. form_text (form i) (read i) two.book in
-    record { status = p.status ∙ sym q.status; text = p.text ∙ (text ∙ sym q.text); book = book }
+    played_alike bytes words words taken again one two p q (fixed p.asked p.form) (fixed q.asked q.form) (λ script book. ap (λ form. form_text form script book) form)
 
 -- what is done for the same words and bytes
-one_done : (words : List (List ℕ)) (bytes : List ℕ) (taken again : Option (List ℕ)) (one two : Owed) → AreFixed words → IsDone (given_bytes words bytes taken) one → IsDone (given_bytes words bytes again) two → AreAlike one two
+one_done : (words : List (List ℕ)) (bytes : List ℕ) (taken again : Option (List ℕ)) (one two : Owed) → AreFixed words bytes → IsDone (given_bytes words bytes taken) one → IsDone (given_bytes words bytes again) two → AreAlike one two
 one_done words bytes taken again one two fixed (Played p) (Played q) = one_run words bytes taken again one two fixed p q
 one_done words bytes taken again one two fixed (Played p) (Made n) = absurd (play_of words (Make n.num) n.known n.form (asks (given_bytes words bytes taken) one p))
 one_done words bytes taken again one two fixed (Played p) (Told t) = absurd (no_question t.question two.text.items t.text (play_of words t.question (question_known t.question two.text.items t.text) t.form (asks (given_bytes words bytes taken) one p)))
@@ -121,11 +171,11 @@ no_refusal words bytes taken again one two done r =
     not_refused bytes p.asked one.book r.line r.cause (read_of words p.asked (play_known p.asked p.plays) p.form r.form) p.run r.refused
 
 -- what is owed for the same words and bytes
-pub one_output : (words : List (List ℕ)) (bytes : List ℕ) (taken again : Option (List ℕ)) (one two : Owed) → AreFixed words → IsOwed (given_bytes words bytes taken) one → IsOwed (given_bytes words bytes again) two → AreAlike one two
+pub one_output : (words : List (List ℕ)) (bytes : List ℕ) (taken again : Option (List ℕ)) (one two : Owed) → AreFixed words bytes → IsOwed (given_bytes words bytes taken) one → IsOwed (given_bytes words bytes again) two → AreAlike one two
 one_output words bytes taken again one two fixed (Done d) (Done e) = one_done words bytes taken again one two fixed d e
 one_output words bytes taken again one two fixed (Done d) (Refused q) = absurd (no_refusal words bytes taken again one two d q)
 one_output words bytes taken again one two fixed (Refused p) (Done e) = absurd (no_refusal words bytes again taken two one e p)
-one_output words bytes taken again one two fixed (Refused p) (Refused q) = record { status = p.status ∙ sym q.status; text = p.text ∙ (one_refusal bytes p.line q.line p.cause q.cause p.refused q.refused ∙ sym q.text); book = one_self one.book two.book (p.book ∙ sym q.book) }
+one_output words bytes taken again one two fixed (Refused p) (Refused q) = refused_alike bytes words words taken again one two p q
 one_output words bytes taken again one two fixed (Misused p) (Misused q) = record { status = p.status ∙ sym q.status; text = p.text ∙ sym q.text; book = one_self one.book two.book (p.book ∙ sym q.book) }
 one_output words bytes taken again one two fixed (Done d) (Misused q) = absurd (no_usage words bytes taken one d q.form)
 one_output words bytes taken again one two fixed (Refused p) (Misused q) = absurd (q.form p.form.asked (read_known p.form.asked p.form.reads) p.form.form)
@@ -141,12 +191,12 @@ whole_text words bytes taken now ended run = go run.status
     go (inr (inl status)) = let w = run.misused status in record { owed = w.owed; kind = Misused w.kind; status = w.status; book = w.book; fault = w.fault; all = w.all }
     go (inr (inr status)) = let w = run.refused status in record { owed = w.owed; kind = Refused w.kind; status = w.status; book = w.book; fault = w.fault; all = w.all }
 
--- runs in which nothing failed, by the same words, with the same bytes as their input
-pub one_print : (words : List (List ℕ)) (bytes : List ℕ) (taken again now later : Option (List ℕ)) (one two : Ended) → AreFixed words → IsWholeRun words bytes taken one now → IsWholeRun words bytes again two later → PrintAlike one two taken again now later
-one_print words bytes taken again now later one two fixed first other =
+-- runs in which nothing failed, where what they owe is the same
+print_alike : (words others : List (List ℕ)) (bytes : List ℕ) (taken again now later : Option (List ℕ)) (one two : Ended) → ((owed also : Owed) → IsOwed (given_bytes words bytes taken) owed → IsOwed (given_bytes others bytes again) also → AreAlike owed also) → IsWholeRun words bytes taken one now → IsWholeRun others bytes again two later → PrintAlike one two taken again now later
+print_alike words others bytes taken again now later one two same first other =
     let left = whole_text words bytes taken now one first in
-    let right = whole_text words bytes again later two other in
-    let alike = one_output words bytes taken again left.owed right.owed fixed left.kind right.kind in
+    let right = whole_text others bytes again later two other in
+    let alike = same left.owed right.owed left.kind right.kind in
     record {
       status = left.status ∙ (alike.status ∙ sym right.status);
       book = subst (λ b. AreOne b two.book) (sym left.book) (subst (λ c. AreOne left.owed.book c) (sym right.book) alike.book);
@@ -154,3 +204,44 @@ one_print words bytes taken again now later one two fixed first other =
       first = left.all;
       other = right.all ∙ ap (λ text. puts_behind text again) (sym alike.text);
     }
+
+-- by the same words, with the same bytes as their input
+pub one_print : (words : List (List ℕ)) (bytes : List ℕ) (taken again now later : Option (List ℕ)) (one two : Ended) → AreFixed words bytes → IsWholeRun words bytes taken one now → IsWholeRun words bytes again two later → PrintAlike one two taken again now later
+one_print words bytes taken again now later one two fixed first other = print_alike words words bytes taken again now later one two (λ owed also. one_output words bytes taken again owed also fixed) first other
+
+-- ---- `run` beside `serial`
+
+module _ (form : Form) (read : IsRead form) (bytes : List ℕ) (taken : Option (List ℕ)) (one : Owed) where
+  -- what was done for a form that reads a script is a run by this form
+  done_run : IsDone (given_bytes (spelled form) bytes taken) one → (p : IsPlayed (given_bytes (spelled form) bytes taken) one) × (p.asked ≡ form)
+  done_run done =
+      let p = played_of (given_bytes (spelled form) bytes taken) one (plays_by (spelled form) form refl (read_plays form read)) done in
+      (p, one_play p.asked form p.plays (read_plays form read) (sym p.form))
+
+  -- its words are not misused
+  not_misused : IsUsage (given_bytes (spelled form) bytes taken) one → ⊥
+  not_misused m = m.form form (read_known form read) refl
+
+  -- bytes that are refused were not played
+  not_played : (line : ℕ) (cause : Cause) → IsRefusedAt (Some bytes) line cause → IsDone (given_bytes (spelled form) bytes taken) one → ⊥
+  not_played line cause refused done =
+      let d = done_run done in
+      not_refused bytes d.0.asked one.book line cause (subst IsRead (sym d.1) read) d.0.run refused
+
+-- where no phase is played, the same is owed
+pub run_as_serial : (trail : Bool) (bytes : List ℕ) (taken again : Option (List ℕ)) (one two : Owed) → HaveNoPhase bytes → IsOwed (given_bytes (spelled (Run trail)) bytes taken) one → IsOwed (given_bytes (spelled (Serial trail)) bytes again) two → AreAlike one two
+run_as_serial trail bytes taken again one two lines (Done d) (Done e) =
+    let p = done_run (Run trail) tt bytes taken one d in
+    let q = done_run (Serial trail) tt bytes again two e in
+    played_alike bytes (spelled (Run trail)) (spelled (Serial trail)) taken again one two p.0 q.0 (subst (IsFixed bytes) (sym p.1) lines) (subst (IsFixed bytes) (sym q.1) tt)
+    (λ script book. ap (λ form. form_text form script book) p.1 ∙ sym (ap (λ form. form_text form script book) q.1))
+run_as_serial trail bytes taken again one two lines (Done d) (Refused q) = absurd (not_played (Run trail) tt bytes taken one q.line q.cause q.refused d)
+run_as_serial trail bytes taken again one two lines (Refused p) (Done e) = absurd (not_played (Serial trail) tt bytes again two p.line p.cause p.refused e)
+run_as_serial trail bytes taken again one two lines (Refused p) (Refused q) = refused_alike bytes (spelled (Run trail)) (spelled (Serial trail)) taken again one two p q
+run_as_serial trail bytes taken again one two lines (Misused p) two_owed = absurd (not_misused (Run trail) tt bytes taken one p)
+run_as_serial trail bytes taken again one two lines (Done d) (Misused q) = absurd (not_misused (Serial trail) tt bytes again two q)
+run_as_serial trail bytes taken again one two lines (Refused p) (Misused q) = absurd (not_misused (Serial trail) tt bytes again two q)
+
+-- and printed
+pub print_as_serial : (trail : Bool) (bytes : List ℕ) (taken again now later : Option (List ℕ)) (one two : Ended) → HaveNoPhase bytes → IsWholeRun (spelled (Run trail)) bytes taken one now → IsWholeRun (spelled (Serial trail)) bytes again two later → PrintAlike one two taken again now later
+print_as_serial trail bytes taken again now later one two lines first other = print_alike (spelled (Run trail)) (spelled (Serial trail)) bytes taken again now later one two (λ owed also. run_as_serial trail bytes taken again owed also lines) first other

@@ -1,9 +1,12 @@
 -- When what two runs of the program owe is the same.
-use Rattle.std.specs.Prelude.{◌≡◌, ◌⊎◌, ⊤, ℕ, List, Option, Some}
+use Rattle.std.specs.Prelude.{◌≡◌, ◌⊎◌, ⊤, ℕ, List, Option, Some, Ok}
 use Rattle.command_line.specs.declared.form.Form.{Form}
 use Rattle.command_line.specs.declared.form.Form.TheVariants.{Run, Load}
 use Rattle.command_line.specs.Forms.{spelled}
 use Rattle.io_edge.specs.Streams.{puts_behind}
+use Rattle.script_text.specs.declared.script.Script.{Script}
+use Rattle.script_reader.specs.Scripts.{script_read}
+use Rattle.run_sections.specs.Runs.{HasNoPhase}
 use Rattle.top_call.specs.Runs.{Given, IsDone, IsRefusal, IsUsage, Wrote}
 use Rattle.top_call.specs.declared.engine.Owed.{Owed}
 use Rattle.top_call.specs.declared.top.Ended.{Ended}
@@ -13,15 +16,20 @@ use Rattle.run_laws.specs.OneBook.{AreOne}
 abbrev pub given_bytes : List (List ℕ) → List ℕ → Option (List ℕ) → Given
 given_bytes words bytes taken = record { words = words; left = Some bytes; taken = taken }
 
--- a form whose output follows from its input: each but `run` and `load`, whose threads have no fixed order
-abbrev pub IsFixed : Form → Type 0
-IsFixed (Run trail) = ⊥
-IsFixed (Load num) = ⊥
-IsFixed form = ⊤
+-- the bytes are no script with a phase
+abbrev pub HaveNoPhase : List ℕ → Type 0
+HaveNoPhase bytes = (script : Script) → script_read bytes ≡ Ok script → HasNoPhase script
+
+-- a form whose output follows from these bytes as its input: `load` never, and `run` where no phase is played, since
+-- threads have no fixed order; each other form
+abbrev pub IsFixed : List ℕ → Form → Type 0
+IsFixed bytes (Run trail) = HaveNoPhase bytes
+IsFixed bytes (Load num) = ⊥
+IsFixed bytes form = ⊤
 
 -- words that spell no other form
-abbrev pub AreFixed : List (List ℕ) → Type 0
-AreFixed words = (form : Form) → words ≡ spelled form → IsFixed form
+abbrev pub AreFixed : List (List ℕ) → List ℕ → Type 0
+AreFixed words bytes = (form : Form) → words ≡ spelled form → IsFixed bytes form
 
 -- the same status, the same text and books that are one
 pub record AreAlike (one two : Owed) : Type 0 where

@@ -1,13 +1,17 @@
 // The laws of runs. Each is a function with nothing to do, whose contract is the law.
-ghost use Rattle.std.specs.Prelude.{◌≡◌, ℕ, List, Ok, Option};
+ghost use Rattle.std.specs.Prelude.{◌≡◌, ℕ, Bool, List, Ok, Option};
 ghost use Rattle.script_text.specs.declared.script.Script.{Script};
+ghost use Rattle.script_text.specs.Scripts.{IsInRange};
 ghost use Rattle.script_reader.specs.Scripts.{script_read};
+ghost use Rattle.command_line.specs.declared.form.Form.TheVariants.{Run, Serial};
+ghost use Rattle.command_line.specs.Forms.{spelled};
+ghost use Rattle.run_sections.specs.Runs.{IsSectionRunOf, HasNoPhase};
 ghost use Rattle.world_core.specs.Runs.{IsRunOf};
 ghost use Rattle.top_call.specs.Runs.{IsOwed};
 ghost use Rattle.top_call.specs.declared.engine.Owed.{Owed};
 ghost use Rattle.top_call.specs.declared.top.Ended.{Ended};
 ghost use Rattle.run_laws.specs.OneBook.{AreOne};
-ghost use Rattle.run_laws.specs.Outputs.{given_bytes, AreAlike, AreFixed, IsWholeRun, PrintAlike};
+ghost use Rattle.run_laws.specs.Outputs.{given_bytes, AreAlike, AreFixed, HaveNoPhase, IsWholeRun, PrintAlike};
 
 use run_book::Book;
 
@@ -18,16 +22,31 @@ pub fn law_one_book(book: &Book, other: &Book)
     ensures { (script : Script) → IsRunOf script book.now → IsRunOf script other.now → AreOne book.now other.now }
 {}
 
+/// A script without a phase has one book, whether it is played section by section, with threads wherever there is a phase,
+/// or on one thread: two books that are runs of it, each in either way, are one.
+pub fn law_no_phase(book: &Book, other: &Book)
+    ensures alike { (script : Script) → IsInRange script → HasNoPhase script → IsSectionRunOf script book.now → IsRunOf script other.now → AreOne book.now other.now }
+    ensures again { (script : Script) → IsInRange script → HasNoPhase script → IsSectionRunOf script book.now → IsSectionRunOf script other.now → AreOne book.now other.now }
+{}
+
 /// The bytes of a script are one script: what they say can be read in one way alone.
 pub fn law_one_script()
     ensures { (bytes : List ℕ) (s t : Script) → script_read bytes ≡ Ok s → script_read bytes ≡ Ok t → s ≡ t }
 {}
 
-/// The output of each form but `run` and `load` follows from the input. What the program owes for its words and the bytes
-/// of its input is one status, one text and one book (`owed`). Two runs by the same words, with the same bytes as their
-/// input, in which neither reading nor writing nor memory failed, end with one status and one book, and their sinks take
-/// the same text (`printed`).
+/// The output of each form but `load`, and `run` of a script with a phase, follows from the input. What the program owes
+/// for its words and the bytes of its input is one status, one text and one book (`owed`). Two runs by the same words,
+/// with the same bytes as their input, in which neither reading nor writing nor memory failed, end with one status and one
+/// book, and their sinks take the same text (`printed`).
 pub fn law_one_output()
-    ensures owed { (words : List (List ℕ)) (bytes : List ℕ) (taken again : Option (List ℕ)) (one two : Owed) → AreFixed words → IsOwed (given_bytes words bytes taken) one → IsOwed (given_bytes words bytes again) two → AreAlike one two }
-    ensures printed { (words : List (List ℕ)) (bytes : List ℕ) (taken again now later : Option (List ℕ)) (one two : Ended) → AreFixed words → IsWholeRun words bytes taken one now → IsWholeRun words bytes again two later → PrintAlike one two taken again now later }
+    ensures owed { (words : List (List ℕ)) (bytes : List ℕ) (taken again : Option (List ℕ)) (one two : Owed) → AreFixed words bytes → IsOwed (given_bytes words bytes taken) one → IsOwed (given_bytes words bytes again) two → AreAlike one two }
+    ensures printed { (words : List (List ℕ)) (bytes : List ℕ) (taken again now later : Option (List ℕ)) (one two : Ended) → AreFixed words bytes → IsWholeRun words bytes taken one now → IsWholeRun words bytes again two later → PrintAlike one two taken again now later }
+{}
+
+/// Where an input is no script with a phase, `run` does what `serial` does, each with the trails or each without: the same
+/// is owed for it (`owed`), and a run by the one and a run by the other in which nothing failed end with one status and one
+/// book, and their sinks take the same text (`printed`).
+pub fn law_run_as_serial()
+    ensures owed { (trail : Bool) (bytes : List ℕ) (taken again : Option (List ℕ)) (one two : Owed) → HaveNoPhase bytes → IsOwed (given_bytes (spelled (Run trail)) bytes taken) one → IsOwed (given_bytes (spelled (Serial trail)) bytes again) two → AreAlike one two }
+    ensures printed { (trail : Bool) (bytes : List ℕ) (taken again now later : Option (List ℕ)) (one two : Ended) → HaveNoPhase bytes → IsWholeRun (spelled (Run trail)) bytes taken one now → IsWholeRun (spelled (Serial trail)) bytes again two later → PrintAlike one two taken again now later }
 {}

@@ -8,3 +8,4 @@ pub mod Carried
 pub mod Reaching
 pub mod Sectioning
 pub mod Running
+pub mod InOneOrder

@@ -1,5 +1,5 @@
 -- When a book has the steps of a script that were played section by section, with threads in its phases.
-use Rattle.std.specs.Prelude.{◌≡◌, ℕ, ◌+◌, flat_map, List, [], ◌∷◌}
+use Rattle.std.specs.Prelude.{◌≡◌, ℕ, ◌+◌, false, flat_map, All, List, [], ◌∷◌}
 use Rattle.script_text.specs.declared.script.Script.{Script}
 use Rattle.script_text.specs.declared.steps.Section.{Section}
 use Rattle.script_text.specs.Steps.{IsCount}
@@ -31,3 +31,7 @@ pub record IsSectionRunOf (script : Script) (b : Book) : Type 0 where
   pub k : b.k ≡ script.k
   pub fits : FitsWith b (setup_of script)
   pub steps : HasSectionSteps script b
+
+-- no section of the script is a phase
+abbrev pub HasNoPhase : Script → Type 0
+HasNoPhase script = All (λ section. section.phase ≡ false) script.sections
