@@ -1,16 +1,14 @@
 -- What an actor does grows by one thing more.
-use Rattle.std.proofs.Common.{◌≡◌, ℕ, ◌+◌, List, [], ◌∷◌, ◌++◌, length, map, refl, sym, ap, ◌∙◌, subst, append_assoc}
-use Rattle.std.specs.Prelude.{All}
+use Rattle.std.proofs.Common.{◌≡◌, ℕ, ◌+◌, List, [], ◌∷◌, ◌++◌, length, map, refl, sym, ap, ◌∙◌, append_assoc}
 use Rattle.std.proofs.lemmas.List.{append-nil, map-append}
 use Rattle.dc_talk.specs.declared.log.Deed.{Deed}
 use Rattle.dc_talk.specs.declared.log.Note.{Note}
 use Rattle.dc_talk.specs.Logs.{Logged, marked, entries_made}
-use Rattle.dc_talk.specs.Doors.{DoorView, IsSameDoor}
 use Rattle.dc_talk.specs.Acting.{Acting, acting, Leaves}
 use Rattle.dc_talk.proofs.Doors.{made_then}
 use Rattle.run_book.proofs.Happenings.Entries.{deeds_marked}
 use Rattle.run_book.proofs.Happenings.Playing.{all_at}
-use Rattle.run_sections.specs.Orders.{deeds_of, InOrder, none_left}
+use Rattle.run_sections.specs.Orders.{deeds_of, none_left}
 use Rattle.run_sections.proofs.Orders.{order_more}
 use Rattle.phase_actors.specs.Playing.{Acted, Plays}
 

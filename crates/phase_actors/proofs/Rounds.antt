@@ -1,6 +1,6 @@
 -- Rounds of workers and steps of the operator, one more.
-use Rattle.std.proofs.Common.{◌≡◌, ◌≢◌, ◌≤◌, ℕ, suc, ◌+◌, List, [], ◌∷◌, ◌++◌, length, map, refl, sym, ap, ◌∙◌, subst, append_assoc, arith}
-use Rattle.std.specs.Prelude.{All, replicate}
+use Rattle.std.proofs.Common.{◌≡◌, ℕ, ◌+◌, List, [], ◌∷◌, ◌++◌, length, refl, sym, ap, ◌∙◌, subst, append_assoc, arith}
+use Rattle.std.specs.Prelude.{replicate}
 use Rattle.std.specs.List.{range_with_len}
 use Rattle.std.proofs.lemmas.List.{append-nil, map-append, map-id, replicate-append-replicate, length-replicate}
 use Rattle.std.proofs.lemmas.List.FromFn.{map-range_with_len_more, length-range_with_len}
@@ -9,24 +9,23 @@ use Rattle.dc_talk.specs.declared.log.Deed.{Deed}
 use Rattle.dc_talk.specs.declared.log.Note.{Note}
 use Rattle.dc_talk.specs.Logs.{Logged}
 use Rattle.dc_talk.specs.Acting.{Acting, acting, Leaves}
-use Rattle.mail_link.specs.Ends.{GiverView, TakerView}
+use Rattle.mail_link.specs.Ends.{GiverView}
 use Rattle.script_text.specs.declared.steps.OperatorStep.{OperatorStep}
-use Rattle.script_text.specs.Steps.{IsCount}
 use Rattle.script_text.specs.Orders.{OperatorDeeds}
-use Rattle.script_text.specs.Links.{Inlet, arrivals, arrived, inlet_after, inlet_closed}
+use Rattle.script_text.specs.Links.{arrivals, arrived}
 use Rattle.script_text.specs.Carrying.{route, InTurn, no_turn, next_turn}
 use Rattle.script_text.specs.Rounds.{SenderDeeds, ReceiverDeeds, ReporterDeeds, PrunerDeeds, others, Mails, mailed_from, mailed}
 use Rattle.client_stub.specs.Playing.{Operates}
 use Rattle.dc_worker.specs.Work.{AddsSuch, CarriesSuch}
 use Rattle.dc_worker.proofs.Mailing.{IsFresh, mailed_then, mails_fresh}
-use Rattle.dc_links.specs.Links.{put_to, put_between, taken_from, inlet_from}
-use Rattle.dc_links.specs.Rounds.{SendsOver, inward, TakesOver, ReceivesOver, DrainsOver}
+use Rattle.dc_links.specs.Links.{put_to, inlet_from}
+use Rattle.dc_links.specs.Rounds.{SendsOver, inward, ReceivesOver, DrainsOver}
 use Rattle.run_book.proofs.Happenings.Playing.{all_at}
 use Rattle.run_sections.proofs.Orders.{order_more}
-use Rattle.run_sections.specs.Orders.{deeds_of, InOrder, none_left, OperatorGoes, SenderGoes, ReporterGoes, PrunerGoes, Intake, intake, Receipt, takes_some, takes_rest, delivered_of, inlet_then, ReceiverGoes}
-use Rattle.phase_actors.specs.Playing.{Acted, Plays}
+use Rattle.run_sections.specs.Orders.{deeds_of, InOrder, none_left, OperatorGoes, SenderGoes, ReporterGoes, PrunerGoes, intake, Receipt, takes_some, ReceiverGoes}
+use Rattle.phase_actors.specs.Playing.{Plays}
 use Rattle.phase_actors.specs.Workers.{PlaysOperator, PlaysReporter, PlaysPruner, PlaysSender, PlaysReceiver, Closes, Sending, Receiving, intakes_of}
-use Rattle.phase_actors.proofs.Growing.{acted_none, acted_more, log_at_step, marked_all, turn_deeds, plays_none, plays_more}
+use Rattle.phase_actors.proofs.Growing.{acted_none, acted_more, log_at_step, marked_all, turn_deeds, plays_more}
 
 -- ---- numbers and mail
 

@@ -1,12 +1,12 @@
 -- A client's turn more.
-use Rattle.std.proofs.Common.{◌≡◌, ◌≤◌, ℕ, zero, suc, ◌+◌, ◌-◌, List, [], ◌∷◌, ◌++◌, length, map, take, Option, Some, None, refl, sym, ap, ◌∙◌, subst, append_assoc, append-nil, arith}
+use Rattle.std.proofs.Common.{◌≡◌, ◌≤◌, ℕ, zero, suc, ◌+◌, ◌-◌, List, [], ◌∷◌, ◌++◌, length, take, Option, Some, None, refl, sym, ap, ◌∙◌, subst, append_assoc, append-nil, arith}
 use Rattle.std.specs.Prelude.{slice_get}
 use Rattle.std.proofs.lemmas.Option.{none-some, same_Some}
 use Rattle.std.proofs.lemmas.List.Folds.{fold-map}
 use Rattle.dc_talk.specs.declared.log.Deed.{Deed}
 use Rattle.dc_talk.specs.declared.log.Note.{Note}
 use Rattle.dc_talk.specs.Logs.{Logged, marked}
-use Rattle.dc_talk.specs.Acting.{Acting, acting, Leaves}
+use Rattle.dc_talk.specs.Acting.{acting, Leaves}
 use Rattle.dc_talk.specs.Doors.{DoorView}
 use Rattle.dc_talk.specs.Clients.{Client}
 use Rattle.dc_talk.specs.Rule.{after}

@@ -1,5 +1,5 @@
 -- What the actors of a phase share.
-use Rattle.std.specs.Prelude.{◌≡◌, ℕ, length}
+use Rattle.std.specs.Prelude.{◌≡◌, length}
 use Rattle.run_table.specs.Dealing.{IsDealtPhase}
 use Rattle.phase_actors.specs.declared.scene.Scene.{Scene}
 

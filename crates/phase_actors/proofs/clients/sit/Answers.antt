@@ -1,4 +1,4 @@
-use Rattle.std.proofs.Common.{◌≡◌, sym, ◌∙◌, subst}
+use Rattle.std.proofs.Common.{sym, ◌∙◌, subst}
 use Rattle.dc_talk.specs.Acting.{Acting}
 use Rattle.client_stub.specs.Playing.{IsLinkBehind}
 use Rattle.phase_actors.proofs.Passing.{door_width, seen_before}

@@ -1,4 +1,4 @@
-use Rattle.std.proofs.Common.{◌≡◌, ◌∙◌, arith}
+use Rattle.std.proofs.Common.{◌≡◌, arith}
 use Rattle.script_text.specs.Scripts.{header_of}
 use Rattle.run_book.specs.Moves.{operator_steps}
 use Rattle.phase_actors.proofs.Passing.{door_width, orders_fit, orders_few}

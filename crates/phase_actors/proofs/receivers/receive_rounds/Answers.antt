@@ -1,10 +1,9 @@
 use Rattle.std.proofs.Common.{refl, ◌∙◌}
-use Rattle.std.specs.Prelude.{replicate}
 use Rattle.dc_talk.specs.Acting.{acting}
-use Rattle.run_sections.specs.Orders.{takes_some, ReceiverGoes}
+use Rattle.run_sections.specs.Orders.{ReceiverGoes}
 use Rattle.phase_actors.specs.Workers.{Receiving, intakes_of}
 use Rattle.phase_actors.proofs.Growing.{plays_none}
-use Rattle.phase_actors.proofs.Rounds.{receiver_played, receiver_more}
+use Rattle.phase_actors.proofs.Rounds.{receiver_more}
 use Rattle.phase_actors.proofs.receivers.receive_rounds.Goals as goal
 
 pub rounds-init : goal.rounds-init
