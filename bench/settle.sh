@@ -1,8 +1,11 @@
 #!/bin/sh
 # Times `settle` among 2, 4 and 8 centres, each with 1,000 and then 2,000 records that all others lack,
 # with the built program, and prints the rows of the table in docs/benchmarks.md. Each time is the least
-# of 15 runs of a script with a `settle` at its end, less the least of 15 without. The status is 1
-# where twice as many records take more than 2.3 times as long, or the program gives a wrong end.
+# of 15 runs of a script with a `settle` at its end, less the least of 15 without. Then it times a
+# `settle` among 8 centres that have nothing to ship, to relay or to tell: a tenth of what 10 more of
+# them take behind one that brought 100 records of each centre to all. The status is 1 where twice as
+# many records take more than 2.3 times as long, where the settle of nothing takes more than a
+# millisecond, or where the program gives a wrong end.
 #   bench/settle.sh              times crates/swift_sim/out/swift_sim
 #   SWIFT_SIM=FILE bench/settle.sh      times another program
 set -u
@@ -32,6 +35,11 @@ run() {
     timed serial <"$room/$1" && [ "$(tail -n 1 "$room/out")" = "c1 read c.total $2" ]
 }
 
+# settles COUNT: so many lines `settle`, as awk reads the value of a variable.
+settles() {
+    awk -v count="$1" 'BEGIN { for (number = 1; number <= count; number++) printf "%ssettle", number == 1 ? "" : "\\n" }'
+}
+
 head_of centres 'records each' 'seconds to settle' 'ratio to the row above'
 for centres in 2 4 8; do
     before=
@@ -45,4 +53,11 @@ for centres in 2 4 8; do
         before=$took
     done
 done
+records 8 100 "$(settles 1)" >"$room/once"
+records 8 100 "$(settles 11)" >"$room/often"
+once=$(least 15 once 800) || wrong 8 centres, 100 records settled
+often=$(least 15 often 800) || wrong 8 centres, 100 records settled 11 times
+took=$(((often - once) / 10))
+row '8 | none' "$took" '' 2.3
+[ "$took" -le 1000 ] || status=1
 exit "$status"

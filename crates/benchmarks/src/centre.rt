@@ -55,7 +55,7 @@ fn after_deliveries(alloc: Global, count: u32) -> Result<i128, Fault> {
         let stamp = Stamp { centre: 1, seq };
         let tx = add_one(alloc, seq, &object)?;
         let item = Record { stamp, deps, tx };
-        centre.step(alloc, &Ask::Deliver { item })?;
+        centre.step(alloc, &Ask::Deliver { item, hops: 0 })?;
     }
     Ok(fetched(alloc, &mut centre, &object, u64::from(count))?)
 }

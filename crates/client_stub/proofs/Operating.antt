@@ -11,10 +11,10 @@ use Rattle.dc_talk.specs.declared.log.Deed.TheVariants.{Asked}
 use Rattle.dc_talk.specs.Logs.{Logged}
 use Rattle.dc_talk.specs.Acting.{Acting, acting, noted_all}
 use Rattle.script_text.specs.declared.steps.OperatorStep.{OperatorStep}
-use Rattle.script_text.specs.declared.steps.OperatorStep.TheVariants.{ShipOne, Ship, Tell, Prune}
+use Rattle.script_text.specs.declared.steps.OperatorStep.TheVariants.{ShipOne, Ship, Relay, Tell, Prune}
 use Rattle.script_text.specs.Deeds.{told}
 use Rattle.script_text.specs.Orders.{base_line, OperatorDeeds}
-use Rattle.script_text.specs.Carrying.{route, ship_line, Sends, Ships, Tells}
+use Rattle.script_text.specs.Carrying.{route, detour, ship_line, relay_line, Sends, Ships, Relays, Tells}
 use Rattle.dc_worker.specs.Work.{Adds, CarriesSuch}
 use Rattle.client_stub.specs.Playing.{Operates}
 use Rattle.client_stub.proofs.Growth.{leaves_told}
@@ -38,6 +38,12 @@ pub ships_all : (n from to : ℕ) (a b : Acting) (later : Logged) (end : Option 
 ships_all n from to a b later end line ships is told_it =
     operates_told (λ deeds. Ships (route from to) deeds end) n (Ship from to) a b later line
     (λ asks ships. record { asks = asks; end = end; ships = ships; whole = ap (λ line. asks ++ told line) is }) ships told_it
+
+-- a relay of what a centre lacks of an origin's records
+pub relays_all : (n from origin to : ℕ) (a b : Acting) (later : Logged) (end : Option ShipEnd) (line : Option Line) → CarriesSuch (λ deeds. Relays (detour from origin to) deeds end) a b → line ≡ relay_line (detour from origin to) end → later ≡ noted_all b.log (told line) → Operates n (Relay from origin to) a (acting b.door later)
+relays_all n from origin to a b later end line relays is told_it =
+    operates_told (λ deeds. Relays (detour from origin to) deeds end) n (Relay from origin to) a b later line
+    (λ asks relays. record { asks = asks; end = end; relays = relays; whole = ap (λ line. asks ++ told line) is }) relays told_it
 
 -- a tell
 pub tells_one : (n from to : ℕ) (a b : Acting) (later : Logged) (line : Option Line) → CarriesSuch (λ deeds. Tells (route from to) deeds line) a b → later ≡ noted_all b.log (told line) → Operates n (Tell from to) a (acting b.door later)

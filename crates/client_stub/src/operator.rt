@@ -1,6 +1,6 @@
 // The steps of the operator.
 ghost use Rattle.std.specs.Prelude.{◌≡◌, ◌≢◌, ◌≤◌, ℕ, OnOk, OnErr};
-ghost use Rattle.script_text.specs.declared.steps.OperatorStep.TheVariants.{ShipOne, Ship, Tell, Prune};
+ghost use Rattle.script_text.specs.declared.steps.OperatorStep.TheVariants.{ShipOne, Ship, Relay, Tell, Prune};
 ghost use Rattle.script_text.specs.Steps.{IsOperatorStep};
 ghost use Rattle.dc_talk.specs.Acting.{IsCutShort, acting};
 ghost use Rattle.dc_talk.specs.Doors.{IsBehind};
@@ -8,7 +8,10 @@ ghost use Rattle.client_stub.specs.Playing.{Operates};
 
 use crate::notes;
 use dc_talk::{Ask, Door, Log};
-use dc_worker::{ask_only, ask_unheard, base_line, settle, ship_all, ship_line, ship_one, tell};
+use dc_worker::{
+    ask_only, ask_unheard, base_line, relay_all, relay_line, settle, ship_all, ship_line, ship_one,
+    tell,
+};
 use ids_core::NoMemory;
 use script_text::OperatorStep;
 
@@ -32,6 +35,7 @@ pub fn operate<D: Door>(
         OperatorStep::Up { centre } => ask_only(door, *centre, Ask::Start, log),
         OperatorStep::ShipOne { from, to, seq } => order_ship_one(door, *from, *to, *seq, log),
         OperatorStep::Ship { from, to } => order_ship(door, *from, *to, log),
+        OperatorStep::Relay { from, origin, to } => order_relay(door, *from, *origin, *to, log),
         OperatorStep::Tell { from, to } => order_tell(door, *from, *to, log),
         OperatorStep::Prune { centre } => order_prune(door, *centre, log),
         OperatorStep::Link { .. } => Ok(()),
@@ -74,6 +78,27 @@ fn order_ship<D: Door>(door: &mut D, from: u8, to: u8, log: &mut Log) -> Result<
 {
     let last = ship_all(door, from, to, log)?;
     notes::tell(log, ship_line(from, to, last))?;
+    Ok(())
+}
+
+// The step `relay` of what a centre lacks of an origin's records.
+fn order_relay<D: Door>(
+    door: &mut D,
+    from: u8,
+    origin: u8,
+    to: u8,
+    log: &mut Log,
+) -> Result<(), NoMemory>
+    requires from { IsBehind (D.shown door.old) from }
+    requires origin { IsBehind (D.shown door.old) origin }
+    requires to { IsBehind (D.shown door.old) to }
+    requires apart { from ≢ to }
+    ensures place { D.place door.new ≡ D.place door.old }
+    ensures operates { OnOk result ((n : ℕ) → Operates n (Relay from origin to) (acting (D.shown door.old) log.old) (acting (D.shown door.new) log.new)) }
+    ensures short { OnErr result (IsCutShort (acting (D.shown door.old) log.old) (acting (D.shown door.new) log.new)) }
+{
+    let last = relay_all(door, from, origin, to, log)?;
+    notes::tell(log, relay_line(from, origin, to, last))?;
     Ok(())
 }
 

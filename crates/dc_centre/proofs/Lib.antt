@@ -3,3 +3,4 @@ pub mod Applying
 pub mod Going
 pub mod Standing
 pub mod Parts
+pub mod Rows

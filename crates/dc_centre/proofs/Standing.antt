@@ -1,6 +1,6 @@
 -- A centre that stands for a trail answers as is defined for that trail, and then stands for it with
 -- this entry.
-use Rattle.std.proofs.Common.{◌≡◌, ◌≢◌, ◌≤◌, ◌<◌, ℕ, zero, suc, ◌+◌, ◌-◌, true, false, cond, not, ◌⊎◌, inl, inr, List, [], ◌∷◌, ◌++◌, length, take, drop, Option, Some, None, refl, sym, ap, ◌∙◌, subst, arith}
+use Rattle.std.proofs.Common.{◌≡◌, ◌≢◌, ◌≤◌, ◌<◌, ℕ, zero, suc, ◌+◌, true, false, cond, not, ◌⊎◌, inl, inr, List, [], ◌∷◌, ◌++◌, length, Option, Some, None, refl, sym, ap, ◌∙◌, subst, arith}
 use Rattle.std.specs.Prelude.{nat_le, map, filter, ◌==◌, ◌&&◌, Result, Ok, Err, IfOk}
 use Rattle.std.specs.Option.{unwrap_or}
 use Rattle.std.specs.List.{range_with_len}
@@ -21,21 +21,24 @@ use Rattle.point_law.specs.Splits.{first_txs, is_inside}
 use Rattle.point_law.specs.StandFor.{state_told, count_told}
 use Rattle.point_law.proofs.StandingFor.{state_stands, mine_stands, count_stands}
 use Rattle.dc_talk.specs.declared.ask.Ask.{Ask}
-use Rattle.dc_talk.specs.declared.ask.Ask.TheVariants.{Hello, Refresh, Fetch, Commit, Send, Deliver, Report, Learn, Prune, Stop, Start}
+use Rattle.dc_talk.specs.declared.ask.Ask.TheVariants.{Hello, Refresh, Fetch, Commit, Send, Deliver, Relay, Report, Learn, Prune, Stop, Start}
 use Rattle.dc_talk.specs.declared.say.Say.{Say}
 use Rattle.dc_talk.specs.declared.say.Say.TheVariants.{Misfit, Down, Lacks, Snap, Pruned, Object, Records, Vector, Learned, Base}
 use Rattle.dc_talk.specs.Entries.{Entry}
-use Rattle.dc_talk.specs.Records.{count, vector, guard, has, own, inside, mine, firsts}
+use Rattle.dc_talk.specs.declared.ask.TheConstants.{MOST_SENT, MOST_HOPS}
+use Rattle.dc_talk.specs.declared.sent.Sent.{Sent}
+use Rattle.dc_talk.specs.Records.{count, vector, guard, has, inside, mine, firsts}
 use Rattle.dc_talk.specs.Objects.{state_at}
-use Rattle.dc_talk.specs.Trails.{applied, grown, taught, taught_in, switched_in, told, stable, all_known, stopped, Horizon, horizon, horizon_after}
-use Rattle.dc_talk.specs.Answers.{fits, are_modest, answer, row, lacking, snap_at, own_after, count_inside, tells, is_switch, hello_answer, refresh_answer, fetch_answer, commit_answer, send_answer, deliver_answer}
+use Rattle.dc_talk.specs.Trails.{carried, applied, taught, taught_in, switched_in, told, stable, all_known, stopped, Horizon, horizon, horizon_after, pruned}
+use Rattle.dc_talk.specs.Answers.{fits, are_modest, is_fit_item, answer, row, lacking, snap_at, part_of, count_inside, tells, is_switch, hello_answer, refresh_answer, fetch_answer, commit_answer, send_answer, deliver_answer}
 use Rattle.dc_talk.specs.declared.settings.Settings.{Settings}
 use Rattle.dc_talk.proofs.Answers.{lack_none}
 use Rattle.dc_talk.proofs.PeerAnswers.{item_fits}
+use Rattle.dc_talk.proofs.Growth.{carried_push}
 use Rattle.dc_talk.proofs.Horizons.{horizon_more}
-use Rattle.dc_centre.specs.Centre.{CentreView, Holds, StandsFor, IsCentre, Goes, horizon_of, stable_over, known_over, snap_over, row_over, up_over, horizon_over}
+use Rattle.dc_centre.specs.Centre.{CentreView, Holds, StandsFor, IsCentre, Goes, horizon_of, stable_over, known_over, trimmed_over, part_over, snap_over, row_over, up_over, horizon_over}
 use Rattle.dc_centre.proofs.Applying.{at-vector}
-use Rattle.dc_centre.proofs.Parts.{kept_past}
+use Rattle.dc_centre.proofs.Rows.{keeps_part}
 
 -- the table has the centre's own numbers
 pub record IsOwnTable (c : CentreView) : Type 0 where
@@ -65,12 +68,18 @@ stable_is c trail t h =
     ∙ (ap (λ (v : List ℕ). meet_of (kth_largest c.settings.k (rows_of c.told v)) v) h.holds.applied.counted
     ∙ ap (λ (r : List (List ℕ)). meet_of (kth_largest c.settings.k r) (vector c.settings.n (applied c.settings.n trail))) (rows_are c trail (vector c.settings.n (applied c.settings.n trail)) t h))
 
--- so is what all are known to have of its own records
-known_is : (c : CentreView) (trail : List Entry) → IsOwnTable c → StandsFor c trail → known_over c ≡ at (all_known c.settings trail) c.settings.me
-known_is c trail t h = ap (λ (v : List ℕ). at v c.settings.me) (
+-- so is what all are known to have
+known_is : (c : CentreView) (trail : List Entry) → IsOwnTable c → StandsFor c trail → known_over c ≡ all_known c.settings trail
+known_is c trail t h =
     ap (λ (v : List ℕ). all_known_of c.told v) h.holds.applied.counted
     ∙ (ap (λ (n : ℕ). tabulate n (λ e. least (column e (rows_of c.told (vector c.settings.n (applied c.settings.n trail)))))) t.n
-    ∙ ap (λ (r : List (List ℕ)). tabulate c.settings.n (λ e. least (column e r))) (rows_are c trail (vector c.settings.n (applied c.settings.n trail)) t h)))
+    ∙ ap (λ (r : List (List ℕ)). tabulate c.settings.n (λ e. least (column e r))) (rows_are c trail (vector c.settings.n (applied c.settings.n trail)) t h))
+
+-- so is how far it lets records go
+trimmed_is : (c : CentreView) (trail : List Entry) → IsOwnTable c → StandsFor c trail → trimmed_over c ≡ (pruned c.settings trail (horizon c.settings trail)).trimmed
+trimmed_is c trail t h =
+    ap (λ (z : Horizon). join_of z.trimmed (known_over c)) h.pruned
+    ∙ ap (join_of (horizon c.settings trail).trimmed) (known_is c trail t h)
 
 tells_is : (c : CentreView) (trail : List Entry) (from : ℕ) (news : List ℕ) → StandsFor c trail → 1 ≤ from → from ≤ c.settings.n → tells c.settings.me (told_by c.told from) from news ≡ tells c.settings.me (told c.settings.n from trail) from news
 tells_is c trail from news h low high = go (cases_Bool (from == c.settings.me))
@@ -96,7 +105,7 @@ fetch_alike have base here s t same = go (lacking Lacks have here)
     go (Some say) = refl
 
 -- a send is answered alike where what is asked for agrees past what was let go
-send_alike : (trimmed after : ℕ) (x y : List Record) → (trimmed ≤ after → x ≡ y) → send_answer trimmed x after ≡ send_answer trimmed y after
+send_alike : (trimmed after : ℕ) (x y : List Sent) → (trimmed ≤ after → x ≡ y) → send_answer trimmed x after ≡ send_answer trimmed y after
 send_alike trimmed after x y same = go (cases_Bool (nat_le (after + 1) trimmed))
   where
     go : (nat_le (after + 1) trimmed ≡ true) ⊎ (nat_le (after + 1) trimmed ≡ false) → send_answer trimmed x after ≡ send_answer trimmed y after
@@ -137,8 +146,14 @@ module _ (c : CentreView) (trail : List Entry) (is : IsCentre c.settings c.appli
       count_stands (applied c.settings.n trail) c.applied.point c.applied.log h.holds.applied.stored c.mark is.ahead
       ∙ (count_firsts (applied c.settings.n trail) c.mark ∙ ap (λ (z : Horizon). count_inside (applied c.settings.n trail) z.mark) h.pruned)
 
-  asked_is : (after most : ℕ) → c.trimmed ≤ after → take most (drop (after - c.trimmed) c.outbox) ≡ own_after c.settings.me (applied c.settings.n trail) after most
-  asked_is after most le = ap (λ (l : List Record). take most l) (ap (drop (after - c.trimmed)) h.holds.outbox ∙ kept_past (own c.settings.me (applied c.settings.n trail)) c.trimmed after le)
+  asked_is : (origin after most : ℕ) → 1 ≤ origin → origin ≤ c.settings.n → at c.trimmed origin ≤ after → part_over c origin after most ≡ part_of origin (carried c.settings.n trail) after most
+  asked_is origin after most low high le = keeps_part c.settings.n c.outbox c.trimmed (carried c.settings.n trail) origin after most h.holds.outbox low high le
+
+  -- the reply to an ask for the records of an origin
+  hands_is : (origin after most : ℕ) → 1 ≤ origin → origin ≤ c.settings.n → send_answer (at c.trimmed origin) (part_over c origin after most) after ≡ send_answer (at (horizon c.settings trail).trimmed origin) (part_of origin (carried c.settings.n trail) after most) after
+  hands_is origin after most low high =
+      send_alike (at c.trimmed origin) after (part_over c origin after most) (part_of origin (carried c.settings.n trail) after most) (asked_is origin after most low high)
+      ∙ ap (λ (z : Horizon). send_answer (at z.trimmed origin) (part_of origin (carried c.settings.n trail) after most) after) h.pruned
 
   -- the reply over what it holds is that over the trail
   row_is : (ask : Ask) → fits c.settings.n ask ≡ true → row_over c ask ≡ row c.settings trail ask
@@ -152,11 +167,13 @@ module _ (c : CentreView) (trail : List Entry) (is : IsCentre c.settings c.appli
       ap (λ (v : List ℕ). commit_answer c.settings v (number_of c.applied.lasts tx.dot.client) (at c.applied.counts c.settings.me) tx) counts
       ∙ (ap (λ (m : ℕ). commit_answer c.settings (vector c.settings.n (applied c.settings.n trail)) m (at c.applied.counts c.settings.me) tx) (number tx.dot.client)
       ∙ ap (λ (m : ℕ). commit_answer c.settings (vector c.settings.n (applied c.settings.n trail)) (guard tx.dot.client (applied c.settings.n trail)) m tx) (stamps c.settings.me is.centre.0 is.centre.1))
-  row_is (Send after most) fit =
-      send_alike c.trimmed after (take most (drop (after - c.trimmed) c.outbox)) (own_after c.settings.me (applied c.settings.n trail) after most) (asked_is after most)
-      ∙ ap (λ (z : Horizon). send_answer z.trimmed (own_after c.settings.me (applied c.settings.n trail) after most) after) h.pruned
-  row_is (Deliver item) fit =
-      let f = item_fits c.settings.n item fit in
+  row_is (Send after most) fit = hands_is c.settings.me after most is.centre.0 is.centre.1
+  row_is (Relay origin after most) fit =
+      let range = and_parts (is_within 1 c.settings.n origin) (is_within 1 MOST_SENT most) fit in
+      let centre = and_parts (nat_le 1 origin) (nat_le origin c.settings.n) range.0 in
+      hands_is origin after most (leb-true 1 origin centre.0) (leb-true origin c.settings.n centre.1)
+  row_is (Deliver item hops) fit =
+      let f = item_fits c.settings.n item (and_parts (is_fit_item c.settings.n item) (nat_le hops MOST_HOPS) fit).0 in
       ap (λ (v : List ℕ). deliver_answer c.settings v (at c.applied.counts item.stamp.centre) (number_of c.applied.lasts item.tx.dot.client) item) counts
       ∙ (ap (λ (m : ℕ). deliver_answer c.settings (vector c.settings.n (applied c.settings.n trail)) m (number_of c.applied.lasts item.tx.dot.client) item) (stamps item.stamp.centre f.centre.0 f.centre.1)
       ∙ ap (λ (m : ℕ). deliver_answer c.settings (vector c.settings.n (applied c.settings.n trail)) (count item.stamp.centre (applied c.settings.n trail)) m item) (number item.tx.dot.client))
@@ -167,9 +184,9 @@ module _ (c : CentreView) (trail : List Entry) (is : IsCentre c.settings c.appli
       let centre = and_parts (nat_le 1 from) (nat_le from c.settings.n) range.0 in
       ap Learned (tells_is c trail from news h (leb-true 1 from centre.0) (leb-true from c.settings.n centre.1))
   row_is Prune fit =
-      ap (λ (v : List ℕ). Base v (count_told c.applied.point c.applied.log c.mark) (known_over c)) (ap (λ (z : Horizon). z.mark) h.pruned)
-      ∙ (ap (λ (m : ℕ). Base (horizon c.settings trail).mark m (known_over c)) count_is
-      ∙ ap (λ (m : ℕ). Base (horizon c.settings trail).mark (count_inside (applied c.settings.n trail) (horizon c.settings trail).mark) m) (known_is c trail own_table h))
+      ap (λ (v : List ℕ). Base v (count_told c.applied.point c.applied.log c.mark) (at (trimmed_over c) c.settings.me)) (ap (λ (z : Horizon). z.mark) h.pruned)
+      ∙ (ap (λ (m : ℕ). Base (horizon c.settings trail).mark m (at (trimmed_over c) c.settings.me)) count_is
+      ∙ ap (λ (v : List ℕ). Base (horizon c.settings trail).mark (count_inside (applied c.settings.n trail) (horizon c.settings trail).mark) (at v c.settings.me)) (trimmed_is c trail own_table h))
   row_is Stop fit = refl
   row_is Start fit = refl
 
@@ -199,7 +216,7 @@ answers_all c ask (Err e) is fit up h = tt
 
 -- how far it has pruned after an ask is what the trail says
 horizon_alike : (c : CentreView) (trail : List Entry) (ask : Ask) (say : Say) → IsOwnTable c → StandsFor c trail → horizon_over c ask say ≡ horizon_after c.settings trail (horizon c.settings trail) ask say
-horizon_alike c trail Prune (Base v folded gone) t h = λ i. record { base = (h.pruned i).mark; mark = stable_is c trail t h i; trimmed = known_is c trail t h i }
+horizon_alike c trail Prune (Base v folded gone) t h = λ i. record { base = (h.pruned i).mark; mark = stable_is c trail t h i; trimmed = trimmed_is c trail t h i }
 horizon_alike c trail _ _ t h = h.pruned
 
 -- what the centre stands for after an ask
@@ -215,8 +232,8 @@ stands_more old new trail caller ask say is g h = record { holds = holds; told =
     me : new.settings.me ≡ old.settings.me
     me = ap (λ (s : Settings). s.me) g.settings
 
-    holds : Holds new (applied new.settings.n (trail ++ e ∷ []))
-    holds = subst (λ (A : List Record). Holds new A) (sym (fold_push (λ A entry. grown old.settings.n A entry.ask entry.say) [] trail e) ∙ ap (λ (n : ℕ). applied n (trail ++ e ∷ [])) (sym n)) (g.holds (applied old.settings.n trail) h.holds)
+    holds : Holds new (carried new.settings.n (trail ++ e ∷ []))
+    holds = subst (λ (C : List Sent). Holds new C) (sym (carried_push old.settings.n trail e) ∙ ap (λ (n : ℕ). carried n (trail ++ e ∷ [])) (sym n)) (g.holds (carried old.settings.n trail) h.holds)
 
     pruned : horizon_of new ≡ horizon new.settings (trail ++ e ∷ [])
     pruned = g.pruned ∙ (horizon_alike old trail ask say (record { me = is.same.0; n = is.same.1; k = is.same.2 }) h ∙ (sym (horizon_more old.settings trail e) ∙ ap (λ (s : Settings). horizon s (trail ++ e ∷ [])) (sym g.settings)))

@@ -8,7 +8,7 @@ ghost use Rattle.tx_core.specs.Checks.{IsFit};
 ghost use Rattle.dc_centre.specs.Centre.{Goes, row_over, stable_over};
 
 use crate::centre::Centre;
-use dc_talk::Say;
+use dc_talk::{Say, Sent};
 use ids_core::{NoMemory, ObjectId};
 use std::alloc::Global;
 use tx_core::{Record, Tx};
@@ -107,9 +107,13 @@ impl Centre {
             deps: self.applied.deps_of(tx),
             tx: tx.copy()?,
         };
-        self.outbox.reserve(1)?;
-        self.applied.take(&record)?;
-        self.outbox.push_back_reserved(record);
+        let sent = Sent {
+            item: record,
+            hops: 0,
+        };
+        self.outbox.reserve(self.settings.me)?;
+        self.applied.take(&sent.item)?;
+        self.outbox.put(sent);
         Ok(stamp)
     }
 

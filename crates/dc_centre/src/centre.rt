@@ -8,19 +8,18 @@ ghost use Rattle.dc_talk.specs.Entries.{Entry};
 ghost use Rattle.dc_talk.specs.Trails.{applied};
 
 use crate::applied::Applied;
+use crate::outbox::Outbox;
 use dc_talk::{Ask, Say, Settings};
 use hist_lock::Machine;
 use ids_core::NoMemory;
 use k_stable::Told;
 use std::alloc::Global;
-use std::collections::VecDeque;
 use std::marker::Model;
-use tx_core::Record;
 use vv_core::{Stamp, Vector};
 
 /// A data centre: a full replica that answers one ask after another (Middleware 2015). Contracts see
 /// its settings, what it keeps of the records that it applied, what it was told of the other centres,
-/// how far it has pruned, its own records that it did not let go, and whether it is stopped. It keeps no
+/// how far it has pruned, the records of each origin that it did not let go, and whether it is stopped. It keeps no
 /// list of all that it applied, and stands for the trail of what it was asked and answered.
 #[derive(Drop)]
 pub struct Centre {
@@ -28,8 +27,8 @@ pub struct Centre {
     pub(crate) applied: Applied,
     pub(crate) told: Told,
     pub(crate) mark: Vector,
-    pub(crate) trimmed: u64,
-    pub(crate) outbox: VecDeque<Record>,
+    pub(crate) trimmed: Vector,
+    pub(crate) outbox: Outbox,
     pub(crate) stopped: bool,
 }
 
@@ -41,7 +40,7 @@ impl Model for Centre {
 
     ghost coded = { Prim.hlevel state_codes };
 
-    ghost view = { λ c. record { settings = c.settings; applied = c.applied; told = c.told; mark = c.mark; trimmed = c.trimmed; outbox = c.outbox.items; down = c.stopped } };
+    ghost view = { λ c. record { settings = c.settings; applied = c.applied; told = c.told; mark = c.mark; trimmed = c.trimmed; outbox = c.outbox.rows; down = c.stopped } };
 
     ghost invariant = { λ c. IsCentre c.settings c.applied c.told c.mark c.trimmed };
 }
@@ -64,8 +63,8 @@ impl Centre {
             applied: Applied::new(alloc, n)?,
             told: Told::new(me, n, k),
             mark: Vector::zero(n),
-            trimmed: 0,
-            outbox: VecDeque::new(alloc),
+            trimmed: Vector::zero(n),
+            outbox: Outbox::new(alloc)?,
             stopped: false,
         })
     }
@@ -120,7 +119,12 @@ impl Centre {
             Ask::Fetch { object, at } => self.object(alloc, object, at),
             Ask::Commit { tx } => self.commit(tx),
             Ask::Send { after, most } => self.send(alloc, *after, *most),
-            Ask::Deliver { item } => self.deliver(item),
+            Ask::Deliver { item, hops } => self.deliver(item, *hops),
+            Ask::Relay {
+                origin,
+                after,
+                most,
+            } => self.relay(alloc, *origin, *after, *most),
             Ask::Report => Ok(self.report()),
             Ask::Learn { from, vector } => Ok(self.learn(*from, vector)),
             Ask::Prune => self.prune(alloc),
@@ -154,7 +158,7 @@ impl Machine for Centre {
     ghost stands = { StandsFor };
 
     fn step(&mut self, ask: &Ask) -> Result<(Say, Say), NoMemory> {
-        let alloc = *self.outbox.allocator();
+        let alloc = self.outbox.allocator();
         Centre::step(self, alloc, ask)
     }
 

@@ -1,13 +1,14 @@
 // What a centre answers to other centres, and to those who stop and start it.
 ghost use Rattle.std.specs.Prelude.{◌≡◌, ◌≤◌, true, IfOk, OnErr, length};
 ghost use Rattle.dc_talk.specs.declared.say.Say.TheVariants as say;
-ghost use Rattle.dc_talk.specs.declared.ask.Ask.TheVariants.{Send, Deliver, Report, Learn, Prune, Stop, Start};
-ghost use Rattle.dc_talk.specs.Answers.{is_fit_item};
-ghost use Rattle.dc_centre.specs.Centre.{Goes, row_over};
+ghost use Rattle.dc_talk.specs.declared.ask.Ask.TheVariants.{Send, Deliver, Relay, Report, Learn, Prune, Stop, Start};
+ghost use Rattle.dc_talk.specs.declared.ask.TheConstants.{MOST_HOPS};
+ghost use Rattle.dc_talk.specs.Answers.{is_fit_item, send_answer};
+ghost use Rattle.dc_centre.specs.Centre.{Goes, row_over, part_over};
+ghost use Rattle.vv_core.specs.Vectors.{at};
 
 use crate::centre::Centre;
-use crate::outbox::{part, trim};
-use dc_talk::{Records, Say};
+use dc_talk::{Records, Say, Sent};
 use ids_core::NoMemory;
 use std::alloc::Global;
 use tx_core::Record;
@@ -19,21 +20,52 @@ impl Centre {
         ensures answer { IfOk result (λ says. says.0 ≡ row_over self.now (Send after most)) }
         ensures copy { IfOk result (λ says. says.1 ≡ says.0) }
     {
-        let from = self.trimmed;
+        self.hand_on(alloc, self.settings.me, after, most)
+    }
+
+    /// The answer to a relay, in two copies.
+    pub(crate) fn relay(
+        &self,
+        alloc: Global,
+        origin: u8,
+        after: u64,
+        most: u32,
+    ) -> Result<(Say, Say), NoMemory>
+        requires { (1 ≤ origin) × (origin ≤ self.now.settings.n) }
+        ensures answer { IfOk result (λ says. says.0 ≡ row_over self.now (Relay origin after most)) }
+        ensures copy { IfOk result (λ says. says.1 ≡ says.0) }
+    {
+        self.hand_on(alloc, origin, after, most)
+    }
+
+    // The answer to an ask for the records of an origin, in two copies.
+    fn hand_on(
+        &self,
+        alloc: Global,
+        origin: u8,
+        after: u64,
+        most: u32,
+    ) -> Result<(Say, Say), NoMemory>
+        requires { (1 ≤ origin) × (origin ≤ self.now.settings.n) }
+        ensures answer { IfOk result (λ says. says.0 ≡ send_answer (at self.now.trimmed origin) (part_over self.now origin after most) after) }
+        ensures copy { IfOk result (λ says. says.1 ≡ says.0) }
+    {
+        let from = self.trimmed.get(origin);
         if after < from {
             return Ok((Say::Trimmed { from }, Say::Trimmed { from }));
         }
-        let list = Records::from_vec(part(&self.outbox, alloc, after - from, most)?);
+        let list = Records::from_vec(self.outbox.part(alloc, origin, after - from, most)?);
         let copy = list.copy()?;
         Ok((Say::Records { list: copy }, Say::Records { list }))
     }
 
     /// The answer to a delivery that fits, in two copies.
-    pub(crate) fn deliver(&mut self, item: &Record) -> Result<(Say, Say), NoMemory>
+    pub(crate) fn deliver(&mut self, item: &Record, hops: u8) -> Result<(Say, Say), NoMemory>
         requires fit { is_fit_item self.old.settings.n item.now ≡ true }
-        ensures answer { IfOk result (λ says. says.0 ≡ row_over self.old (Deliver item.now)) }
+        requires few { hops ≤ MOST_HOPS }
+        ensures answer { IfOk result (λ says. says.0 ≡ row_over self.old (Deliver item.now hops)) }
         ensures copy { IfOk result (λ says. says.1 ≡ says.0) }
-        ensures goes { IfOk result (λ says. Goes self.old self.new (Deliver item.now) says.0) }
+        ensures goes { IfOk result (λ says. Goes self.old self.new (Deliver item.now hops) says.0) }
         ensures err { OnErr result (self.new ≡ self.old) }
     {
         let have = self.applied.count(item.stamp.centre);
@@ -51,7 +83,13 @@ impl Centre {
         if number.saturating_sub(have) > 1 {
             return Ok((Say::Orphan { number, have }, Say::Orphan { number, have }));
         }
+        let sent = Sent {
+            item: item.copy()?,
+            hops: hops + 1,
+        };
+        self.outbox.reserve(item.stamp.centre)?;
         let fresh = self.applied.take(item)?;
+        self.outbox.put(sent);
         Ok((Say::Applied { fresh }, Say::Applied { fresh }))
     }
 
@@ -77,7 +115,7 @@ impl Centre {
     }
 
     /// The answer to a prune, in two copies: folds what was marked at the one before, marks what is stable
-    /// now, and lets own records go that all centres are known to have. Time: what is folded and let go.
+    /// now, and lets the records go that all centres are known to have. Time: what is folded and let go.
     pub(crate) fn prune(&mut self, alloc: Global) -> Result<(Say, Say), NoMemory>
         ensures answer { IfOk result (λ says. says.0 ≡ row_over self.old Prune) }
         ensures copy { IfOk result (λ says. says.1 ≡ says.0) }
@@ -86,10 +124,12 @@ impl Centre {
     {
         let here = self.applied.vector();
         let vector = self.mark;
-        let trimmed = self.told.all_known(&here).get(self.settings.me);
+        let known = self.told.all_known(&here);
+        let gone = self.trimmed.join(&known);
         self.applied.prune(alloc, &vector)?;
-        trim(&mut self.outbox, trimmed - self.trimmed);
-        self.trimmed = trimmed;
+        self.outbox.trim(self.trimmed.as_slice(), gone.as_slice());
+        self.trimmed = gone;
+        let trimmed = gone.get(self.settings.me);
         self.mark = self.told.stable(&here);
         let folded = self.applied.folded();
         Ok((

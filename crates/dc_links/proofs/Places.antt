@@ -10,7 +10,7 @@ use Rattle.std.specs.Prelude.{option_map}
 use Rattle.std.proofs.lemmas.Option.{get_or_from_slice_get, slice_get_read, slice_get-map}
 use Rattle.list_core.proofs.Gets.{get_within, all_get}
 use Rattle.atomic_blocks.specs.Laid.{WebId}
-use Rattle.tx_core.specs.declared.tx.Record.{Record}
+use Rattle.dc_talk.specs.declared.sent.Sent.{Sent}
 use Rattle.mail_link.specs.Ends.{GiverView, TakerView}
 use Rattle.dc_links.specs.Links.{rows_of, row_of, column_of, AreSquare, put_to, put_between, AreGivers, AreTakers}
 
@@ -76,40 +76,40 @@ module _ (rows : List (Vec WebId)) (square : AreSquare (rows_of rows)) (k : ℕ)
         let many = length-map rows (λ (row : Vec WebId). row.items) in
         column_at (rows_of rows) (length (rows_of rows)) (i - 1) j square (omega (arith, many, low)) (omega (arith, many, here, lt)) ∙ link_in_row
 
-module _ (rows : List (Vec (GiverView Record))) (i : ℕ) (row : Vec (GiverView Record)) (lt : i - 1 < length rows) (is : row ≡ get_or rows (i - 1) row) where
+module _ (rows : List (Vec (GiverView Sent))) (i : ℕ) (row : Vec (GiverView Sent)) (lt : i - 1 < length rows) (is : row ≡ get_or rows (i - 1) row) where
   -- the row of a sender
   pub givers_there : row_of (rows_of rows) i ≡ row.items
-  givers_there = seen_at (λ (row : Vec (GiverView Record)). row.items) [] rows (i - 1) row lt is
+  givers_there = seen_at (λ (row : Vec (GiverView Sent)). row.items) [] rows (i - 1) row lt is
 
   -- what was put on a link, by the end that puts
-  pub put_there : (j : ℕ) (giver : GiverView Record) → j - 1 < length row.items → giver ≡ get_or row.items (j - 1) giver → put_between (rows_of rows) i j ≡ giver.put
-  put_there j giver low at = ap (λ (givers : List (GiverView Record)). put_to givers j) givers_there ∙ seen_at (λ (giver : GiverView Record). giver.put) [] row.items (j - 1) giver low at
+  pub put_there : (j : ℕ) (giver : GiverView Sent) → j - 1 < length row.items → giver ≡ get_or row.items (j - 1) giver → put_between (rows_of rows) i j ≡ giver.put
+  put_there j giver low at = ap (λ (givers : List (GiverView Sent)). put_to givers j) givers_there ∙ seen_at (λ (giver : GiverView Sent). giver.put) [] row.items (j - 1) giver low at
 
 -- ---- a link
 
 module _ (links : List (List WebId)) (link : WebId) where
   -- an end that puts is of the link at its place
-  pub giver_link : (i k : ℕ) (givers : List (GiverView Record)) (giver : GiverView Record) → AreGivers links i givers → k < length givers → giver ≡ get_or givers k giver → slice_get (row_of links i) k ≡ Some link → giver.link ≡ link
+  pub giver_link : (i k : ℕ) (givers : List (GiverView Sent)) (giver : GiverView Sent) → AreGivers links i givers → k < length givers → giver ≡ get_or givers k giver → slice_get (row_of links i) k ≡ Some link → giver.link ≡ link
   giver_link i k givers giver are lt is at =
-      sym (seen_at (λ (giver : GiverView Record). giver.link) link givers k giver lt is)
+      sym (seen_at (λ (giver : GiverView Sent). giver.link) link givers k giver lt is)
       ∙ (ap (λ (row : List WebId). get_or row k link) are.each ∙ get_or_from_slice_get (row_of links i) k link link at)
 
   -- so is one that takes
-  pub taker_link : (j k : ℕ) (takers : List (TakerView Record)) (taker : TakerView Record) → AreTakers links j takers → k < length takers → taker ≡ get_or takers k taker → slice_get (column_of links j) k ≡ Some link → taker.link ≡ link
+  pub taker_link : (j k : ℕ) (takers : List (TakerView Sent)) (taker : TakerView Sent) → AreTakers links j takers → k < length takers → taker ≡ get_or takers k taker → slice_get (column_of links j) k ≡ Some link → taker.link ≡ link
   taker_link j k takers taker are lt is at =
-      sym (seen_at (λ (taker : TakerView Record). taker.link) link takers k taker lt is)
+      sym (seen_at (λ (taker : TakerView Sent). taker.link) link takers k taker lt is)
       ∙ (ap (λ (column : List WebId). get_or column k link) are.each ∙ get_or_from_slice_get (column_of links j) k link link at)
 
   -- the ends are as they were where one of them changes and stays of its link
-  pub givers_stay : (i k : ℕ) (givers : List (GiverView Record)) (giver new : GiverView Record) → AreGivers links i givers → k < length givers → giver ≡ get_or givers k giver → giver.link ≡ link → new.link ≡ link → AreGivers links i (set givers k new)
+  pub givers_stay : (i k : ℕ) (givers : List (GiverView Sent)) (giver new : GiverView Sent) → AreGivers links i givers → k < length givers → giver ≡ get_or givers k giver → giver.link ≡ link → new.link ≡ link → AreGivers links i (set givers k new)
   givers_stay i k givers giver new are lt is was now = record {
     number = length-set givers k new ∙ are.number;
-    each = map-set_same (λ (giver : GiverView Record). giver.link) givers k new giver (now ∙ (sym was ∙ ap (λ (giver : GiverView Record). giver.link) is)) ∙ are.each;
+    each = map-set_same (λ (giver : GiverView Sent). giver.link) givers k new giver (now ∙ (sym was ∙ ap (λ (giver : GiverView Sent). giver.link) is)) ∙ are.each;
   }
 
   -- so it is of those that take
-  pub takers_stay : (j k : ℕ) (takers : List (TakerView Record)) (taker new : TakerView Record) → AreTakers links j takers → k < length takers → taker ≡ get_or takers k taker → taker.link ≡ link → new.link ≡ link → AreTakers links j (set takers k new)
+  pub takers_stay : (j k : ℕ) (takers : List (TakerView Sent)) (taker new : TakerView Sent) → AreTakers links j takers → k < length takers → taker ≡ get_or takers k taker → taker.link ≡ link → new.link ≡ link → AreTakers links j (set takers k new)
   takers_stay j k takers taker new are lt is was now = record {
     number = length-set takers k new ∙ are.number;
-    each = map-set_same (λ (taker : TakerView Record). taker.link) takers k new taker (now ∙ (sym was ∙ ap (λ (taker : TakerView Record). taker.link) is)) ∙ are.each;
+    each = map-set_same (λ (taker : TakerView Sent). taker.link) takers k new taker (now ∙ (sym was ∙ ap (λ (taker : TakerView Sent). taker.link) is)) ∙ are.each;
   }

@@ -2,7 +2,7 @@
 use Rattle.std.proofs.Common.{◌≡◌, ◌≢◌, ◌≤◌, ◌<◌, ◌⊎◌, inl, inr, ℕ, ◌+◌, ◌-◌, ◌==◌, cond, List, [], ◌++◌, length, get_or, set, append_assoc, sym, ap, ◌∙◌}
 use Rattle.std.proofs.lemmas.Bool.{cases_eq, eq-eqb, ne_eqb}
 use Rattle.std.proofs.lemmas.List.{append-nil}
-use Rattle.tx_core.specs.declared.tx.Record.{Record}
+use Rattle.dc_talk.specs.declared.sent.Sent.{Sent}
 use Rattle.dc_talk.specs.Acting.{Acting}
 use Rattle.mail_link.specs.Ends.{GiverView}
 use Rattle.script_text.specs.Carrying.{route, no_turn}
@@ -17,7 +17,7 @@ use Rattle.dc_links.proofs.Places.{seen_at, seen_here, seen_else, places_apart}
 use Rattle.dc_links.proofs.Turns.{turns_next, turns_self}
 
 -- what was put on one link
-pub sends_to : (i to number : ℕ) (givers : List (GiverView Record)) (giver new : GiverView Record) (a b : Acting) → 1 ≤ to → to - 1 < length givers → giver ≡ get_or givers (to - 1) giver → Posts (route i to) number (outgoing a giver.put) (outgoing b new.put) → SendsTo i to givers (set givers (to - 1) new) a b
+pub sends_to : (i to number : ℕ) (givers : List (GiverView Sent)) (giver new : GiverView Sent) (a b : Acting) → 1 ≤ to → to - 1 < length givers → giver ≡ get_or givers (to - 1) giver → Posts (route i to) number (outgoing a giver.put) (outgoing b new.put) → SendsTo i to givers (set givers (to - 1) new) a b
 sends_to i to number givers giver new a b low lt is posts = record {
   items = posts.items;
   mails = posts.mails;
@@ -25,11 +25,11 @@ sends_to i to number givers giver new a b low lt is posts = record {
   rest = λ j least other. seen_else put [] givers (to - 1) (j - 1) new (places_apart to j low least other);
 }
   where
-    put : GiverView Record → List Record
+    put : GiverView Sent → List Sent
     put giver = giver.put
 
 -- over no links
-pub sent_none : (i : ℕ) (givers : List (GiverView Record)) (a : Acting) → SendsOver 0 i givers givers a a
+pub sent_none : (i : ℕ) (givers : List (GiverView Sent)) (a : Acting) → SendsOver 0 i givers givers a a
 sent_none i givers a = record {
   deeds = [];
   such = no_turn;
@@ -39,7 +39,7 @@ sent_none i givers a = record {
 }
 
 -- over one link more
-pub sent_next : (k i next : ℕ) (old mid new : List (GiverView Record)) (a b c : Acting) → next ≡ k + 1 → next ≢ i → SendsOver k i old mid a b → SendsTo i next mid new b c → SendsOver next i old new a c
+pub sent_next : (k i next : ℕ) (old mid new : List (GiverView Sent)) (a b c : Acting) → next ≡ k + 1 → next ≢ i → SendsOver k i old mid a b → SendsTo i next mid new b c → SendsOver next i old new a c
 sent_next k i next old mid new a b c is other before one = record {
   deeds = before.deeds ++ one.mails.deeds;
   such = turns_next k i next is before.deeds one.mails.deeds other before.such (one.items, one.mails.such);
@@ -48,7 +48,7 @@ sent_next k i next old mid new a b c is other before one = record {
   put = λ to low. each to low (cases_eq to next);
 }
   where
-    all : ℕ → List Record
+    all : ℕ → List Sent
     all to = mailed to (before.deeds ++ one.mails.deeds)
 
     -- what is mailed grows by the items of the link
@@ -68,7 +68,7 @@ sent_next k i next old mid new a b c is other before one = record {
         one.rest to low else ∙ (before.put to low ∙ ap (λ more. put_to old to ++ more) (sym now))
 
 -- but not to the centre itself
-pub sent_self : (k i next : ℕ) (old mid : List (GiverView Record)) (a b : Acting) → next ≡ k + 1 → next ≡ i → SendsOver k i old mid a b → SendsOver next i old mid a b
+pub sent_self : (k i next : ℕ) (old mid : List (GiverView Sent)) (a b : Acting) → next ≡ k + 1 → next ≡ i → SendsOver k i old mid a b → SendsOver next i old mid a b
 sent_self k i next old mid a b is self before = record {
   deeds = before.deeds;
   such = turns_self k i next is before.deeds self before.such;

@@ -2,7 +2,7 @@
 use Rattle.std.proofs.Common.{◌≡◌, ◌≢◌, ◌≤◌, ◌<◌, ◌⊎◌, inl, inr, ℕ, ◌+◌, ◌-◌, ◌==◌, Bool, true, false, cond, List, [], ◌++◌, length, get_or, set, refl, sym, ap, ◌∙◌, subst, arith}
 use Rattle.std.proofs.lemmas.Bool.{cases_eq, eq-eqb, ne_eqb}
 use Rattle.std.proofs.lemmas.List.{append-nil, get_or_default, get_or-set_same, get_or-set_other}
-use Rattle.tx_core.specs.declared.tx.Record.{Record}
+use Rattle.dc_talk.specs.declared.sent.Sent.{Sent}
 use Rattle.dc_talk.specs.Acting.{Acting}
 use Rattle.mail_link.specs.Ends.{GiverView, TakerView}
 use Rattle.script_text.specs.declared.rounds.TheConstants.{MOST_MAILED}
@@ -20,7 +20,7 @@ use Rattle.dc_links.proofs.Turns.{turns_among, turns_next, turns_self}
 -- ---- one link
 
 -- what was taken of one link, and its inlet
-pub takes_from : (due : Due) (later : Later) (from j : ℕ) (items : List Record) (takers : List (TakerView Record)) (taker now : TakerView Record) (inlets : List (Inlet Record)) (inlet after : Inlet Record) (a b : Acting) → 1 ≤ from → from - 1 < length takers → from - 1 < length inlets → taker ≡ get_or takers (from - 1) taker → inlet ≡ get_or inlets (from - 1) inlet → now.taken ≡ taker.taken ++ items → AddsSuch (Brings j (due inlet items)) a b → after ≡ later inlet items
+pub takes_from : (due : Due) (later : Later) (from j : ℕ) (items : List Sent) (takers : List (TakerView Sent)) (taker now : TakerView Sent) (inlets : List (Inlet Sent)) (inlet after : Inlet Sent) (a b : Acting) → 1 ≤ from → from - 1 < length takers → from - 1 < length inlets → taker ≡ get_or takers (from - 1) taker → inlet ≡ get_or inlets (from - 1) inlet → now.taken ≡ taker.taken ++ items → AddsSuch (Brings j (due inlet items)) a b → after ≡ later inlet items
     → TakesFrom due later from j (inward takers inlets) (inward (set takers (from - 1) now) (set inlets (from - 1) after)) a b
 takes_from due later from j items takers taker now inlets inlet after a b low lt within is there more brings then = record {
   items = items;
@@ -30,14 +30,14 @@ takes_from due later from j items takers taker now inlets inlet after a b low lt
   rest = λ i least other. (seen_else taken [] takers (from - 1) (i - 1) now (places_apart from i low least other), get_or-set_other inlets (from - 1) (i - 1) after clean_inlet (λ same. places_apart from i low least other same));
 }
   where
-    taken : TakerView Record → List Record
+    taken : TakerView Sent → List Sent
     taken taker = taker.taken
 
     here : inlet_from inlets from ≡ inlet
     here = get_or_default inlets (from - 1) clean_inlet inlet within ∙ sym there
 
 -- the same by what a round leaves
-pub received_from : (from j number : ℕ) (takers : List (TakerView Record)) (taker now : TakerView Record) (inlets : List (Inlet Record)) (inlet after : Inlet Record) (a b : Acting) → 1 ≤ from → from - 1 < length takers → from - 1 < length inlets → taker ≡ get_or takers (from - 1) taker → inlet ≡ get_or inlets (from - 1) inlet → Receives j number (incoming a inlet taker.taken) (incoming b after now.taken) → number ≤ MOST_MAILED
+pub received_from : (from j number : ℕ) (takers : List (TakerView Sent)) (taker now : TakerView Sent) (inlets : List (Inlet Sent)) (inlet after : Inlet Sent) (a b : Acting) → 1 ≤ from → from - 1 < length takers → from - 1 < length inlets → taker ≡ get_or takers (from - 1) taker → inlet ≡ get_or inlets (from - 1) inlet → Receives j number (incoming a inlet taker.taken) (incoming b after now.taken) → number ≤ MOST_MAILED
     → ReceivesFrom from j (inward takers inlets) (inward (set takers (from - 1) now) (set inlets (from - 1) after)) a b
 unfolding takes_from
 received_from from j number takers taker now inlets inlet after a b low lt within is there got most = record {
@@ -46,11 +46,11 @@ received_from from j number takers taker now inlets inlet after a b low lt withi
 }
 
 -- and by what a closing round leaves
-pub drained_from : (from j number : ℕ) (givers : List (List (GiverView Record))) (takers : List (TakerView Record)) (taker now : TakerView Record) (inlets : List (Inlet Record)) (inlet after : Inlet Record) (a b : Acting) → 1 ≤ from → from - 1 < length takers → from - 1 < length inlets → taker ≡ get_or takers (from - 1) taker → inlet ≡ get_or inlets (from - 1) inlet → Closes j number (incoming a inlet taker.taken) (incoming b after now.taken) → length now.taken ≡ length (put_between givers from j)
+pub drained_from : (from j number : ℕ) (givers : List (List (GiverView Sent))) (takers : List (TakerView Sent)) (taker now : TakerView Sent) (inlets : List (Inlet Sent)) (inlet after : Inlet Sent) (a b : Acting) → 1 ≤ from → from - 1 < length takers → from - 1 < length inlets → taker ≡ get_or takers (from - 1) taker → inlet ≡ get_or inlets (from - 1) inlet → Closes j number (incoming a inlet taker.taken) (incoming b after now.taken) → length now.taken ≡ length (put_between givers from j)
     → DrainsFrom from j givers (inward takers inlets) (inward (set takers (from - 1) now) (set inlets (from - 1) after)) a b
 drained_from from j number givers takers taker now inlets inlet after a b low lt within is there got all = record {
   takes = takes_from arrivals inlet_closed from j got.items takers taker now inlets inlet after a b low lt within is there got.taken got.brings got.inlet;
-  all = ap length (seen_here (λ (taker : TakerView Record). taker.taken) [] takers (from - 1) now lt) ∙ all;
+  all = ap length (seen_here (λ (taker : TakerView Sent). taker.taken) [] takers (from - 1) now lt) ∙ all;
 }
 
 -- ---- the first links
@@ -73,7 +73,7 @@ module _ (due : Due) (later : Later) where
     -- the link from the next centre
     module _ (new : Inward) (c : Acting) (other : next ≢ j) (one : TakesFrom due later next j mid new b c) where
       -- what was taken of each link
-      abbrev all : ℕ → List Record
+      abbrev all : ℕ → List Sent
       all from = cond (from == next) one.items (before.items from)
 
       -- of the next one
@@ -174,7 +174,7 @@ received_self k j next old mid a b is self before = record { takes = taken_self 
 
 -- ---- a closing round
 
-module _ (givers : List (List (GiverView Record))) where
+module _ (givers : List (List (GiverView Sent))) where
   -- over no links
   pub drained_none : (j : ℕ) (w : Inward) (a : Acting) → DrainsOver 0 j givers w w a a
   drained_none j w a = record { takes = taken_none arrivals inlet_closed j w a; all = λ from there. absurd (omega (arith, there.0.0, there.0.1)) }

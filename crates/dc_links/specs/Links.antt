@@ -3,7 +3,7 @@ use Rattle.std.specs.Prelude.{◌≡◌, ◌≢◌, ◌≤◌, ℕ, ◌-◌, Lis
 use Rattle.std.specs.List.{filter_map}
 use Rattle.std.specs.Global.{Vec}
 use Rattle.atomic_blocks.specs.Laid.{WebId}
-use Rattle.tx_core.specs.declared.tx.Record.{Record}
+use Rattle.dc_talk.specs.declared.sent.Sent.{Sent}
 use Rattle.script_text.specs.Links.{Inlet, clean_inlet}
 use Rattle.mail_link.specs.Ends.{GiverView, TakerView}
 
@@ -35,43 +35,43 @@ AreSquare links = All (λ (row : List WebId). length row ≡ length links) links
 -- ---- the ends that put
 
 -- what was put on the link to a centre
-abbrev pub put_to : List (GiverView Record) → ℕ → List Record
-put_to givers to = slice_index_or (map (λ (giver : GiverView Record). giver.put) givers) (to - 1) []
+abbrev pub put_to : List (GiverView Sent) → ℕ → List Sent
+put_to givers to = slice_index_or (map (λ (giver : GiverView Sent). giver.put) givers) (to - 1) []
 
 -- what was put on the link from one centre to another, where each sender has a row
-abbrev pub put_between : List (List (GiverView Record)) → ℕ → ℕ → List Record
+abbrev pub put_between : List (List (GiverView Sent)) → ℕ → ℕ → List Sent
 put_between rows from to = put_to (row_of rows from) to
 
 -- the ends of the links from a centre, one to each centre in order
-pub record AreGivers (links : List (List WebId)) (i : ℕ) (givers : List (GiverView Record)) : Type 0 where
+pub record AreGivers (links : List (List WebId)) (i : ℕ) (givers : List (GiverView Sent)) : Type 0 where
   pub number : length givers ≡ length links
-  pub each : map (λ (giver : GiverView Record). giver.link) givers ≡ row_of links i
+  pub each : map (λ (giver : GiverView Sent). giver.link) givers ≡ row_of links i
 
 -- so it is of each sender
-pub record AreGiverRows (links : List (List WebId)) (rows : List (List (GiverView Record))) : Type 0 where
+pub record AreGiverRows (links : List (List WebId)) (rows : List (List (GiverView Sent))) : Type 0 where
   pub number : length rows ≡ length links
   pub each : (i : ℕ) → IsAmong (length links) i → AreGivers links i (row_of rows i)
 
 -- ---- the ends that take
 
 -- what was taken from the link from a centre
-abbrev pub taken_from : List (TakerView Record) → ℕ → List Record
-taken_from takers from = slice_index_or (map (λ (taker : TakerView Record). taker.taken) takers) (from - 1) []
+abbrev pub taken_from : List (TakerView Sent) → ℕ → List Sent
+taken_from takers from = slice_index_or (map (λ (taker : TakerView Sent). taker.taken) takers) (from - 1) []
 
 -- what was taken from the link from one centre to another, where each receiver has a row
-abbrev pub taken_between : List (List (TakerView Record)) → ℕ → ℕ → List Record
+abbrev pub taken_between : List (List (TakerView Sent)) → ℕ → ℕ → List Sent
 taken_between rows from to = taken_from (row_of rows to) from
 
 -- the ends of the links to a centre, one from each centre in order
-pub record AreTakers (links : List (List WebId)) (j : ℕ) (takers : List (TakerView Record)) : Type 0 where
+pub record AreTakers (links : List (List WebId)) (j : ℕ) (takers : List (TakerView Sent)) : Type 0 where
   pub number : length takers ≡ length links
-  pub each : map (λ (taker : TakerView Record). taker.link) takers ≡ column_of links j
+  pub each : map (λ (taker : TakerView Sent). taker.link) takers ≡ column_of links j
 
 -- so it is of each receiver
-pub record AreTakerRows (links : List (List WebId)) (rows : List (List (TakerView Record))) : Type 0 where
+pub record AreTakerRows (links : List (List WebId)) (rows : List (List (TakerView Sent))) : Type 0 where
   pub number : length rows ≡ length links
   pub each : (j : ℕ) → IsAmong (length links) j → AreTakers links j (row_of rows j)
 
 -- the fault of the link from a centre, with what it holds
-abbrev pub inlet_from : List (Inlet Record) → ℕ → Inlet Record
+abbrev pub inlet_from : List (Inlet Sent) → ℕ → Inlet Sent
 inlet_from inlets from = slice_index_or inlets (from - 1) clean_inlet

@@ -1,6 +1,6 @@
 -- What a round of a sender or a receiver leaves in its log and at its ends of the links.
 use Rattle.std.specs.Prelude.{◌≡◌, ◌≢◌, ◌≤◌, ◌<◌, ◌⊎◌, ℕ, List, [], ◌++◌, length}
-use Rattle.tx_core.specs.declared.tx.Record.{Record}
+use Rattle.dc_talk.specs.declared.sent.Sent.{Sent}
 use Rattle.dc_talk.specs.declared.log.Deed.{Deed}
 use Rattle.dc_talk.specs.Acting.{Acting}
 use Rattle.mail_link.specs.Ends.{GiverView, TakerView}
@@ -14,17 +14,17 @@ use Rattle.dc_links.specs.Links.{IsOther, put_to, put_between, taken_from, inlet
 
 -- what a link makes due of records that are taken
 abbrev pub Due : Type 0
-Due = Inlet Record → List Record → List Record
+Due = Inlet Sent → List Sent → List Sent
 
 -- how the inlet of a link is after records are taken
 abbrev pub Later : Type 0
-Later = Inlet Record → List Record → Inlet Record
+Later = Inlet Sent → List Sent → Inlet Sent
 
 -- ---- a sender
 
 -- the sender of a centre made a round over the links to the others of the first n: a log and what a door shows grow by
 -- its deeds, and it put what they mailed
-pub record SendsOver (n i : ℕ) (old new : List (GiverView Record)) (a b : Acting) : Type 0 where
+pub record SendsOver (n i : ℕ) (old new : List (GiverView Sent)) (a b : Acting) : Type 0 where
   pub deeds : List Deed
   pub such : SenderDeeds n i deeds
   pub adds : Adds a b deeds
@@ -32,8 +32,8 @@ pub record SendsOver (n i : ℕ) (old new : List (GiverView Record)) (a b : Acti
   pub put : (to : ℕ) → 1 ≤ to → put_to new to ≡ put_to old to ++ mailed to deeds
 
 -- it asked for what one centre lacks, and put the records of the answer on the link to that one
-pub record SendsTo (i to : ℕ) (old new : List (GiverView Record)) (a b : Acting) : Type 0 where
-  pub items : List Record
+pub record SendsTo (i to : ℕ) (old new : List (GiverView Sent)) (a b : Acting) : Type 0 where
+  pub items : List Sent
   pub mails : CarriesSuch (λ deeds. Mails (route i to) deeds items) a b
   pub put : put_to new to ≡ put_to old to ++ items
   pub rest : (j : ℕ) → 1 ≤ j → j ≢ to → put_to new j ≡ put_to old j
@@ -42,17 +42,17 @@ pub record SendsTo (i to : ℕ) (old new : List (GiverView Record)) (a b : Actin
 
 -- the ends of a receiver: those that take, and the fault of each link with what it holds
 pub record Inward : Type 0 where
-  pub takers : List (TakerView Record)
-  pub inlets : List (Inlet Record)
+  pub takers : List (TakerView Sent)
+  pub inlets : List (Inlet Sent)
 
 -- a receiver by these
-abbrev pub inward : List (TakerView Record) → List (Inlet Record) → Inward
+abbrev pub inward : List (TakerView Sent) → List (Inlet Sent) → Inward
 inward takers inlets = record { takers = takers; inlets = inlets }
 
 -- the receiver of a centre made a round over the links from the others of the first n: of each it took some records and
 -- delivered what was due of them; of no other link it took any
 pub record TakesOver (due : Due) (later : Later) (n j : ℕ) (old new : Inward) (a b : Acting) : Type 0 where
-  pub items : ℕ → List Record
+  pub items : ℕ → List Sent
   pub deeds : List Deed
   pub such : ReceiverDeeds n j (λ from. due (inlet_from old.inlets from) (items from)) deeds
   pub adds : Adds a b deeds
@@ -63,7 +63,7 @@ pub record TakesOver (due : Due) (later : Later) (n j : ℕ) (old new : Inward) 
 
 -- it took some records of one link and delivered what was due of them
 pub record TakesFrom (due : Due) (later : Later) (from j : ℕ) (old new : Inward) (a b : Acting) : Type 0 where
-  pub items : List Record
+  pub items : List Sent
   pub brings : AddsSuch (Brings j (due (inlet_from old.inlets from) items)) a b
   pub taken : taken_from new.takers from ≡ taken_from old.takers from ++ items
   pub inlet : inlet_from new.inlets from ≡ later (inlet_from old.inlets from) items
@@ -80,11 +80,11 @@ pub record ReceivesFrom (from j : ℕ) (old new : Inward) (a b : Acting) : Type 
   pub few : length takes.items ≤ MOST_MAILED
 
 -- a closing round, where no more come: all that was put was taken then
-pub record DrainsOver (n j : ℕ) (givers : List (List (GiverView Record))) (old new : Inward) (a b : Acting) : Type 0 where
+pub record DrainsOver (n j : ℕ) (givers : List (List (GiverView Sent))) (old new : Inward) (a b : Acting) : Type 0 where
   pub takes : TakesOver arrivals inlet_closed n j old new a b
   pub all : (from : ℕ) → IsOther n j from → length (taken_from new.takers from) ≡ length (put_between givers from j)
 
 -- the same of one link
-pub record DrainsFrom (from j : ℕ) (givers : List (List (GiverView Record))) (old new : Inward) (a b : Acting) : Type 0 where
+pub record DrainsFrom (from j : ℕ) (givers : List (List (GiverView Sent))) (old new : Inward) (a b : Acting) : Type 0 where
   pub takes : TakesFrom arrivals inlet_closed from j old new a b
   pub all : length (taken_from new.takers from) ≡ length (put_between givers from j)

@@ -6,12 +6,11 @@ ghost use Rattle.dc_links.specs.Links.{IsAmong, rows_of, AreGiverRows, AreTakers
 ghost use Rattle.dc_links.specs.Rounds.{inward, DrainsOver, DrainsFrom};
 
 use crate::links::Links;
-use dc_talk::{Door, Log};
+use dc_talk::{Door, Log, Sent};
 use dc_worker::{Inlet, drain_round};
 use ids_core::NoMemory;
 use mail_link::{Giver, Taker};
 use std::sync::Wait;
-use tx_core::Record;
 
 /// Takes from the link from each other centre of the `n` behind the door all that was put there, where no more is put,
 /// and delivers to this one what comes of it and what is held. It is given the ends of all senders. It ends when the
@@ -23,8 +22,8 @@ pub fn drain_all<R: Wait, D: Door>(
     n: u8,
     to: u8,
     links: &Links,
-    givers: &[Vec<Giver<Record>>],
-    takers: &mut Vec<Taker<Record>>,
+    givers: &[Vec<Giver<Sent>>],
+    takers: &mut Vec<Taker<Sent>>,
     inlets: &mut Vec<Inlet>,
     log: &mut Log,
 ) -> Result<(), NoMemory>
@@ -57,8 +56,8 @@ fn drain_over<R: Wait, D: Door>(
     from: u8,
     to: u8,
     links: &Links,
-    givers: &[Vec<Giver<Record>>],
-    takers: &mut Vec<Taker<Record>>,
+    givers: &[Vec<Giver<Sent>>],
+    takers: &mut Vec<Taker<Sent>>,
     inlets: &mut Vec<Inlet>,
     log: &mut Log,
 ) -> Result<(), NoMemory>

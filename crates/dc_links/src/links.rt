@@ -4,18 +4,18 @@ ghost use Rattle.dc_worker.specs.Links.{IsMore};
 ghost use Rattle.dc_links.specs.Links.{IsAmong, rows_of, row_of, column_of, AreGiverRows, AreTakerRows, put_between, taken_between};
 
 use crate::rows::{close_rows, lay_row, no_rows};
+use dc_talk::Sent;
 use ids_core::NoMemory;
 use mail_link::{Giver, Link, Taker};
 use std::alloc::Global;
 use std::marker::Model;
 use std::sync::Wait;
-use tx_core::Record;
 
 /// A link from each of some centres to each of them, also to itself, though that one is not used. Contracts see which
 /// links these are: a row for each centre, in order, with its links to all.
 #[derive(Drop)]
 pub struct Links {
-    rows: Vec<Vec<Link<Record>>>,
+    rows: Vec<Vec<Link<Sent>>>,
 }
 
 impl Model for Links {
@@ -35,8 +35,8 @@ impl Model for Links {
 #[derive(Drop)]
 pub struct Laid {
     pub links: Links,
-    pub givers: Vec<Vec<Giver<Record>>>,
-    pub takers: Vec<Vec<Taker<Record>>>,
+    pub givers: Vec<Vec<Giver<Sent>>>,
+    pub takers: Vec<Vec<Taker<Sent>>>,
 }
 
 impl Links {
@@ -64,7 +64,7 @@ impl Links {
     }
 
     // The link from one centre to another.
-    pub(crate) fn between(&self, from: u8, to: u8) -> &Link<Record>
+    pub(crate) fn between(&self, from: u8, to: u8) -> &Link<Sent>
         requires from { IsAmong (length self.now) from }
         requires to { IsAmong (length self.now) to }
         ensures row { slice_get (row_of self.now from) (to - 1) ≡ Some result.now }
@@ -78,8 +78,8 @@ impl Links {
     pub fn close<R: Wait>(
         self,
         rt: &R,
-        givers: Vec<Vec<Giver<Record>>>,
-        takers: Vec<Vec<Taker<Record>>>,
+        givers: Vec<Vec<Giver<Sent>>>,
+        takers: Vec<Vec<Taker<Sent>>>,
     )
         requires givers { AreGiverRows self (rows_of givers.items) }
         requires takers { AreTakerRows self (rows_of takers.items) }

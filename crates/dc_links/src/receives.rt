@@ -6,12 +6,11 @@ ghost use Rattle.dc_links.specs.Links.{IsAmong, AreTakers};
 ghost use Rattle.dc_links.specs.Rounds.{inward, ReceivesOver, ReceivesFrom};
 
 use crate::links::Links;
-use dc_talk::{Door, Log};
+use dc_talk::{Door, Log, Sent};
 use dc_worker::{Inlet, take_round};
 use ids_core::NoMemory;
 use mail_link::Taker;
 use std::sync::Wait;
-use tx_core::Record;
 
 /// Takes from the link from each other centre of the `n` behind the door at most 64 records, and delivers to this one
 /// what comes of them. An `Err` is want of memory, or that 2^64 - 1 records were taken from a link since its fault was
@@ -22,7 +21,7 @@ pub fn receive_all<R: Wait, D: Door>(
     n: u8,
     to: u8,
     links: &Links,
-    takers: &mut Vec<Taker<Record>>,
+    takers: &mut Vec<Taker<Sent>>,
     inlets: &mut Vec<Inlet>,
     log: &mut Log,
 ) -> Result<(), NoMemory>
@@ -54,7 +53,7 @@ fn receive_over<R: Wait, D: Door>(
     from: u8,
     to: u8,
     links: &Links,
-    takers: &mut Vec<Taker<Record>>,
+    takers: &mut Vec<Taker<Sent>>,
     inlets: &mut Vec<Inlet>,
     log: &mut Log,
 ) -> Result<(), NoMemory>

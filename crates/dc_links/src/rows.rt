@@ -5,14 +5,14 @@ ghost use Rattle.dc_links.specs.Links.{IsAmong, rows_of, row_of, AreSquare, AreG
 ghost use Rattle.dc_links.specs.Laying.{ends, giver_links, taker_links, HasLink, LaysRow};
 ghost use Rattle.dc_links.specs.Closing.{ClosesRow};
 
+use dc_talk::Sent;
 use ids_core::NoMemory;
 use mail_link::{Giver, Link, Taker};
 use std::alloc::Global;
 use std::sync::Wait;
-use tx_core::Record;
 
 /// Empty rows of ends, for so many receivers.
-pub(crate) fn no_rows(alloc: Global, n: u8) -> Result<Vec<Vec<Taker<Record>>>, NoMemory>
+pub(crate) fn no_rows(alloc: Global, n: u8) -> Result<Vec<Vec<Taker<Sent>>>, NoMemory>
     ensures { IfOk result (λ rows. rows_of rows.items ≡ replicate n []) }
 {
     let mut takers = Vec::new(alloc);
@@ -25,9 +25,9 @@ pub(crate) fn no_rows(alloc: Global, n: u8) -> Result<Vec<Vec<Taker<Record>>>, N
 // Lays one link, with its ends.
 fn lay_one(
     alloc: Global,
-    row: &mut Vec<Link<Record>>,
-    givers: &mut Vec<Giver<Record>>,
-    takers: &mut Vec<Taker<Record>>,
+    row: &mut Vec<Link<Sent>>,
+    givers: &mut Vec<Giver<Sent>>,
+    takers: &mut Vec<Taker<Sent>>,
 ) -> Result<(), NoMemory>
     ensures { OnOk result (HasLink (ends row.old.items givers.old.items takers.old.items) (ends row.new.items givers.new.items takers.new.items)) }
 {
@@ -42,8 +42,8 @@ fn lay_one(
 pub(crate) fn lay_row(
     alloc: Global,
     n: u8,
-    takers: &mut Vec<Vec<Taker<Record>>>,
-) -> Result<(Vec<Link<Record>>, Vec<Giver<Record>>), NoMemory>
+    takers: &mut Vec<Vec<Taker<Sent>>>,
+) -> Result<(Vec<Link<Sent>>, Vec<Giver<Sent>>), NoMemory>
     requires { length takers.old.items ≡ n }
     ensures number { IfOk result (λ r. length r.0.items ≡ n) }
     ensures lays { IfOk result (λ r. LaysRow r.0.items r.1.items (rows_of takers.old.items) (rows_of takers.new.items)) }
@@ -62,12 +62,7 @@ pub(crate) fn lay_row(
 }
 
 // Takes a link out of use, with its end that puts and the first one of a row of those that take.
-fn close_one<R: Wait>(
-    rt: &R,
-    link: Link<Record>,
-    giver: Giver<Record>,
-    takers: &mut Vec<Taker<Record>>,
-)
+fn close_one<R: Wait>(rt: &R, link: Link<Sent>, giver: Giver<Sent>, takers: &mut Vec<Taker<Sent>>)
     requires giver { giver.link ≡ link }
     requires taker { slice_get (taker_links takers.old.items) 0 ≡ Some link }
     ensures rest { takers.new.items ≡ drop 1 takers.old.items }
@@ -80,9 +75,9 @@ fn close_one<R: Wait>(
 // Takes the links from one centre out of use, with the first end of each receiver.
 fn close_row<R: Wait>(
     rt: &R,
-    row: Vec<Link<Record>>,
-    givers: Vec<Giver<Record>>,
-    takers: &mut Vec<Vec<Taker<Record>>>,
+    row: Vec<Link<Sent>>,
+    givers: Vec<Giver<Sent>>,
+    takers: &mut Vec<Vec<Taker<Sent>>>,
 )
     requires number { length takers.old.items ≡ length row.items }
     requires givers { giver_links givers.items ≡ row.items }
@@ -101,9 +96,9 @@ fn close_row<R: Wait>(
 /// Takes links out of use, with all their ends.
 pub(crate) fn close_rows<R: Wait>(
     rt: &R,
-    rows: Vec<Vec<Link<Record>>>,
-    givers: Vec<Vec<Giver<Record>>>,
-    takers: Vec<Vec<Taker<Record>>>,
+    rows: Vec<Vec<Link<Sent>>>,
+    givers: Vec<Vec<Giver<Sent>>>,
+    takers: Vec<Vec<Taker<Sent>>>,
 )
     requires square { AreSquare (rows_of rows.items) }
     requires givers { AreGiverRows (rows_of rows.items) (rows_of givers.items) }

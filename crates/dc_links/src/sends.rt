@@ -6,12 +6,11 @@ ghost use Rattle.dc_links.specs.Links.{IsAmong, AreGivers};
 ghost use Rattle.dc_links.specs.Rounds.{SendsOver, SendsTo};
 
 use crate::links::Links;
-use dc_talk::{Door, Log};
+use dc_talk::{Door, Log, Sent};
 use dc_worker::send_round;
 use ids_core::NoMemory;
 use mail_link::Giver;
 use std::sync::Wait;
-use tx_core::Record;
 
 /// Puts on the link from a centre to each other one of the `n` behind the door what that one lacks of this centre's
 /// records, at most 64 each. An `Err` is want of memory: a part of the round may have been made.
@@ -21,7 +20,7 @@ pub fn send_all<R: Wait, D: Door>(
     n: u8,
     from: u8,
     links: &Links,
-    givers: &mut Vec<Giver<Record>>,
+    givers: &mut Vec<Giver<Sent>>,
     log: &mut Log,
 ) -> Result<(), NoMemory>
     requires centres { (D.shown door.old).centres ≡ n }
@@ -50,7 +49,7 @@ fn send_over<R: Wait, D: Door>(
     from: u8,
     to: u8,
     links: &Links,
-    givers: &mut Vec<Giver<Record>>,
+    givers: &mut Vec<Giver<Sent>>,
     log: &mut Log,
 ) -> Result<(), NoMemory>
     requires from { IsBehind (D.shown door.old) from }

@@ -5,7 +5,7 @@ use Rattle.std.proofs.lemmas.Bool.{cases_eq, eq-eqb, ne_eqb, leb-true, leb-false
 use Rattle.std.proofs.lemmas.List.{append-nil}
 use Rattle.std.proofs.lemmas.List.Elements.{filter-append}
 use Rattle.vv_core.specs.Vectors.{centres}
-use Rattle.tx_core.specs.declared.tx.Record.{Record}
+use Rattle.dc_talk.specs.declared.sent.Sent.{Sent}
 use Rattle.dc_talk.specs.declared.log.Deed.{Deed}
 use Rattle.dc_talk.specs.declared.line.Line.{Line}
 use Rattle.dc_talk.specs.Acting.{Acting}
@@ -57,7 +57,7 @@ module _ {Do : ℕ → List Deed → Type 0} (k i next : ℕ) (is : next ≡ k +
 -- ---- a sender
 
 -- more records behind those that are put
-put_both : (items more : List Record) (post : Post) → post_put more (post_put items post) ≡ post_put (items ++ more) post
+put_both : (items more : List Sent) (post : Post) → post_put more (post_put items post) ≡ post_put (items ++ more) post
 put_both items more post = λ k. record { waits = append_assoc post.waits items more k; inlet = post.inlet }
 
 put_none : (post : Post) → post_put [] post ≡ post
@@ -78,7 +78,7 @@ sent_none i posts a = record {
     same false post = refl
 
 -- over one link more
-pub sent_next : (k i next : ℕ) (old mid new : List Post) (a b c : Acting) (items : List Record) → next ≡ k + 1 → next ≢ i → HasSent k i old mid a b → CarriesSuch (λ deeds. Mails (route i next) deeds items) b c → HasSet i next (post_put items (post_at mid i next)) mid new → HasSent next i old new a c
+pub sent_next : (k i next : ℕ) (old mid new : List Post) (a b c : Acting) (items : List Sent) → next ≡ k + 1 → next ≢ i → HasSent k i old mid a b → CarriesSuch (λ deeds. Mails (route i next) deeds items) b c → HasSet i next (post_put items (post_at mid i next)) mid new → HasSent next i old new a c
 sent_next k i next old mid new a b c items is other before mails put = record {
   deeds = before.deeds ++ mails.deeds;
   such = turns_next k i next is before.deeds mails.deeds other before.such (items, mails.such);
@@ -125,7 +125,7 @@ sent_self k i next old mid a b is self before = record {
 
 -- ---- a receiver
 
-module _ (due : Post → List Record) (later : Post → Post) where
+module _ (due : Post → List Sent) (later : Post → Post) where
   -- over no links
   pub received_none : (i : ℕ) (posts : List Post) (a : Acting) → HasReceived due later 0 i posts posts a a
   received_none i posts a = record {

@@ -1,6 +1,6 @@
 -- What a round of a worker leaves in its log and on the links.
 use Rattle.std.specs.Prelude.{◌≡◌, ℕ, ◌==◌, nat_le, ◌&&◌, not, Bool, cond, List, []}
-use Rattle.tx_core.specs.declared.tx.Record.{Record}
+use Rattle.dc_talk.specs.declared.sent.Sent.{Sent}
 use Rattle.dc_talk.specs.declared.log.Deed.{Deed}
 use Rattle.dc_talk.specs.Acting.{Acting}
 use Rattle.script_text.specs.Provenance.{CarriesAll}
@@ -24,7 +24,7 @@ is_inward n i from to = (to == i && not (from == i)) && nat_le from n
 
 -- the receiver of a centre made a round over the links from the others of the first n: of each it delivers what is due,
 -- and the link is then as a round leaves it
-pub record HasReceived (due : Post → List Record) (later : Post → Post) (n i : ℕ) (old new : List Post) (a b : Acting) : Type 0 where
+pub record HasReceived (due : Post → List Sent) (later : Post → Post) (n i : ℕ) (old new : List Post) (a b : Acting) : Type 0 where
   pub deeds : List Deed
   pub such : ReceiverDeeds n i (λ from. due (post_at old from i)) deeds
   pub adds : Adds a b deeds

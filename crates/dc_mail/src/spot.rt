@@ -8,7 +8,7 @@ ghost use Rattle.script_text.specs.Rounds.{Brings};
 ghost use Rattle.dc_worker.specs.Inlets.{HasCount};
 ghost use Rattle.dc_worker.specs.Work.{AddsSuch};
 
-use dc_talk::{Door, LinkFault, Log, Records};
+use dc_talk::{Door, LinkFault, Log, Records, Sent};
 use dc_worker::{Inlet, bring, bring_rest};
 use ids_core::NoMemory;
 use script_text::MOST_MAILED;
@@ -16,12 +16,11 @@ use std::alloc::Global;
 use std::collections::VecDeque;
 use std::marker::Model;
 use std::mem::replace;
-use tx_core::Record;
 
 /// The records that were put on a link and not yet taken, in order, and the end at which they are taken.
 #[derive(Drop)]
 pub(crate) struct Spot {
-    waits: VecDeque<Record>,
+    waits: VecDeque<Sent>,
     inlet: Inlet,
 }
 
@@ -34,7 +33,7 @@ impl Model for Spot {
 }
 
 // Takes the first items, at most so many. Nothing changes where memory is refused.
-fn take_first(waits: &mut VecDeque<Record>, most: usize) -> Result<Vec<Record>, NoMemory>
+fn take_first(waits: &mut VecDeque<Sent>, most: usize) -> Result<Vec<Sent>, NoMemory>
     ensures taken { IfOk result (λ taken. taken.items ≡ take most waits.old.items) }
     ensures rest { OnOk result (waits.new.items ≡ drop most waits.old.items) }
     ensures err { OnErr result (waits.new.items ≡ waits.old.items) }

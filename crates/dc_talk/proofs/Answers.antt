@@ -7,15 +7,16 @@ use Rattle.std.proofs.lemmas.Option.{none-some, same_Some}
 use Rattle.list_core.specs.Choices.{when, first_of}
 use Rattle.list_core.proofs.Choices.{EachChoice, first_of_holds, when_holds}
 use Rattle.vv_core.specs.declared.stamp.Lack.{Lack}
-use Rattle.vv_core.specs.Vectors.{Covers, lack_of, IsFirstLack}
+use Rattle.vv_core.specs.Vectors.{at, Covers, lack_of, IsFirstLack}
 use Rattle.vv_core.proofs.Covering.{lack_of-none, lack_of-some, lack_of_covered, covers-true, covers_from}
 use Rattle.tx_core.specs.declared.tx.Tx.{Tx}
 use Rattle.tx_core.specs.declared.tx.Record.{Record}
 use Rattle.tx_core.specs.declared.state.State.{State}
 use Rattle.dc_talk.specs.declared.ask.Ask.{Ask}
-use Rattle.dc_talk.specs.declared.ask.Ask.TheVariants.{Hello, Refresh, Fetch, Commit, Send, Deliver, Report, Learn, Prune, Stop, Start}
+use Rattle.dc_talk.specs.declared.ask.Ask.TheVariants.{Hello, Refresh, Fetch, Commit, Send, Deliver, Relay, Report, Learn, Prune, Stop, Start}
 use Rattle.dc_talk.specs.declared.say.Say.{Say}
 use Rattle.dc_talk.specs.declared.say.Say.TheVariants.{Misfit, Down, Lacks, Welcome, Snap, Pruned, Object, Known, OutOfOrder, Full, Stamped, Trimmed, Records, Old, Gap, Waits, Orphan, Applied, Vector, Learned, Base, Stopped, Started}
+use Rattle.dc_talk.specs.declared.sent.Sent.{Sent}
 use Rattle.dc_talk.specs.declared.settings.Settings.{Settings}
 use Rattle.dc_talk.specs.Entries.{Entry}
 use Rattle.dc_talk.specs.Records.{count, vector, guard}
@@ -90,7 +91,7 @@ fetch_holds P have base state here lacks pruned covered = first_of_holds P (lack
     (lack_holds P Lacks lacks have here, λ none. (lack_holds P Pruned pruned here base, λ kept. covered (lack_none Lacks have here none) (lack_none Pruned here base kept)))
 
 -- what holds of a refusal of a send, and of the records that are asked for where they were not let go, holds of the answer
-pub send_holds : (P : Say → Type 0) (trimmed : ℕ) (asked : List Record) (after : ℕ) → P (Trimmed trimmed) → P (Records asked) → P (send_answer trimmed asked after)
+pub send_holds : (P : Say → Type 0) (trimmed : ℕ) (asked : List Sent) (after : ℕ) → P (Trimmed trimmed) → P (Records asked) → P (send_answer trimmed asked after)
 send_holds P trimmed asked after refused given = first_of_holds P (when (nat_le (after + 1) trimmed) (Trimmed trimmed) ∷ []) (Records asked) (when_holds _ _ _ (λ t. refused), λ z. given)
 
 -- the answers that a running centre may give to an ask that fits
@@ -109,11 +110,13 @@ may_answer (Commit tx) (Full limit) = true
 may_answer (Commit tx) (Stamped stamp) = true
 may_answer (Send after most) (Trimmed from) = true
 may_answer (Send after most) (Records list) = true
-may_answer (Deliver item) (Old have) = true
-may_answer (Deliver item) (Gap have) = true
-may_answer (Deliver item) (Waits centre n h) = true
-may_answer (Deliver item) (Orphan number have) = true
-may_answer (Deliver item) (Applied fresh) = true
+may_answer (Deliver item hops) (Old have) = true
+may_answer (Deliver item hops) (Gap have) = true
+may_answer (Deliver item hops) (Waits centre n h) = true
+may_answer (Deliver item hops) (Orphan number have) = true
+may_answer (Deliver item hops) (Applied fresh) = true
+may_answer (Relay origin after most) (Trimmed from) = true
+may_answer (Relay origin after most) (Records list) = true
 may_answer Report (Vector vector) = true
 may_answer (Learn from news) (Learned fresh) = true
 may_answer Prune (Base vector folded trimmed) = true
@@ -128,9 +131,10 @@ row_answers s trail (Refresh client here) = unless_lacking (λ say. may_answer (
 row_answers s trail (Fetch object here) = fetch_holds (λ say. may_answer (Fetch object here) say ≡ true) (vector s.n (applied s.n trail)) (horizon s trail).base _ here (λ c m h. refl) (λ c m h. refl) (λ covered kept. refl)
 row_answers s trail (Commit tx) = commit_holds (λ say. may_answer (Commit tx) say ≡ true) s (vector s.n (applied s.n trail)) (guard tx.dot.client (applied s.n trail)) (count s.me (applied s.n trail)) tx
     (when_holds _ _ _ (λ t. refl), λ z. (when_holds _ _ _ (λ t. refl), λ z. (lack_holds _ Lacks (λ c m h. refl) (vector s.n (applied s.n trail)) tx.snap, λ z. (when_holds _ _ _ (λ t. refl), λ z. refl))))
-row_answers s trail (Send after most) = send_holds (λ say. may_answer (Send after most) say ≡ true) (horizon s trail).trimmed _ after refl refl
-row_answers s trail (Deliver item) = deliver_holds (λ say. may_answer (Deliver item) say ≡ true) s (vector s.n (applied s.n trail)) (count item.stamp.centre (applied s.n trail)) (guard item.tx.dot.client (applied s.n trail)) item
+row_answers s trail (Send after most) = send_holds (λ say. may_answer (Send after most) say ≡ true) (at (horizon s trail).trimmed s.me) _ after refl refl
+row_answers s trail (Deliver item hops) = deliver_holds (λ say. may_answer (Deliver item hops) say ≡ true) s (vector s.n (applied s.n trail)) (count item.stamp.centre (applied s.n trail)) (guard item.tx.dot.client (applied s.n trail)) item
     (when_holds _ _ _ (λ t. refl), λ z. (when_holds _ _ _ (λ t. refl), λ z. (lack_holds _ Waits (λ c m h. refl) (vector s.n (applied s.n trail)) item.deps, λ z. (when_holds _ _ _ (λ t. refl), λ z. refl))))
+row_answers s trail (Relay origin after most) = send_holds (λ say. may_answer (Relay origin after most) say ≡ true) (at (horizon s trail).trimmed origin) _ after refl refl
 row_answers s trail Report = refl
 row_answers s trail (Learn from news) = refl
 row_answers s trail Prune = refl

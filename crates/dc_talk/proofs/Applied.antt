@@ -2,6 +2,7 @@
 use Rattle.std.proofs.Common.{◌≡◌, ℕ, ◌+◌, ◌-◌, ◌≤◌, Bool, true, false, cond, ◌⊎◌, inl, inr, ⊎_elim, List, [], ◌∷◌, ◌++◌, length, take, Some, refl, sym, ap, ◌∙◌, subst, arith}
 use Rattle.std.specs.Prelude.{slice_get, nat_le, ◌==◌}
 use Rattle.std.proofs.lemmas.Bool.{cases_Bool, leb-true, leb-false, eqb-true, eq-eqb, false≢true}
+use Rattle.std.proofs.lemmas.List.{map_push}
 use Rattle.std.proofs.lemmas.List.Sums.{fold_push}
 use Rattle.list_core.specs.Moments.{Each}
 use Rattle.list_core.specs.Members.{In}
@@ -18,10 +19,12 @@ use Rattle.dc_talk.specs.declared.ask.Ask.{Ask}
 use Rattle.dc_talk.specs.declared.ask.Ask.TheVariants.{Commit, Deliver}
 use Rattle.dc_talk.specs.declared.say.Say.{Say}
 use Rattle.dc_talk.specs.declared.say.Say.TheVariants.{Stamped, Applied}
+use Rattle.dc_talk.specs.declared.sent.Sent.{Sent}
 use Rattle.dc_talk.specs.declared.settings.Settings.{Settings}
 use Rattle.dc_talk.specs.Entries.{Entry}
 use Rattle.dc_talk.specs.Records.{count, guard, first_stamp, joined, deps_of}
-use Rattle.dc_talk.specs.Trails.{grown, applied}
+use Rattle.dc_talk.specs.Sents.{with_hops, items}
+use Rattle.dc_talk.specs.Trails.{carried_on, carried, applied}
 use Rattle.dc_talk.specs.Answers.{answer, History}
 use Rattle.dc_talk.specs.Laws.{IsCentreHistory, IsInOrder}
 use Rattle.dc_talk.proofs.Counts.{stamp_counted}
@@ -35,20 +38,30 @@ use Rattle.dc_talk.proofs.PeerAnswers.{AppliedBy, applied_by}
 abbrev pub new_record : ℕ → List Record → Tx → Stamp → Record
 new_record n A tx stamp = record { stamp = stamp; deps = deps_of n A tx; tx = tx }
 
--- what holds of no record, and still holds with one more that was stamped or came, holds of the applied list at each moment
+-- what holds of no record, and still holds with one more that was stamped or came, holds of the applied list with hops
+-- at each moment
+pub by_sents : (s : Settings) (trail : List Entry) (Q : List Sent → Type 0) → History s trail → Q []
+    → ((p : ℕ) (entry : Entry) (tx : Tx) (stamp : Stamp) → slice_get trail p ≡ Some entry → entry.ask ≡ Commit tx → StampedBy s (applied s.n (take p trail)) tx stamp → Q (carried s.n (take p trail)) → Q (carried s.n (take p trail) ++ with_hops (new_record s.n (applied s.n (take p trail)) tx stamp) 0 ∷ []))
+    → ((p : ℕ) (entry : Entry) (item : Record) (hops : ℕ) (fresh : Bool) → slice_get trail p ≡ Some entry → entry.ask ≡ Deliver item hops → AppliedBy s (applied s.n (take p trail)) item fresh → Q (carried s.n (take p trail)) → Q (carried s.n (take p trail) ++ with_hops item (hops + 1) ∷ []))
+    → (p : ℕ) → Q (carried s.n (take p trail))
+by_sents s trail Q history start made came = by_moments (λ X. Q (carried s.n X)) trail start step
+  where
+    step : (p : ℕ) (entry : Entry) → slice_get trail p ≡ Some entry → Q (carried s.n (take p trail)) → Q (carried s.n (take p trail ++ entry ∷ []))
+    step p entry there h = subst Q (sym (fold_push (λ C (entry : Entry). carried_on s.n C entry.ask entry.say) [] (take p trail) entry)) (go entry.ask refl entry.say refl)
+      where
+        go : (ask : Ask) → entry.ask ≡ ask → (say : Say) → entry.say ≡ say → Q (carried_on s.n (carried s.n (take p trail)) ask say)
+        go (Commit tx) asks (Stamped stamp) says = made p entry tx stamp there asks (stamped_by s (take p trail) tx stamp (sym says ∙ (history.holds p entry there ∙ ap (answer s (take p trail)) asks))) h
+        go (Deliver item hops) asks (Applied fresh) says = came p entry item hops fresh there asks (applied_by s (take p trail) item hops fresh (sym says ∙ (history.holds p entry there ∙ ap (answer s (take p trail)) asks))) h
+        go _ asks _ says = h
+
+-- the same of the applied list without hops
 pub by_records : (s : Settings) (trail : List Entry) (Q : List Record → Type 0) → History s trail → Q []
     → ((p : ℕ) (entry : Entry) (tx : Tx) (stamp : Stamp) → slice_get trail p ≡ Some entry → entry.ask ≡ Commit tx → StampedBy s (applied s.n (take p trail)) tx stamp → Q (applied s.n (take p trail)) → Q (applied s.n (take p trail) ++ new_record s.n (applied s.n (take p trail)) tx stamp ∷ []))
-    → ((p : ℕ) (entry : Entry) (item : Record) (fresh : Bool) → slice_get trail p ≡ Some entry → entry.ask ≡ Deliver item → AppliedBy s (applied s.n (take p trail)) item fresh → Q (applied s.n (take p trail)) → Q (applied s.n (take p trail) ++ item ∷ []))
+    → ((p : ℕ) (entry : Entry) (item : Record) (hops : ℕ) (fresh : Bool) → slice_get trail p ≡ Some entry → entry.ask ≡ Deliver item hops → AppliedBy s (applied s.n (take p trail)) item fresh → Q (applied s.n (take p trail)) → Q (applied s.n (take p trail) ++ item ∷ []))
     → (p : ℕ) → Q (applied s.n (take p trail))
-by_records s trail Q history start made came = by_moments (λ X. Q (applied s.n X)) trail start step
-  where
-    step : (p : ℕ) (entry : Entry) → slice_get trail p ≡ Some entry → Q (applied s.n (take p trail)) → Q (applied s.n (take p trail ++ entry ∷ []))
-    step p entry there h = subst Q (sym (fold_push (λ A entry. grown s.n A entry.ask entry.say) [] (take p trail) entry)) (go entry.ask refl entry.say refl)
-      where
-        go : (ask : Ask) → entry.ask ≡ ask → (say : Say) → entry.say ≡ say → Q (grown s.n (applied s.n (take p trail)) ask say)
-        go (Commit tx) asks (Stamped stamp) says = made p entry tx stamp there asks (stamped_by s (take p trail) tx stamp (sym says ∙ (history.holds p entry there ∙ ap (answer s (take p trail)) asks))) h
-        go (Deliver item) asks (Applied fresh) says = came p entry item fresh there asks (applied_by s (take p trail) item fresh (sym says ∙ (history.holds p entry there ∙ ap (answer s (take p trail)) asks))) h
-        go _ asks _ says = h
+by_records s trail Q history start made came = by_sents s trail (λ C. Q (items C)) history start
+    (λ p entry tx stamp there asks by h. subst Q (sym (map_push (λ (x : Sent). x.item) (carried s.n (take p trail)) (with_hops (new_record s.n (applied s.n (take p trail)) tx stamp) 0))) (made p entry tx stamp there asks by h))
+    (λ p entry item hops fresh there asks by h. subst Q (sym (map_push (λ (x : Sent). x.item) (carried s.n (take p trail)) (with_hops item (hops + 1)))) (came p entry item hops fresh there asks by h))
 
 -- centre me stamped the record for a commit that stands in its trail
 pub record WasStamped (me : ℕ) (trail : List Entry) (r : Record) : Type 0 where
@@ -58,19 +71,27 @@ pub record WasStamped (me : ℕ) (trail : List Entry) (r : Record) : Type 0 wher
   pub asks : entry.ask ≡ Commit r.tx
   pub own : r.stamp.centre ≡ me
 
--- the record is another centre's, and was delivered to centre me
-pub record WasDelivered (me : ℕ) (trail : List Entry) (r : Record) : Type 0 where
+-- the record is another centre's, and was delivered to centre me with these hops
+pub record WasDelivered (me : ℕ) (trail : List Entry) (r : Record) (hops : ℕ) : Type 0 where
   pub place : ℕ
   pub entry : Entry
   pub there : slice_get trail place ≡ Some entry
-  pub asks : entry.ask ≡ Deliver r
+  pub asks : entry.ask ≡ Deliver r hops
   pub other : r.stamp.centre ≡ me → ⊥
 
--- each record of an applied list was stamped by its centre or delivered to it
-pub came_by : (s : Settings) (trail : List Entry) → History s trail → (p : ℕ) (r : Record) → In r (applied s.n (take p trail)) → WasStamped s.me trail r ⊎ WasDelivered s.me trail r
-came_by s trail history = by_records s trail (λ A. (r : Record) → In r A → WasStamped s.me trail r ⊎ WasDelivered s.me trail r) history (λ r i. absurd i)
-    (λ p entry tx stamp there asks by rest r i. ⊎_elim (rest r) (λ same. subst (λ r. WasStamped s.me trail r ⊎ WasDelivered s.me trail r) (sym same) (inl (record { place = p; entry = entry; there = there; asks = asks; own = ap (λ (s : Stamp). s.centre) by.is }))) (In_more (applied s.n (take p trail)) (new_record s.n (applied s.n (take p trail)) tx stamp) r i))
-    (λ p entry item fresh there asks by rest r i. ⊎_elim (rest r) (λ same. subst (λ r. WasStamped s.me trail r ⊎ WasDelivered s.me trail r) (sym same) (inr (record { place = p; entry = entry; there = there; asks = asks; other = by.other }))) (In_more (applied s.n (take p trail)) item r i))
+-- how a record came to centre me with its hops: it was stamped there and has none, or it was delivered with one less
+abbrev pub Came : ℕ → List Entry → Sent → Type 0
+Came me trail x = ((x.hops ≡ 0) × WasStamped me trail x.item) ⊎ ((hops : ℕ) × (x.hops ≡ hops + 1) × WasDelivered me trail x.item hops)
+
+-- each record of an applied list came so
+pub came_by : (s : Settings) (trail : List Entry) → History s trail → (p : ℕ) (x : Sent) → In x (carried s.n (take p trail)) → Came s.me trail x
+came_by s trail history = by_sents s trail (λ C. (x : Sent) → In x C → Came s.me trail x) history (λ x i. absurd i)
+    (λ p entry tx stamp there asks by rest x i. ⊎_elim (rest x)
+    (λ same. subst (Came s.me trail) (sym same) (inl (refl, record { place = p; entry = entry; there = there; asks = asks; own = ap (λ (s : Stamp). s.centre) by.is })))
+    (In_more (carried s.n (take p trail)) (with_hops (new_record s.n (applied s.n (take p trail)) tx stamp) 0) x i))
+    (λ p entry item hops fresh there asks by rest x i. ⊎_elim (rest x)
+    (λ same. subst (Came s.me trail) (sym same) (inr (hops, refl, record { place = p; entry = entry; there = there; asks = asks; other = by.other })))
+    (In_more (carried s.n (take p trail)) (with_hops item (hops + 1)) x i))
 
 -- ---- each record is in order
 
@@ -186,7 +207,7 @@ module _ (s : Settings) (trail : List Entry) (history : IsCentreHistory s trail)
   pub in_order_at : (p : ℕ) → Each (IsInOrder s) (applied s.n (take p trail))
   in_order_at = by_records s trail (λ A. Each (IsInOrder s) A) history.history (each_none (IsInOrder s))
       (λ p entry tx stamp there asks by each. each_more (IsInOrder s) (applied s.n (take p trail)) (new_record s.n (applied s.n (take p trail)) tx stamp) each (made (applied s.n (take p trail)) tx stamp each by))
-      (λ p entry item fresh there asks by each. each_more (IsInOrder s) (applied s.n (take p trail)) item each (came (applied s.n (take p trail)) item fresh each by))
+      (λ p entry item hops fresh there asks by each. each_more (IsInOrder s) (applied s.n (take p trail)) item each (came (applied s.n (take p trail)) item fresh each by))
 
   -- and in the end
   pub in_order : Each (IsInOrder s) (applied s.n trail)

@@ -2,10 +2,11 @@
 use Rattle.std.proofs.Common.{◌≡◌, Bool, true, false, ◌&&◌, not, cond, List, refl}
 use Rattle.list_core.proofs.Choices.{when_holds}
 use Rattle.dc_talk.specs.declared.ask.Ask.{Ask}
-use Rattle.dc_talk.specs.declared.ask.Ask.TheVariants.{Hello, Refresh, Fetch, Commit, Send, Deliver, Report, Learn, Prune, Stop, Start}
+use Rattle.dc_talk.specs.declared.ask.Ask.TheVariants.{Hello, Refresh, Fetch, Commit, Send, Deliver, Relay, Report, Learn, Prune, Stop, Start}
 use Rattle.dc_talk.specs.declared.say.Say.{Say}
 use Rattle.dc_talk.specs.declared.say.Say.TheVariants.{Misfit, Down, Lacks, Waits}
 use Rattle.dc_talk.specs.declared.settings.Settings.{Settings}
+use Rattle.vv_core.specs.Vectors.{at}
 use Rattle.dc_talk.specs.Entries.{Entry}
 use Rattle.dc_talk.specs.Records.{count, vector, guard}
 use Rattle.dc_talk.specs.Trails.{applied, horizon, stopped}
@@ -20,9 +21,10 @@ row_belongs s trail (Refresh client here) = unless_lacking (λ say. belongs (Ref
 row_belongs s trail (Fetch object here) = fetch_holds (λ say. belongs (Fetch object here) say ≡ true) (vector s.n (applied s.n trail)) (horizon s trail).base _ here (λ c m h. refl) (λ c m h. refl) (λ covered kept. refl)
 row_belongs s trail (Commit tx) = commit_holds (λ say. belongs (Commit tx) say ≡ true) s (vector s.n (applied s.n trail)) (guard tx.dot.client (applied s.n trail)) (count s.me (applied s.n trail)) tx
     (when_holds _ _ _ (λ t. refl), λ z. (when_holds _ _ _ (λ t. refl), λ z. (lack_holds _ Lacks (λ c m h. refl) (vector s.n (applied s.n trail)) tx.snap, λ z. (when_holds _ _ _ (λ t. refl), λ z. refl))))
-row_belongs s trail (Send after most) = send_holds (λ say. belongs (Send after most) say ≡ true) (horizon s trail).trimmed _ after refl refl
-row_belongs s trail (Deliver item) = deliver_holds (λ say. belongs (Deliver item) say ≡ true) s (vector s.n (applied s.n trail)) (count item.stamp.centre (applied s.n trail)) (guard item.tx.dot.client (applied s.n trail)) item
+row_belongs s trail (Send after most) = send_holds (λ say. belongs (Send after most) say ≡ true) (at (horizon s trail).trimmed s.me) _ after refl refl
+row_belongs s trail (Deliver item hops) = deliver_holds (λ say. belongs (Deliver item hops) say ≡ true) s (vector s.n (applied s.n trail)) (count item.stamp.centre (applied s.n trail)) (guard item.tx.dot.client (applied s.n trail)) item
     (when_holds _ _ _ (λ t. refl), λ z. (when_holds _ _ _ (λ t. refl), λ z. (lack_holds _ Waits (λ c m h. refl) (vector s.n (applied s.n trail)) item.deps, λ z. (when_holds _ _ _ (λ t. refl), λ z. refl))))
+row_belongs s trail (Relay origin after most) = send_holds (λ say. belongs (Relay origin after most) say ≡ true) (at (horizon s trail).trimmed origin) _ after refl refl
 row_belongs s trail Report = refl
 row_belongs s trail (Learn from news) = refl
 row_belongs s trail Prune = refl

@@ -1,12 +1,13 @@
 -- How far a centre has pruned, entry by entry and at each moment.
-use Rattle.std.proofs.Common.{◌≡◌, ◌≤◌, ℕ, List, [], ◌∷◌, ◌++◌, take, Some, sym, ap, ◌∙◌, subst, arith}
+use Rattle.std.proofs.Common.{◌≡◌, ◌≤◌, ℕ, ◌⊎◌, inl, inr, ⊎_elim, List, [], ◌∷◌, ◌++◌, take, Some, sym, ap, ◌∙◌, subst, arith}
 use Rattle.std.specs.Prelude.{slice_get}
+use Rattle.std.proofs.lemmas.Bool.{cases_lt}
 use Rattle.std.proofs.lemmas.List.{append-nil, append_assoc}
 use Rattle.list_core.specs.Members.{In}
 use Rattle.list_core.proofs.Members.{In_map}
 use Rattle.list_core.proofs.Moments.{by_moments}
 use Rattle.vv_core.specs.Vectors.{at, column, least}
-use Rattle.vv_core.proofs.Entrywise.{at-tabulate_le}
+use Rattle.vv_core.proofs.Entrywise.{at-tabulate_le, at-join_of}
 use Rattle.vv_core.proofs.Least.{least_below}
 use Rattle.dc_talk.specs.declared.ask.Ask.{Ask}
 use Rattle.dc_talk.specs.declared.ask.Ask.TheVariants.{Prune}
@@ -38,6 +39,13 @@ by_prunes s trail Q first next = by_moments (λ X. Q (horizon s X)) trail first 
         go : (ask : Ask) (say : Say) → Q (horizon_after s (take p trail) (horizon s (take p trail)) ask say)
         go Prune (Base vector folded trimmed) = next p h
         go _ _ = h
+
+-- what a prune lets go was let go before, or every centre is known to have it
+pub let_go_either : (s : Settings) (trail : List Entry) (h : Horizon) (e number : ℕ) → number ≤ at (pruned s trail h).trimmed e → (number ≤ at h.trimmed e) ⊎ (number ≤ at (all_known s trail) e)
+let_go_either s trail h e number le = ⊎_elim
+    (λ less. inr (let joined = at-join_of h.trimmed (all_known s trail) e in omega (arith, joined, less, le)))
+    (λ old. inl old)
+    (cases_lt (at h.trimmed e) number)
 
 -- what every centre is known to have, each row has
 pub all_known_below : (s : Settings) (trail : List Entry) (e : ℕ) (row : List ℕ) → In row (rows s trail) → at (all_known s trail) e ≤ at row e

@@ -1,57 +1,55 @@
 -- What the answer to an ask of another centre tells of the ask and of what was applied before it.
 use Rattle.std.proofs.Common.{◌≡◌, ℕ, zero, suc, ◌+◌, ◌≤◌, Bool, true, List, [], ◌∷◌, length, refl, sym, ap, ◌∙◌, subst, arith}
-use Rattle.std.specs.Prelude.{nat_le, take, drop, is_none, ◌==◌, ◌&&◌}
+use Rattle.std.specs.Prelude.{nat_le, drop, is_none, ◌==◌, ◌&&◌}
 use Rattle.std.proofs.lemmas.Bool.{and_parts, and_from, or_parts, le-leb, leb-true, leb-false, eqb-true, eq-eqb, false≢true}
 use Rattle.list_core.specs.Members.{In}
-use Rattle.list_core.proofs.Members.{In_take, In_drop}
+use Rattle.list_core.proofs.Members.{In_take, In_drop, In_from_filter}
 use Rattle.list_core.proofs.Choices.{is_none_true, when_none, when_holds}
 use Rattle.ids_core.specs.declared.limits.TheConstants.{MOST_RECORDS}
 use Rattle.vv_core.specs.Vectors.{at, Covers}
 use Rattle.tx_core.specs.declared.tx.Record.{Record}
 use Rattle.tx_core.specs.Checks.{is_within, fault_of, IsFit}
 use Rattle.tx_core.proofs.Fits.{fault_of-none, none-fault_of}
+use Rattle.dc_talk.specs.declared.ask.TheConstants.{MOST_HOPS}
 use Rattle.dc_talk.specs.declared.ask.Ask.{Ask}
-use Rattle.dc_talk.specs.declared.ask.Ask.TheVariants.{Send, Deliver, Report}
+use Rattle.dc_talk.specs.declared.ask.Ask.TheVariants.{Send, Deliver, Relay, Report}
 use Rattle.dc_talk.specs.declared.say.Say.TheVariants.{Records, Waits, Orphan, Applied, Vector}
+use Rattle.dc_talk.specs.declared.sent.Sent.{Sent}
 use Rattle.dc_talk.specs.declared.settings.Settings.{Settings}
 use Rattle.dc_talk.specs.Entries.{Entry}
-use Rattle.dc_talk.specs.Records.{count, vector, guard, own}
-use Rattle.dc_talk.specs.Trails.{applied, horizon}
-use Rattle.dc_talk.specs.Answers.{fits, are_modest, is_fit_item, own_after, deliver_answer, answer}
+use Rattle.dc_talk.specs.Records.{count, vector, guard}
+use Rattle.dc_talk.specs.Sents.{of_origin}
+use Rattle.dc_talk.specs.Trails.{carried, applied, horizon}
+use Rattle.dc_talk.specs.Answers.{are_modest, is_fit_item, part_of, send_answer, deliver_answer, answer}
 use Rattle.dc_talk.proofs.Answers.{lack_holds, lack_none, send_holds, deliver_holds, may_answer, fitting, answers_it}
 
--- ---- a send
-
--- the ask is a send
-pub record IsSend (ask : Ask) : Type 0 where
-  pub after : ℕ
-  pub most : ℕ
-  pub is : ask ≡ Send after most
-
--- no other ask can be answered with records
-records_asked : (ask : Ask) (list : List Record) → may_answer ask (Records list) ≡ true → IsSend ask
-records_asked (Send after most) list is = record { after = after; most = most; is = refl }
-records_asked _ list is = absurd (false≢true is)
+-- ---- a send and a relay
 
 -- equal answers have equal lists
-same_list : (x y : List Record) → Records x ≡ Records y → x ≡ y
+same_list : (x y : List Sent) → Records x ≡ Records y → x ≡ y
 same_list x y same = cc
 
--- the records of a send are own records of the centre
-pub records_by : (s : Settings) (trail : List Entry) (after most : ℕ) (list : List Record) → Records list ≡ answer s trail (Send after most) → list ≡ take most (drop after (own s.me (applied s.n trail)))
-records_by s trail after most list is = send_holds (λ say. Records list ≡ say → list ≡ own_after s.me (applied s.n trail) after most) (horizon s trail).trimmed (own_after s.me (applied s.n trail) after most) after
-    (λ e. absurd (cc))
-    (λ e. same_list list (own_after s.me (applied s.n trail) after most) e)
-    (fitting s trail (Send after most) (Records list) is (λ e. cc) (λ e. cc)).1
+-- records that are answered are those that were asked for
+asked_by : (trimmed : ℕ) (asked : List Sent) (after : ℕ) (list : List Sent) → Records list ≡ send_answer trimmed asked after → list ≡ asked
+asked_by trimmed asked after list = send_holds (λ say. Records list ≡ say → list ≡ asked) trimmed asked after (λ e. absurd (cc)) (λ e. same_list list asked e)
 
--- so each record that is sent is an own record of the centre
-pub sent_by : (s : Settings) (trail : List Entry) (ask : Ask) (list : List Record) (r : Record) → Records list ≡ answer s trail ask → In r list → In r (own s.me (applied s.n trail))
-sent_by s trail ask list r is i = from_send (records_asked ask list (answers_it s trail ask (Records list) is (λ e. cc) (λ e. cc)))
-  where
-    from_send : IsSend ask → In r (own s.me (applied s.n trail))
-    from_send send =
-        let list_is = records_by s trail send.after send.most list (subst (λ ask. Records list ≡ answer s trail ask) send.is is) in
-        In_drop send.after (own s.me (applied s.n trail)) r (In_take send.most (drop send.after (own s.me (applied s.n trail))) r (subst (λ l. In r l) list_is i))
+-- the records of a send are own records of the centre
+pub records_by : (s : Settings) (trail : List Entry) (after most : ℕ) (list : List Sent) → Records list ≡ answer s trail (Send after most) → list ≡ part_of s.me (carried s.n trail) after most
+records_by s trail after most list is = asked_by (at (horizon s trail).trimmed s.me) (part_of s.me (carried s.n trail) after most) after list (fitting s trail (Send after most) (Records list) is (λ e. cc) (λ e. cc)).1
+
+-- those of a relay are records of the origin
+pub relayed_by : (s : Settings) (trail : List Entry) (origin after most : ℕ) (list : List Sent) → Records list ≡ answer s trail (Relay origin after most) → list ≡ part_of origin (carried s.n trail) after most
+relayed_by s trail origin after most list is = asked_by (at (horizon s trail).trimmed origin) (part_of origin (carried s.n trail) after most) after list (fitting s trail (Relay origin after most) (Records list) is (λ e. cc) (λ e. cc)).1
+
+-- a record of a part is an applied one of the origin
+in_part : (e : ℕ) (C : List Sent) (after most : ℕ) (x : Sent) → In x (part_of e C after most) → In x C × ((x.item.stamp.centre == e) ≡ true)
+in_part e C after most x i = In_from_filter (λ (x : Sent). x.item.stamp.centre == e) C x (In_drop after (of_origin e C) x (In_take most (drop after (of_origin e C)) x i))
+
+-- so each record of an answer is an applied one, with the hops that it has there
+pub handed_by : (s : Settings) (trail : List Entry) (ask : Ask) (list : List Sent) (x : Sent) → Records list ≡ answer s trail ask → In x list → In x (carried s.n trail)
+handed_by s trail (Send after most) list x is i = (in_part s.me (carried s.n trail) after most x (subst (In x) (records_by s trail after most list is) i)).0
+handed_by s trail (Relay origin after most) list x is i = (in_part origin (carried s.n trail) after most x (subst (In x) (relayed_by s trail origin after most list is) i)).0
+handed_by s trail ask list x is i = absurd (false≢true (answers_it s trail ask (Records list) is (λ e. cc) (λ e. cc)))
 
 -- ---- a report
 
@@ -120,11 +118,12 @@ fits_item n item fit modest =
 -- the ask is a delivery
 pub record IsDelivery (ask : Ask) : Type 0 where
   pub item : Record
-  pub is : ask ≡ Deliver item
+  pub hops : ℕ
+  pub is : ask ≡ Deliver item hops
 
 -- no other ask can be answered with an orphan
 orphan_asked : (ask : Ask) (number have : ℕ) → may_answer ask (Orphan number have) ≡ true → IsDelivery ask
-orphan_asked (Deliver item) number have is = record { item = item; is = refl }
+orphan_asked (Deliver item hops) number have is = record { item = item; hops = hops; is = refl }
 orphan_asked _ number have is = absurd (false≢true is)
 
 -- so what is answered with an orphan is a delivery
@@ -138,8 +137,8 @@ pub record OrphanBy (n : ℕ) (A : List Record) (item : Record) : Type 0 where
   pub far : guard item.tx.dot.client A + 2 ≤ item.tx.dot.number
 
 -- an orphan, by the answer
-pub orphan_by : (s : Settings) (trail : List Entry) (item : Record) (number have : ℕ) → Orphan number have ≡ answer s trail (Deliver item) → OrphanBy s.n (applied s.n trail) item
-orphan_by s trail item number have is = deliver_holds (λ say. Orphan number have ≡ say → OrphanBy s.n (applied s.n trail) item) s (vector s.n (applied s.n trail)) (count item.stamp.centre (applied s.n trail)) (guard item.tx.dot.client (applied s.n trail)) item (
+pub orphan_by : (s : Settings) (trail : List Entry) (item : Record) (hops number have : ℕ) → Orphan number have ≡ answer s trail (Deliver item hops) → OrphanBy s.n (applied s.n trail) item
+orphan_by s trail item hops number have is = deliver_holds (λ say. Orphan number have ≡ say → OrphanBy s.n (applied s.n trail) item) s (vector s.n (applied s.n trail)) (count item.stamp.centre (applied s.n trail)) (guard item.tx.dot.client (applied s.n trail)) item (
   when_holds _ _ _ (λ t e. absurd (cc)),
   λ old. (
     when_holds _ _ _ (λ t e. absurd (cc)),
@@ -154,7 +153,7 @@ orphan_by s trail item number have is = deliver_holds (λ say. Orphan number hav
       ),
     ),
   ),
-) (fitting s trail (Deliver item) (Orphan number have) is (λ e. cc) (λ e. cc)).1
+) (fitting s trail (Deliver item hops) (Orphan number have) is (λ e. cc) (λ e. cc)).1
 
 -- a delivered record that is applied after the records A
 pub record AppliedBy (s : Settings) (A : List Record) (item : Record) (fresh : Bool) : Type 0 where
@@ -170,7 +169,7 @@ same_fresh : (a b : Bool) → Applied a ≡ Applied b → a ≡ b
 same_fresh a b same = cc
 
 -- a record is applied where no refusal comes
-applied_row : (s : Settings) (A : List Record) (item : Record) (fresh : Bool) → fits s.n (Deliver item) ≡ true → Applied fresh ≡ deliver_answer s (vector s.n A) (count item.stamp.centre A) (guard item.tx.dot.client A) item → AppliedBy s A item fresh
+applied_row : (s : Settings) (A : List Record) (item : Record) (fresh : Bool) → is_fit_item s.n item ≡ true → Applied fresh ≡ deliver_answer s (vector s.n A) (count item.stamp.centre A) (guard item.tx.dot.client A) item → AppliedBy s A item fresh
 applied_row s A item fresh fit = deliver_holds (λ say. Applied fresh ≡ say → AppliedBy s A item fresh) s (vector s.n A) (count item.stamp.centre A) (guard item.tx.dot.client A) item (
   when_holds _ _ _ (λ t e. absurd (cc)),
   λ old. (
@@ -198,7 +197,7 @@ applied_row s A item fresh fit = deliver_holds (λ say. Applied fresh ≡ say �
 )
 
 -- what is applied, by the answer
-pub applied_by : (s : Settings) (trail : List Entry) (item : Record) (fresh : Bool) → Applied fresh ≡ answer s trail (Deliver item) → AppliedBy s (applied s.n trail) item fresh
-applied_by s trail item fresh is =
-    let fit = fitting s trail (Deliver item) (Applied fresh) is (λ e. cc) (λ e. cc) in
-    applied_row s (applied s.n trail) item fresh fit.0 fit.1
+pub applied_by : (s : Settings) (trail : List Entry) (item : Record) (hops : ℕ) (fresh : Bool) → Applied fresh ≡ answer s trail (Deliver item hops) → AppliedBy s (applied s.n trail) item fresh
+applied_by s trail item hops fresh is =
+    let fit = fitting s trail (Deliver item hops) (Applied fresh) is (λ e. cc) (λ e. cc) in
+    applied_row s (applied s.n trail) item fresh (and_parts (is_fit_item s.n item) (nat_le hops MOST_HOPS) fit.0).0 fit.1

@@ -9,18 +9,20 @@ use Rattle.tx_core.specs.declared.tx.Tx.{Tx}
 use Rattle.tx_core.specs.declared.tx.Record.{Record}
 use Rattle.tx_core.specs.declared.state.State.{State}
 use Rattle.tx_core.specs.Checks.{is_within, fault_of}
-use Rattle.dc_talk.specs.declared.ask.TheConstants.{MOST_SENT}
+use Rattle.dc_talk.specs.declared.ask.TheConstants.{MOST_SENT, MOST_HOPS}
 use Rattle.dc_talk.specs.declared.ask.Ask.{Ask}
-use Rattle.dc_talk.specs.declared.ask.Ask.TheVariants.{Hello, Refresh, Fetch, Commit, Send, Deliver, Report, Learn, Prune, Stop, Start}
+use Rattle.dc_talk.specs.declared.ask.Ask.TheVariants.{Hello, Refresh, Fetch, Commit, Send, Deliver, Relay, Report, Learn, Prune, Stop, Start}
 use Rattle.dc_talk.specs.declared.say.Say.{Say}
 use Rattle.dc_talk.specs.declared.say.Say.TheVariants.{Misfit, Down, Lacks, Welcome, Snap, Pruned, Object, Known, OutOfOrder, Full, Stamped, Trimmed, Records, Old, Gap, Waits, Orphan, Applied, Vector, Learned, Base, Stopped, Started}
 use Rattle.hist_lock.specs.History.{IsHistory}
+use Rattle.dc_talk.specs.declared.sent.Sent.{Sent}
 use Rattle.dc_talk.specs.declared.settings.Settings.{Settings}
 use Rattle.dc_talk.specs.Entries.{Entry}
-use Rattle.dc_talk.specs.Records.{count, vector, guard, top, own, inside, mine, has, firsts}
+use Rattle.dc_talk.specs.Records.{count, vector, guard, top, inside, mine, has, firsts}
+use Rattle.dc_talk.specs.Sents.{of_origin}
 use Rattle.dc_talk.specs.Objects.{state_at}
 use Rattle.dc_talk.specs.Clients.{same_vector}
-use Rattle.dc_talk.specs.Trails.{applied, told, stable, all_known, horizon, stopped}
+use Rattle.dc_talk.specs.Trails.{carried, applied, told, stable, horizon, pruned, stopped}
 
 -- no entry of the vector is above the most records of a centre
 abbrev pub are_modest : List ℕ → Bool
@@ -37,7 +39,8 @@ fits n (Refresh client here) = is_within 1 MOST_CLIENTS client && (length here =
 fits n (Fetch object here) = length here == n
 fits n (Commit tx) = is_none (fault_of n tx)
 fits n (Send after most) = is_within 1 MOST_SENT most
-fits n (Deliver item) = is_fit_item n item
+fits n (Deliver item hops) = is_fit_item n item && nat_le hops MOST_HOPS
+fits n (Relay origin after most) = is_within 1 n origin && is_within 1 MOST_SENT most
 fits n Report = true
 fits n Prune = true
 fits n (Learn from news) = is_within 1 n from && (length news == n) && are_modest news
@@ -70,8 +73,9 @@ commit_answer s have through stamped tx = first_of (
     ∷ when (nat_le s.limit stamped) (Full s.limit)
     ∷ []) (Stamped (record { centre = s.me; seq = stamped + 1 }))
 
--- to a send, of a centre that has let own records go up to a number, with those that are asked for
-abbrev pub send_answer : ℕ → List Record → ℕ → Say
+-- to a send or a relay, of a centre that has let the records of the origin go up to a number, with those that are asked
+-- for
+abbrev pub send_answer : ℕ → List Sent → ℕ → Say
 send_answer trimmed asked after = first_of (when (nat_le (after + 1) trimmed) (Trimmed trimmed) ∷ []) (Records asked)
 
 -- to a delivery, of a centre that has so many records of its origin, and its client's transactions up to a number
@@ -87,9 +91,9 @@ deliver_answer s have counted through item = first_of (
 abbrev pub snap_at : List Record → ℕ → List ℕ → Say
 snap_at A client w = Snap w (mine client (inside A w)) (top A)
 
--- the own records after so many, and at most so many
-abbrev pub own_after : ℕ → List Record → ℕ → ℕ → List Record
-own_after me A after most = take most (drop after (own me A))
+-- the records of an origin after so many, and at most so many, with their hops
+abbrev pub part_of : ℕ → List Sent → ℕ → ℕ → List Sent
+part_of e C after most = take most (drop after (of_origin e C))
 
 -- how many transactions have a stamp within the vector
 abbrev pub count_inside : List Record → List ℕ → ℕ
@@ -105,11 +109,12 @@ row s trail (Hello client need) = hello_answer (vector s.n (applied s.n trail)) 
 row s trail (Refresh client here) = refresh_answer (vector s.n (applied s.n trail)) (snap_at (applied s.n trail) client (join_of here (stable s trail))) here
 row s trail (Fetch object here) = fetch_answer (vector s.n (applied s.n trail)) (horizon s trail).base (state_at object (applied s.n trail) here) here
 row s trail (Commit tx) = commit_answer s (vector s.n (applied s.n trail)) (guard tx.dot.client (applied s.n trail)) (count s.me (applied s.n trail)) tx
-row s trail (Send after most) = send_answer (horizon s trail).trimmed (own_after s.me (applied s.n trail) after most) after
-row s trail (Deliver item) = deliver_answer s (vector s.n (applied s.n trail)) (count item.stamp.centre (applied s.n trail)) (guard item.tx.dot.client (applied s.n trail)) item
+row s trail (Send after most) = send_answer (at (horizon s trail).trimmed s.me) (part_of s.me (carried s.n trail) after most) after
+row s trail (Deliver item hops) = deliver_answer s (vector s.n (applied s.n trail)) (count item.stamp.centre (applied s.n trail)) (guard item.tx.dot.client (applied s.n trail)) item
+row s trail (Relay origin after most) = send_answer (at (horizon s trail).trimmed origin) (part_of origin (carried s.n trail) after most) after
 row s trail Report = Vector (vector s.n (applied s.n trail))
 row s trail (Learn from news) = Learned (tells s.me (told s.n from trail) from news)
-row s trail Prune = Base (horizon s trail).mark (count_inside (applied s.n trail) (horizon s trail).mark) (at (all_known s trail) s.me)
+row s trail Prune = Base (horizon s trail).mark (count_inside (applied s.n trail) (horizon s trail).mark) (at (pruned s trail (horizon s trail)).trimmed s.me)
 row s trail Stop = Stopped
 row s trail Start = Started
 

@@ -2,7 +2,7 @@
 use Rattle.std.specs.Prelude.{◌≡◌, ◌≢◌, ◌≤◌, ◌<◌, ◌^◌, ℕ, Bool, true, false, length, List, [], ◌∷◌, ◌++◌}
 use Rattle.list_core.specs.Members.{In}
 use Rattle.dc_talk.specs.declared.ask.Ask.{Ask}
-use Rattle.dc_talk.specs.declared.ask.Ask.TheVariants.{Hello, Refresh, Fetch, Commit, Send, Deliver, Report, Learn, Prune, Stop, Start}
+use Rattle.dc_talk.specs.declared.ask.Ask.TheVariants.{Hello, Refresh, Fetch, Commit, Send, Deliver, Relay, Report, Learn, Prune, Stop, Start}
 use Rattle.dc_talk.specs.declared.say.Say.{Say}
 use Rattle.dc_talk.specs.declared.say.Say.TheVariants.{Misfit, Down, Lacks, Welcome, Snap, Pruned, Object, Known, OutOfOrder, Full, Stamped, Trimmed, Records, Old, Gap, Waits, Orphan, Applied, Vector, Learned, Base, Stopped, Started}
 use Rattle.dc_talk.specs.declared.log.Deed.{Deed}
@@ -42,11 +42,13 @@ belongs (Commit tx) (Full limit) = true
 belongs (Commit tx) (Stamped stamp) = true
 belongs (Send after most) (Trimmed from) = true
 belongs (Send after most) (Records list) = true
-belongs (Deliver item) (Old have) = true
-belongs (Deliver item) (Gap have) = true
-belongs (Deliver item) (Waits centre wanted have) = true
-belongs (Deliver item) (Orphan number have) = true
-belongs (Deliver item) (Applied fresh) = true
+belongs (Deliver item hops) (Old have) = true
+belongs (Deliver item hops) (Gap have) = true
+belongs (Deliver item hops) (Waits centre wanted have) = true
+belongs (Deliver item hops) (Orphan number have) = true
+belongs (Deliver item hops) (Applied fresh) = true
+belongs (Relay origin after most) (Trimmed from) = true
+belongs (Relay origin after most) (Records list) = true
 belongs Report (Vector vector) = true
 belongs (Learn from news) (Learned fresh) = true
 belongs Prune (Base vector folded trimmed) = true

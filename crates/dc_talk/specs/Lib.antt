@@ -1,4 +1,5 @@
 pub mod Records
+pub mod Sents
 pub mod Dots
 pub mod Objects
 pub mod Entries

@@ -12,6 +12,9 @@ use vv_core::Vector;
 /// How many records a send asks for at most.
 pub const MOST_SENT: u32 = 1_024;
 
+/// How many hops a record has at most that is delivered.
+pub const MOST_HOPS: u8 = 7;
+
 /// One ask of a centre (Middleware 2015, sections 4 and 5). Clients are numbered from 1 to `MOST_CLIENTS`.
 #[derive(Drop)]
 pub enum Ask {
@@ -25,8 +28,10 @@ pub enum Ask {
     Commit { tx: Tx },
     /// The centre's own records, at most so many, from the one after the first `after`.
     Send { after: u64, most: u32 },
-    /// A record that another centre stamped.
-    Deliver { item: Record },
+    /// A record that another centre stamped, with the hops that it has at the centre that handed it on.
+    Deliver { item: Record, hops: u8 },
+    /// Records of any origin, at most so many, from the one numbered `after + 1` on.
+    Relay { origin: u8, after: u64, most: u32 },
     /// How many records of each centre are here.
     Report,
     /// What a centre reported.
@@ -61,8 +66,18 @@ impl Clone for Ask {
                 after: *after,
                 most: *most,
             }),
-            Ask::Deliver { item } => Ok(Ask::Deliver {
+            Ask::Deliver { item, hops } => Ok(Ask::Deliver {
                 item: item.clone()?,
+                hops: *hops,
+            }),
+            Ask::Relay {
+                origin,
+                after,
+                most,
+            } => Ok(Ask::Relay {
+                origin: *origin,
+                after: *after,
+                most: *most,
             }),
             Ask::Report => Ok(Ask::Report),
             Ask::Learn { from, vector } => Ok(Ask::Learn {
@@ -88,8 +103,8 @@ impl Ask {
 
     /// Whether the ask can be made of a centre among `n`: its vectors have `n` entries, its centre is
     /// in 1 to `n`, its client in 1 to `MOST_CLIENTS`, and its transaction passes `Tx::check`; a send
-    /// asks for 1 to `MOST_SENT` records, and what is delivered or learned has numbers of at most
-    /// `MOST_RECORDS`.
+    /// or a relay asks for 1 to `MOST_SENT` records; a delivery has at most `MOST_HOPS` hops; and what
+    /// is delivered or learned has numbers of at most `MOST_RECORDS`.
     pub fn fits(&self, n: u8) -> bool
         requires { (1 ≤ n) × (n ≤ MOST_CENTRES) }
         ensures { result ≡ fits n self.now }
@@ -100,7 +115,12 @@ impl Ask {
             Ask::Fetch { object: _, at } => at.width() == n,
             Ask::Commit { tx } => tx.check(n).is_ok(),
             Ask::Send { after: _, most } => (1..=MOST_SENT).contains(most),
-            Ask::Deliver { item } => is_fit_item(item, n),
+            Ask::Deliver { item, hops } => is_fit_item(item, n) && *hops <= MOST_HOPS,
+            Ask::Relay {
+                origin,
+                after: _,
+                most,
+            } => (1..=n).contains(origin) && (1..=MOST_SENT).contains(most),
             Ask::Report | Ask::Prune | Ask::Stop | Ask::Start => true,
             Ask::Learn { from, vector } => {
                 (1..=n).contains(from) && vector.width() == n && are_modest(vector)

@@ -14,9 +14,10 @@ mod list_door;
 mod log;
 mod replies;
 mod say;
+mod sent;
 mod settings;
 
-pub use ask::{Ask, MOST_SENT};
+pub use ask::{Ask, MOST_HOPS, MOST_SENT};
 pub use calls::{Cached, Call, Change, Connection, Outcome, Refusal};
 pub use door::Door;
 pub use entry::Entry;
@@ -28,4 +29,5 @@ pub use list_door::ListDoor;
 pub use log::{Deed, Fate, Log, Note};
 pub use replies::belongs;
 pub use say::{Records, Say};
+pub use sent::Sent;
 pub use settings::Settings;

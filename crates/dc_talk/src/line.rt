@@ -67,7 +67,7 @@ pub enum ShipEnd {
     Waits { lack: Lack },
     /// An earlier transaction of its client is missing: its number, and the greatest that is there.
     Orphan { number: u64, have: u64 },
-    /// The origin keeps its records from behind this number on alone.
+    /// The centre that was asked keeps the records of the origin from behind this number on alone.
     Trimmed { from: u64 },
     /// This centre is stopped.
     Down { centre: u8 },
@@ -248,6 +248,13 @@ pub enum Line {
     /// Records were delivered from a centre to another one, and that ended so.
     Ship {
         from: u8,
+        to: u8,
+        end: ShipEnd,
+    },
+    /// Records that the origin stamped were delivered from a centre to another one, and that ended so.
+    Relay {
+        from: u8,
+        origin: u8,
         to: u8,
         end: ShipEnd,
     },

@@ -3,7 +3,7 @@ ghost use Rattle.std.specs.Prelude.{◌≡◌, ℕ, List};
 ghost use Rattle.ids_core.specs.declared.object.ObjectId.{ObjectId};
 ghost use Rattle.tx_core.specs.declared.tx.Tx.{Tx};
 ghost use Rattle.tx_core.specs.declared.tx.Record.{Record};
-ghost use Rattle.dc_talk.specs.declared.ask.Ask.TheVariants.{Hello, Refresh, Fetch, Commit, Send, Deliver, Report, Learn, Prune, Stop, Start};
+ghost use Rattle.dc_talk.specs.declared.ask.Ask.TheVariants.{Hello, Refresh, Fetch, Commit, Send, Deliver, Relay, Report, Learn, Prune, Stop, Start};
 ghost use Rattle.dc_talk.specs.Doors.{belongs};
 
 use crate::ask::Ask;
@@ -21,6 +21,7 @@ pub fn belongs(ask: &Ask, say: &Say) -> bool
         Ask::Commit { .. } => is_to_commit(say),
         Ask::Send { .. } => is_to_send(say),
         Ask::Deliver { .. } => is_to_deliver(say),
+        Ask::Relay { .. } => is_to_relay(say),
         Ask::Report => is_to_report(say),
         Ask::Learn { .. } => is_to_learn(say),
         Ask::Prune => is_to_prune(say),
@@ -82,13 +83,23 @@ fn is_to_send(say: &Say) -> bool
 
 // Whether a delivery may be answered so.
 fn is_to_deliver(say: &Say) -> bool
-    ensures { (item : Record) → result ≡ belongs (Deliver item) say.now }
+    ensures { (item : Record) (hops : ℕ) → result ≡ belongs (Deliver item hops) say.now }
 {
     match say {
         Say::Misfit | Say::Down | Say::Old { .. } | Say::Gap { .. } => true,
         Say::Waits { .. } | Say::Orphan { .. } | Say::Applied { .. } => true,
         _ => false,
     }
+}
+
+// Whether a relay may be answered so.
+fn is_to_relay(say: &Say) -> bool
+    ensures { (origin after most : ℕ) → result ≡ belongs (Relay origin after most) say.now }
+{
+    matches!(
+        say,
+        Say::Misfit | Say::Down | Say::Trimmed { .. } | Say::Records { .. }
+    )
 }
 
 // Whether a report may be answered so.

@@ -1,14 +1,15 @@
 // What a centre answers.
 ghost use Rattle.std.specs.Prelude.{◌≡◌, IfOk};
 
+use crate::sent::Sent;
 use ids_core::NoMemory;
 use list_core::List;
 use std::alloc::AllocError;
-use tx_core::{Record, State};
+use tx_core::State;
 use vv_core::{Stamp, Vector};
 
-/// Records in their order, seen as their list.
-pub type Records = List<Record>;
+/// Records with their hops in their order, seen as their list.
+pub type Records = List<Sent>;
 
 /// One answer of a centre. Centres are numbered from 1.
 #[derive(Drop)]
@@ -61,11 +62,11 @@ pub enum Say {
     Stamped {
         stamp: Stamp,
     },
-    /// To a send: the centre keeps its own records from behind this number on alone.
+    /// To a send or a relay: the centre keeps the records of the origin from behind this number on alone.
     Trimmed {
         from: u64,
     },
-    /// To a send: the centre's own records that were asked for.
+    /// To a send or a relay: the records that were asked for, with their hops.
     Records {
         list: Records,
     },

@@ -3,21 +3,23 @@ use Rattle.std.proofs.Common.{◌≡◌, ◌≢◌, ℕ, Bool, true, false, not,
 use Rattle.std.specs.Option.{unwrap_or}
 use Rattle.std.proofs.lemmas.Bool.{eqb-true, ne_eqb, false≢true}
 use Rattle.std.proofs.lemmas.List.Sums.{fold_push}
-use Rattle.vv_core.specs.Vectors.{zeros, join_of}
-use Rattle.tx_core.specs.declared.tx.Record.{Record}
+use Rattle.vv_core.specs.Vectors.{at, zeros, join_of}
+use Rattle.dc_talk.specs.declared.sent.Sent.{Sent}
 use Rattle.dc_talk.specs.declared.settings.Settings.{Settings}
 use Rattle.dc_talk.specs.declared.ask.Ask.{Ask}
-use Rattle.dc_talk.specs.declared.ask.Ask.TheVariants.{Hello, Refresh, Fetch, Commit, Send, Deliver, Report, Learn, Prune, Stop, Start}
+use Rattle.dc_talk.specs.declared.ask.Ask.TheVariants.{Hello, Refresh, Fetch, Commit, Send, Deliver, Relay, Report, Learn, Prune, Stop, Start}
 use Rattle.dc_talk.specs.declared.say.Say.{Say}
 use Rattle.dc_talk.specs.declared.say.Say.TheVariants.{Misfit, Down, Applied, Vector, Learned}
 use Rattle.dc_talk.specs.declared.log.Fate.TheVariants.{Unheard}
 use Rattle.dc_talk.specs.declared.log.Deed.TheVariants.{Asked}
 use Rattle.dc_talk.specs.Entries.{Entry}
 use Rattle.dc_talk.specs.Records.{count, vector, guard}
+use Rattle.dc_talk.specs.Sents.{items}
 use Rattle.dc_talk.specs.Clients.{same_vector}
-use Rattle.dc_talk.specs.Trails.{grown, applied, taught_in, taught, told, switched_in, stopped, Horizon, horizon, horizon_after}
-use Rattle.dc_talk.specs.Answers.{fits, own_after, send_answer, deliver_answer, tells, answer}
+use Rattle.dc_talk.specs.Trails.{carried_on, carried, taught_in, taught, told, switched_in, stopped, Horizon, horizon, horizon_after}
+use Rattle.dc_talk.specs.Answers.{fits, part_of, send_answer, deliver_answer, tells, answer}
 use Rattle.dc_talk.proofs.Vectors.{same_vector-true}
+use Rattle.dc_talk.proofs.Growth.{carried_push}
 use Rattle.dc_talk.proofs.Horizons.{horizon_more}
 use Rattle.script_text.specs.Carrying.{is_news}
 use Rattle.dc_worker.specs.Settled.{IsAlike}
@@ -31,7 +33,8 @@ alike_then s x y z first more = record { lists = first.lists ∙ more.lists; row
 -- an ask of this centre by one who carries
 abbrev pub IsCarried : ℕ → Ask → Type 0
 IsCarried me (Send after most) = Unit {0}
-IsCarried me (Deliver item) = Unit {0}
+IsCarried me (Deliver item hops) = Unit {0}
+IsCarried me (Relay origin after most) = Unit {0}
 IsCarried me Report = Unit {0}
 IsCarried me (Learn from news) = from ≢ me
 IsCarried me _ = ⊥
@@ -42,12 +45,19 @@ IsCarried me _ = ⊥
 same_reply : (fit down off by : Bool) (a b : Say) → down ≡ off → a ≡ b → cond fit (cond (down && by) Down a) Misfit ≡ cond fit (cond (off && by) Down b) Misfit
 same_reply fit down off by a b switch same = ap (λ down. cond fit (cond (down && by) Down a) Misfit) switch ∙ ap (λ say. cond fit (cond (off && by) Down say) Misfit) same
 
+-- it hands on the records of an origin alike
+alike_part : (s : Settings) (x y : List Entry) (origin after most : ℕ) → IsAlike s x y → send_answer (at (horizon s x).trimmed origin) (part_of origin (carried s.n x) after most) after ≡ send_answer (at (horizon s y).trimmed origin) (part_of origin (carried s.n y) after most) after
+alike_part s x y origin after most alike =
+    ap (λ (h : Horizon). send_answer (at h.trimmed origin) (part_of origin (carried s.n x) after most) after) alike.horizons
+    ∙ ap (λ C. send_answer (at (horizon s y).trimmed origin) (part_of origin C after most) after) alike.lists
+
 -- the centre answers a carried ask alike
 pub alike_answer : (s : Settings) (x y : List Entry) (ask : Ask) → IsAlike s x y → IsCarried s.me ask → answer s x ask ≡ answer s y ask
 unfolding answer
-alike_answer s x y (Send after most) alike is = same_reply (fits s.n (Send after most)) (stopped x) (stopped y) true _ _ alike.switch (ap (λ (h : Horizon). send_answer h.trimmed (own_after s.me (applied s.n x) after most) after) alike.horizons ∙ ap (λ A. send_answer (horizon s y).trimmed (own_after s.me A after most) after) alike.lists)
-alike_answer s x y (Deliver item) alike is = same_reply (fits s.n (Deliver item)) (stopped x) (stopped y) true _ _ alike.switch (ap (λ A. deliver_answer s (vector s.n A) (count item.stamp.centre A) (guard item.tx.dot.client A) item) alike.lists)
-alike_answer s x y Report alike is = same_reply (fits s.n Report) (stopped x) (stopped y) true _ _ alike.switch (ap (λ A. Vector (vector s.n A)) alike.lists)
+alike_answer s x y (Send after most) alike is = same_reply (fits s.n (Send after most)) (stopped x) (stopped y) true _ _ alike.switch (alike_part s x y s.me after most alike)
+alike_answer s x y (Deliver item hops) alike is = same_reply (fits s.n (Deliver item hops)) (stopped x) (stopped y) true _ _ alike.switch (ap (λ C. deliver_answer s (vector s.n (items C)) (count item.stamp.centre (items C)) (guard item.tx.dot.client (items C)) item) alike.lists)
+alike_answer s x y (Relay origin after most) alike is = same_reply (fits s.n (Relay origin after most)) (stopped x) (stopped y) true _ _ alike.switch (alike_part s x y origin after most alike)
+alike_answer s x y Report alike is = same_reply (fits s.n Report) (stopped x) (stopped y) true _ _ alike.switch (ap (λ C. Vector (vector s.n (items C))) alike.lists)
 alike_answer s x y (Learn from news) alike is = same_reply (fits s.n (Learn from news)) (stopped x) (stopped y) true _ _ alike.switch (ap (λ row. Learned (tells s.me row from news)) (alike.rows from is))
 alike_answer s x y (Hello client need) alike is = absurd is
 alike_answer s x y (Refresh client here) alike is = absurd is
@@ -60,24 +70,26 @@ alike_answer s x y Start alike is = absurd is
 -- ---- one entry more that is not news
 
 -- a carried ask that is not news leaves the applied list
-quiet_grown : (n me i : ℕ) (A : List Record) (ask : Ask) (say : Say) → IsCarried me ask → is_news (Asked i ask (Unheard say)) ≡ false → grown n A ask say ≡ A
-quiet_grown n me i A (Send after most) say is quiet = refl
-quiet_grown n me i A (Deliver item) (Applied fresh) is quiet = absurd (false≢true (sym quiet))
-quiet_grown n me i A (Deliver item) say is quiet = refl
-quiet_grown n me i A Report say is quiet = refl
-quiet_grown n me i A (Learn from news) say is quiet = refl
-quiet_grown n me i A (Hello client need) say is quiet = absurd is
-quiet_grown n me i A (Refresh client here) say is quiet = absurd is
-quiet_grown n me i A (Fetch object here) say is quiet = absurd is
-quiet_grown n me i A (Commit tx) say is quiet = absurd is
-quiet_grown n me i A Prune say is quiet = absurd is
-quiet_grown n me i A Stop say is quiet = absurd is
-quiet_grown n me i A Start say is quiet = absurd is
+quiet_carried : (n me i : ℕ) (C : List Sent) (ask : Ask) (say : Say) → IsCarried me ask → is_news (Asked i ask (Unheard say)) ≡ false → carried_on n C ask say ≡ C
+quiet_carried n me i C (Send after most) say is quiet = refl
+quiet_carried n me i C (Deliver item hops) (Applied fresh) is quiet = absurd (false≢true (sym quiet))
+quiet_carried n me i C (Deliver item hops) say is quiet = refl
+quiet_carried n me i C (Relay origin after most) say is quiet = refl
+quiet_carried n me i C Report say is quiet = refl
+quiet_carried n me i C (Learn from news) say is quiet = refl
+quiet_carried n me i C (Hello client need) say is quiet = absurd is
+quiet_carried n me i C (Refresh client here) say is quiet = absurd is
+quiet_carried n me i C (Fetch object here) say is quiet = absurd is
+quiet_carried n me i C (Commit tx) say is quiet = absurd is
+quiet_carried n me i C Prune say is quiet = absurd is
+quiet_carried n me i C Stop say is quiet = absurd is
+quiet_carried n me i C Start say is quiet = absurd is
 
 -- it leaves the switch
 quiet_switch : (me : ℕ) (down : Bool) (ask : Ask) (say : Say) → IsCarried me ask → unwrap_or (switched_in ask say) down ≡ down
 quiet_switch me down (Send after most) say is = refl
-quiet_switch me down (Deliver item) say is = refl
+quiet_switch me down (Deliver item hops) say is = refl
+quiet_switch me down (Relay origin after most) say is = refl
 quiet_switch me down Report say is = refl
 quiet_switch me down (Learn from news) say is = refl
 quiet_switch me down (Hello client need) say is = absurd is
@@ -91,7 +103,8 @@ quiet_switch me down Start say is = absurd is
 -- it leaves the horizon
 quiet_horizon : (s : Settings) (x : List Entry) (h : Horizon) (ask : Ask) (say : Say) → IsCarried s.me ask → horizon_after s x h ask say ≡ h
 quiet_horizon s x h (Send after most) say is = refl
-quiet_horizon s x h (Deliver item) say is = refl
+quiet_horizon s x h (Deliver item hops) say is = refl
+quiet_horizon s x h (Relay origin after most) say is = refl
 quiet_horizon s x h Report say is = refl
 quiet_horizon s x h (Learn from news) say is = refl
 quiet_horizon s x h (Hello client need) say is = absurd is
@@ -133,7 +146,8 @@ quiet_taught s x i j (Learn from news) (Learned fresh) is quiet by = go (from ==
     go false there = refl
 quiet_taught s x i j (Learn from news) say is quiet by = refl
 quiet_taught s x i j (Send after most) say is quiet by = refl
-quiet_taught s x i j (Deliver item) say is quiet by = refl
+quiet_taught s x i j (Deliver item hops) say is quiet by = refl
+quiet_taught s x i j (Relay origin after most) say is quiet by = refl
 quiet_taught s x i j Report say is quiet by = refl
 quiet_taught s x i j (Hello client need) say is quiet by = absurd is
 quiet_taught s x i j (Refresh client here) say is quiet by = absurd is
@@ -146,7 +160,7 @@ quiet_taught s x i j Start say is quiet by = absurd is
 -- with a carried ask more that is not news the centre is left alike
 pub alike_more : (s : Settings) (x : List Entry) (e : Entry) → IsCarried s.me e.ask → is_news (Asked s.me e.ask (Unheard e.say)) ≡ false → e.say ≡ answer s x e.ask → IsAlike s (x ++ e ∷ []) x
 alike_more s x e is quiet by = record {
-  lists = fold_push (λ A (entry : Entry). grown s.n A entry.ask entry.say) [] x e ∙ quiet_grown s.n s.me s.me (applied s.n x) e.ask e.say is quiet;
+  lists = carried_push s.n x e ∙ quiet_carried s.n s.me s.me (carried s.n x) e.ask e.say is quiet;
   rows = λ j other. fold_push (λ row (entry : Entry). taught j row (taught_in entry.ask entry.say)) (zeros s.n) x e ∙ quiet_taught s x s.me j e.ask e.say is quiet by;
   horizons = horizon_more s x e ∙ quiet_horizon s x (horizon s x) e.ask e.say is;
   switch = fold_push (λ down (entry : Entry). unwrap_or (switched_in entry.ask entry.say) down) false x e ∙ quiet_switch s.me (stopped x) e.ask e.say is;

@@ -4,7 +4,7 @@ use Rattle.std.proofs.lemmas.Bool.{eq-eqb, ne_eqb}
 use Rattle.std.proofs.lemmas.List.{append-nil}
 use Rattle.list_core.specs.Members.{In}
 use Rattle.list_core.proofs.Members.{In_either}
-use Rattle.tx_core.specs.declared.tx.Record.{Record}
+use Rattle.dc_talk.specs.declared.sent.Sent.{Sent}
 use Rattle.dc_talk.specs.declared.ask.Ask.TheVariants.{Send, Report}
 use Rattle.dc_talk.specs.declared.say.Say.{Say}
 use Rattle.dc_talk.specs.declared.say.Say.TheVariants.{Records, Vector}
@@ -16,31 +16,31 @@ use Rattle.script_text.specs.declared.rounds.TheConstants.{MOST_MAILED}
 use Rattle.script_text.specs.Carrying.{Route}
 use Rattle.script_text.specs.Provenance.{WasSent, CarriesAll}
 use Rattle.script_text.specs.Rounds.{records_in, AfterNeeded, Mails, mailed_from, mailed}
-use Rattle.dc_worker.specs.declared.sends.Sent.{Sent}
-use Rattle.dc_worker.specs.declared.sends.Sent.TheVariants.{Items, Ended}
+use Rattle.dc_worker.specs.declared.sends.Handed.{Handed}
+use Rattle.dc_worker.specs.declared.sends.Handed.TheVariants.{Items, Ended}
 use Rattle.dc_worker.specs.Work.{AddsSuch, CarriesSuch}
-use Rattle.dc_worker.specs.Sends.{sent_of, AfterNeed, SendsFor}
+use Rattle.dc_worker.specs.Sends.{handed_of, own_part, AfterNeed, AsksFor}
 use Rattle.dc_worker.proofs.Items.{same_both}
 
 -- ---- a route
 
--- the records that a send came to
-abbrev pub items_of : Sent → List Record
+-- the records that an ask for them came to
+abbrev pub items_of : Handed → List Sent
 items_of (Items list) = list
 items_of (Ended end) = []
 
 -- these are the records of the answer
-items_sent : (from : ℕ) (say : Say) → items_of (sent_of from say) ≡ records_in say
-items_sent from (Records list) = refl
-items_sent from say = refl
+items_handed : (from : ℕ) (say : Say) → items_of (handed_of from say) ≡ records_in say
+items_handed from (Records list) = refl
+items_handed from say = refl
 
 -- what follows a report
-needed : (r : Route) (say : Say) (deeds : List Deed) (sent : Sent) → AfterNeed r MOST_MAILED say deeds sent → AfterNeeded r say deeds (items_of sent)
-needed r (Vector vector) deeds sent is = (is.0, is.1, ap items_of is.2 ∙ items_sent r.from is.0)
-needed r say deeds sent is = (is.0, ap items_of is.1)
+needed : (r : Route) (say : Say) (deeds : List Deed) (handed : Handed) → AfterNeed r (own_part r MOST_MAILED) say deeds handed → AfterNeeded r say deeds (items_of handed)
+needed r (Vector vector) deeds handed is = (is.0, is.1, ap items_of is.2 ∙ items_handed r.from is.0)
+needed r say deeds handed is = (is.0, ap items_of is.1)
 
 -- what the asks over a route carry
-pub mails_carry : (r : Route) (deeds : List Deed) (items : List Record) → Mails r deeds items → CarriesAll [] deeds
+pub mails_carry : (r : Route) (deeds : List Deed) (items : List Sent) → Mails r deeds items → CarriesAll [] deeds
 mails_carry r deeds items is = subst (CarriesAll []) (sym is.whole) (tt, after is.say is.later is.follows)
   where
     after : (say : Say) (later : List Deed) → AfterNeeded r say later items → CarriesAll (Asked r.to Report (Unheard is.say) ∷ []) later
@@ -48,9 +48,9 @@ mails_carry r deeds items is = subst (CarriesAll []) (sym is.whole) (tt, after i
     after say later follows = subst (CarriesAll (Asked r.to Report (Unheard is.say) ∷ [])) (sym follows.0) tt
 
 -- the asks of a send are those over a route
-pub mails_for : (a b : Acting) (r : Route) (sent : Sent) (items : List Record) → AddsSuch (λ deeds. SendsFor r MOST_MAILED deeds sent) a b → items ≡ items_of sent → CarriesSuch (λ deeds. Mails r deeds items) a b
-mails_for a b r sent items asked is =
-    let follows : AfterNeeded r asked.such.say asked.such.later items = subst (AfterNeeded r asked.such.say asked.such.later) (sym is) (needed r asked.such.say asked.such.later sent asked.such.follows) in
+pub mails_for : (a b : Acting) (r : Route) (handed : Handed) (items : List Sent) → AddsSuch (λ deeds. AsksFor r (own_part r MOST_MAILED) deeds handed) a b → items ≡ items_of handed → CarriesSuch (λ deeds. Mails r deeds items) a b
+mails_for a b r handed items asked is =
+    let follows : AfterNeeded r asked.such.say asked.such.later items = subst (AfterNeeded r asked.such.say asked.such.later) (sym is) (needed r asked.such.say asked.such.later handed asked.such.follows) in
     let such : Mails r asked.deeds items = record { say = asked.such.say; later = asked.such.later; whole = asked.such.whole; follows = follows } in
     record { deeds = asked.deeds; such = such; adds = asked.adds; carries = mails_carry r asked.deeds items such }
 
@@ -65,52 +65,51 @@ pub mailed_then : (last to : ℕ) (ds es : List Deed) → IsFresh es → mailed_
 mailed_then last to [] es fresh = fresh.last last to
 mailed_then last to (Asked i Report fate ∷ ds) es fresh = mailed_then i to ds es fresh
 mailed_then last to (Asked i (Send after most) (Unheard say) ∷ ds) es fresh =
-    let put : List Record = cond (last == to) (records_in say) [] in
+    let put : List Sent = cond (last == to) (records_in say) [] in
     ap (λ more. put ++ more) (mailed_then last to ds es fresh) ∙ sym (append_assoc put (mailed_from last to ds) (mailed to es))
 mailed_then last to (deed ∷ ds) es fresh = mailed_then last to ds es fresh
 
 -- what follows a report puts its items on the link to the centre that reported
-mailed_after : (r : Route) (say : Say) (deeds : List Deed) (items : List Record) (j : ℕ) → AfterNeeded r say deeds items → mailed_from r.to j deeds ≡ cond (r.to == j) items []
+mailed_after : (r : Route) (say : Say) (deeds : List Deed) (items : List Sent) (j : ℕ) → AfterNeeded r say deeds items → mailed_from r.to j deeds ≡ cond (r.to == j) items []
 mailed_after r (Vector vector) deeds items j is = ap (mailed_from r.to j) is.1 ∙ (append-nil (cond (r.to == j) (records_in is.0) []) ∙ ap (λ items. cond (r.to == j) items []) (sym is.2))
 mailed_after r say deeds items j is = ap (mailed_from r.to j) is.0 ∙ (sym (same_both (r.to == j) []) ∙ ap (λ items. cond (r.to == j) items []) (sym is.1))
 
 -- so do the asks over a route, whoever reported before
-pub mailed_over : (last : ℕ) (r : Route) (deeds : List Deed) (items : List Record) (j : ℕ) → Mails r deeds items → mailed_from last j deeds ≡ cond (r.to == j) items []
+pub mailed_over : (last : ℕ) (r : Route) (deeds : List Deed) (items : List Sent) (j : ℕ) → Mails r deeds items → mailed_from last j deeds ≡ cond (r.to == j) items []
 mailed_over last r deeds items j is = ap (mailed_from last j) is.whole ∙ mailed_after r is.say is.later items j is.follows
 
-pub mails_fresh : (r : Route) (deeds : List Deed) (items : List Record) → Mails r deeds items → IsFresh deeds
+pub mails_fresh : (r : Route) (deeds : List Deed) (items : List Sent) → Mails r deeds items → IsFresh deeds
 mails_fresh r deeds items is = record { last = λ last to. mailed_over last r deeds items to is ∙ sym (mailed_over 0 r deeds items to is) }
 
-pub mailed_route : (r : Route) (deeds : List Deed) (items : List Record) → Mails r deeds items → mailed r.to deeds ≡ items
+pub mailed_route : (r : Route) (deeds : List Deed) (items : List Sent) → Mails r deeds items → mailed r.to deeds ≡ items
 mailed_route r deeds items is = mailed_over 0 r deeds items r.to is ∙ ap (λ test. cond test items []) (eq-eqb r.to r.to refl)
 
-pub mailed_other : (r : Route) (deeds : List Deed) (items : List Record) (j : ℕ) → Mails r deeds items → j ≢ r.to → mailed j deeds ≡ []
+pub mailed_other : (r : Route) (deeds : List Deed) (items : List Sent) (j : ℕ) → Mails r deeds items → j ≢ r.to → mailed j deeds ≡ []
 mailed_other r deeds items j is other = mailed_over 0 r deeds items j is ∙ ap (λ test. cond test items []) (ne_eqb r.to j (λ same. other (sym same)))
 
-pub mailed_more : (r : Route) (ds es : List Deed) (items : List Record) (j : ℕ) → Mails r es items → mailed j (ds ++ es) ≡ mailed j ds ++ mailed j es
+pub mailed_more : (r : Route) (ds es : List Deed) (items : List Sent) (j : ℕ) → Mails r es items → mailed j (ds ++ es) ≡ mailed j ds ++ mailed j es
 mailed_more r ds es items j is = mailed_then 0 j ds es (mails_fresh r es items is)
 
 -- ---- where a record was had from
 
 -- what was sent among the later deeds was sent among all
-sent_later : (deed : Deed) (deeds : List Deed) (item : Record) → WasSent deeds item → WasSent (deed ∷ deeds) item
-sent_later deed deeds item sent = record { centre = sent.centre; after = sent.after; most = sent.most; list = sent.list; answer = record { deed = sent.answer.deed; there = inr sent.answer.there; exchanged = sent.answer.exchanged }; among = sent.among }
+sent_later : (deed : Deed) (deeds : List Deed) (item : Sent) → WasSent deeds item → WasSent (deed ∷ deeds) item
+sent_later deed deeds item sent = record { centre = sent.centre; ask = sent.ask; list = sent.list; answer = record { deed = sent.answer.deed; there = inr sent.answer.there; exchanged = sent.answer.exchanged }; among = sent.among }
 
 -- a record of the answer to the first deed
-sent_now : (i after most : ℕ) (say : Say) (deeds : List Deed) (item : Record) → In item (records_in say) → WasSent (Asked i (Send after most) (Unheard say) ∷ deeds) item
+sent_now : (i after most : ℕ) (say : Say) (deeds : List Deed) (item : Sent) → In item (records_in say) → WasSent (Asked i (Send after most) (Unheard say) ∷ deeds) item
 sent_now i after most (Records list) deeds item among =
     let here : (i == i) ≡ true = eq-eqb i i refl in
     record {
       centre = i;
-      after = after;
-      most = most;
+      ask = Send after most;
       list = list;
       answer = record { deed = Asked i (Send after most) (Unheard (Records list)); there = inl refl; exchanged = ap (λ test. cond test (Some (Send after most, Records list)) None) here };
       among = among;
     }
 sent_now i after most say deeds item among = absurd among
 
-mailed_from_sent : (last to : ℕ) (deeds : List Deed) (item : Record) → In item (mailed_from last to deeds) → WasSent deeds item
+mailed_from_sent : (last to : ℕ) (deeds : List Deed) (item : Sent) → In item (mailed_from last to deeds) → WasSent deeds item
 mailed_from_sent last to [] item among = absurd among
 mailed_from_sent last to (Asked i Report fate ∷ deeds) item among = sent_later (Asked i Report fate) deeds item (mailed_from_sent i to deeds item among)
 mailed_from_sent last to (Asked i (Send after most) (Unheard say) ∷ deeds) item among =
@@ -123,5 +122,5 @@ mailed_from_sent last to (Asked i (Send after most) (Unheard say) ∷ deeds) ite
     put false here = absurd here
 mailed_from_sent last to (deed ∷ deeds) item among = sent_later deed deeds item (mailed_from_sent last to deeds item among)
 
-pub mailed_sent : (to : ℕ) (deeds : List Deed) (item : Record) → In item (mailed to deeds) → WasSent deeds item
+pub mailed_sent : (to : ℕ) (deeds : List Deed) (item : Sent) → In item (mailed to deeds) → WasSent deeds item
 mailed_sent to deeds item among = mailed_from_sent 0 to deeds item among

@@ -15,19 +15,19 @@ use Rattle.dc_talk.specs.Entries.{Entry}
 use Rattle.dc_talk.specs.Logs.{Logged, marked, entries_made}
 use Rattle.dc_talk.specs.Acting.{Acting, Leaves}
 use Rattle.dc_talk.proofs.Doors.{made_then}
-use Rattle.script_text.specs.Carrying.{Route, routes, Ships, Tells, InTurn, no_turn, next_turn, Passes, Settles, last_pass, one_pass, is_news}
+use Rattle.script_text.specs.Carrying.{Route, routes, detours, Ships, Tells, InTurn, no_turn, next_turn, Passes, Settles, last_pass, one_pass, is_news}
 use Rattle.dc_worker.specs.declared.rounds.Round.TheVariants.{Ship, Tell}
 use Rattle.dc_worker.specs.Work.{Adds, CarriesSuch}
 use Rattle.script_text.specs.Provenance.{CarriesAll}
-use Rattle.dc_worker.specs.Rounds.{Does, passes_of}
+use Rattle.dc_worker.specs.Rounds.{Does, DoesRelay, passes_of}
 use Rattle.dc_worker.proofs.Work.{adds_none, adds_then}
 use Rattle.script_text.proofs.Provenance.{carries_both}
 
 -- ---- a pass
 
--- deliveries over all routes and then tells over all are a pass
-pub passes_both : (n : ℕ) (ds es : List Deed) → InTurn (Does Ship) (routes n) ds → InTurn (Does Tell) (routes n) es → Passes n (ds ++ es)
-passes_both n ds es ships tells = record { ships = ds; tells = es; whole = refl; shipped = ships; told_all = tells }
+-- deliveries over all routes, then relays over all detours and then tells over all routes are a pass
+pub passes_all : (n : ℕ) (ds es fs : List Deed) → InTurn (Does Ship) (routes n) ds → InTurn DoesRelay (detours n) es → InTurn (Does Tell) (routes n) fs → Passes n (ds ++ (es ++ fs))
+passes_all n ds es fs ships relays tells = record { ships = ds; relays = es; tells = fs; whole = refl; shipped = ships; relayed = relays; told_all = tells }
 
 -- news among notes is news among their deeds
 news_marked : (section step : ℕ) (ds : List Deed) → list_any (λ (note : Note). is_news note.deed) (map (marked section step) ds) ≡ list_any is_news ds
@@ -42,30 +42,32 @@ news_behind a b ds leaves =
     ∙ news_marked a.log.section a.log.step ds)
 
 -- the same with a log and a door, where it is looked up behind the notes that were there whether there was news
-pub pass_of_both : (n : ℕ) (a b c : Acting) (before : ℕ) (notes : List Note) (news : Bool) → CarriesSuch (InTurn (Does Ship) (routes n)) a b → CarriesSuch (InTurn (Does Tell) (routes n)) b c → before ≡ length a.log.notes → notes ≡ c.log.notes → news ≡ list_any (λ (note : Note). is_news note.deed) (drop before notes) → CarriesSuch (λ deeds. Passes n deeds × (news ≡ list_any is_news deeds)) a c
-pass_of_both n a b c before notes news ships tells long all found =
-    let adds : Adds a c (ships.deeds ++ tells.deeds) = adds_then a b c ships.deeds tells.deeds ships.adds tells.adds in
-    let here : list_any (λ (note : Note). is_news note.deed) (drop before notes) ≡ list_any (λ (note : Note). is_news note.deed) (drop (length a.log.notes) c.log.notes) = ap (λ k. list_any (λ (note : Note). is_news note.deed) (drop k notes)) long ∙ ap (λ (notes : List Note). list_any (λ (note : Note). is_news note.deed) (drop (length a.log.notes) notes)) all in
+pub pass_of_all : (n : ℕ) (a b c d : Acting) (before : ℕ) (notes : List Note) (news : Bool) → CarriesSuch (InTurn (Does Ship) (routes n)) a b → CarriesSuch (InTurn DoesRelay (detours n)) b c → CarriesSuch (InTurn (Does Tell) (routes n)) c d → before ≡ length a.log.notes → notes ≡ d.log.notes → news ≡ list_any (λ (note : Note). is_news note.deed) (drop before notes) → CarriesSuch (λ deeds. Passes n deeds × (news ≡ list_any is_news deeds)) a d
+pass_of_all n a b c d before notes news ships relays tells long all found =
+    let later : List Deed = relays.deeds ++ tells.deeds in
+    let adds : Adds a d (ships.deeds ++ later) = adds_then a b d ships.deeds later ships.adds (adds_then b c d relays.deeds tells.deeds relays.adds tells.adds) in
+    let here : list_any (λ (note : Note). is_news note.deed) (drop before notes) ≡ list_any (λ (note : Note). is_news note.deed) (drop (length a.log.notes) d.log.notes) = ap (λ k. list_any (λ (note : Note). is_news note.deed) (drop k notes)) long ∙ ap (λ (notes : List Note). list_any (λ (note : Note). is_news note.deed) (drop (length a.log.notes) notes)) all in
     record {
-      deeds = ships.deeds ++ tells.deeds;
-      such = (passes_both n ships.deeds tells.deeds ships.such tells.such, found ∙ (here ∙ news_behind a c (ships.deeds ++ tells.deeds) adds.leaves));
+      deeds = ships.deeds ++ later;
+      such = (passes_all n ships.deeds relays.deeds tells.deeds ships.such relays.such tells.such, found ∙ (here ∙ news_behind a d (ships.deeds ++ later) adds.leaves));
       adds = adds;
-      carries = carries_both ships.deeds tells.deeds ships.carries tells.carries;
+      carries = carries_both ships.deeds later ships.carries (carries_both relays.deeds tells.deeds relays.carries tells.carries);
     }
 
 -- ---- what a pass asks
 
--- what is done in turn over no route
-turns_empty : (Do : Route → List Deed → Type 0) (ds : List Deed) → InTurn Do [] ds → ds ≡ []
+-- what is done in turn over nothing
+turns_empty : {X : Type 0} (Do : X → List Deed → Type 0) (ds : List Deed) → InTurn Do [] ds → ds ≡ []
 turns_empty Do [] no_turn = refl
 turns_empty Do (_ ∷ _) none = elim none [ ]
 
--- with no route there is no deed, and so no news
-no_news : (n : ℕ) (ds : List Deed) → routes n ≡ [] → Passes n ds → list_any is_news ds ≡ false
-no_news n ds none passes =
+-- with no route and no detour there is no deed, and so no news
+no_news : (n : ℕ) (ds : List Deed) → routes n ≡ [] → detours n ≡ [] → Passes n ds → list_any is_news ds ≡ false
+no_news n ds none nowhere passes =
     let ships : passes.ships ≡ [] = turns_empty (λ r deeds. (end : Option ShipEnd) × Ships r deeds end) passes.ships (subst (λ all. InTurn (λ r deeds. (end : Option ShipEnd) × Ships r deeds end) all passes.ships) none passes.shipped) in
+    let relays : passes.relays ≡ [] = turns_empty DoesRelay passes.relays (subst (λ all. InTurn DoesRelay all passes.relays) nowhere passes.relayed) in
     let tells : passes.tells ≡ [] = turns_empty (λ r deeds. (line : Option Line) × Tells r deeds line) passes.tells (subst (λ all. InTurn (λ r deeds. (line : Option Line) × Tells r deeds line) all passes.tells) none passes.told_all) in
-    ap (list_any is_news) (passes.whole ∙ (ap (λ ds. ds ++ passes.tells) ships ∙ tells))
+    ap (list_any is_news) (passes.whole ∙ (ap (λ ds. ds ++ (passes.relays ++ passes.tells)) ships ∙ (ap (λ ds. ds ++ passes.tells) relays ∙ tells)))
 
 -- the first delivery asks the centre that is delivered to
 first_asked : (actor : ℕ) (r : Route) (rest : List Route) (ds : List Deed) → r.to ≡ 2 → InTurn (λ r deeds. (end : Option ShipEnd) × Ships r deeds end) (r ∷ rest) ds → entries_made actor 2 ds ≢ []
@@ -83,11 +85,12 @@ empty_front (x ∷ xs) ys none = let empty : x ∷ (xs ++ ys) ≡ [] = none in c
 
 -- a pass with news asked centre 2
 pub news_asked : (actor n : ℕ) (ds : List Deed) → Passes n ds → list_any is_news ds ≡ true → entries_made actor 2 ds ≢ []
-news_asked actor zero ds passes news none = absurd (false≢true (sym (no_news zero ds refl passes) ∙ news))
-news_asked actor (suc zero) ds passes news none = absurd (false≢true (sym (no_news (suc zero) ds refl passes) ∙ news))
+news_asked actor zero ds passes news none = absurd (false≢true (sym (no_news zero ds refl refl passes) ∙ news))
+news_asked actor (suc zero) ds passes news none = absurd (false≢true (sym (no_news (suc zero) ds refl refl passes) ∙ news))
 news_asked actor (suc (suc n)) ds passes news none =
-    let made : entries_made actor 2 passes.ships ++ entries_made actor 2 passes.tells ≡ [] = sym (made_then actor 2 passes.ships passes.tells) ∙ (ap (entries_made actor 2) (sym passes.whole) ∙ none) in
-    first_asked actor _ _ passes.ships refl passes.shipped (empty_front (entries_made actor 2 passes.ships) (entries_made actor 2 passes.tells) made)
+    let later : List Deed = passes.relays ++ passes.tells in
+    let made : entries_made actor 2 passes.ships ++ entries_made actor 2 later ≡ [] = sym (made_then actor 2 passes.ships later) ∙ (ap (entries_made actor 2) (sym passes.whole) ∙ none) in
+    first_asked actor _ _ passes.ships refl passes.shipped (empty_front (entries_made actor 2 passes.ships) (entries_made actor 2 later) made)
 
 -- ---- passes
 

@@ -1,8 +1,8 @@
 -- That what is carried again, once nothing was news, is carried as before.
-use Rattle.std.proofs.Common.{◌≡◌, ◌≢◌, ◌≤◌, ℕ, ◌||◌, Bool, true, false, not, ◌==◌, length, take, List, [], ◌∷◌, ◌++◌, map, Option, Some, None, refl, sym, ap, ◌∙◌, subst, arith}
-use Rattle.std.specs.Prelude.{MatchBool, All, slice_get, filter}
+use Rattle.std.proofs.Common.{◌≡◌, ◌≢◌, ◌≤◌, ℕ, ◌||◌, ◌&&◌, Bool, true, false, not, ◌==◌, length, take, List, [], ◌∷◌, ◌++◌, map, Option, Some, None, refl, sym, ap, ◌∙◌, subst, arith}
+use Rattle.std.specs.Prelude.{MatchBool, All, slice_get, filter, flat_map}
 use Rattle.std.specs.List.{list_any}
-use Rattle.std.proofs.lemmas.Bool.{eqb-true, eq-eqb, false≢true}
+use Rattle.std.proofs.lemmas.Bool.{eqb-true, eq-eqb, and_parts, false≢true}
 use Rattle.std.proofs.lemmas.List.{append-nil, append_assoc}
 use Rattle.std.proofs.lemmas.List.Elements.{All-head, All-tail}
 use Rattle.std.proofs.lemmas.List.Folds.{list_any-append}
@@ -11,11 +11,10 @@ use Rattle.list_core.specs.Members.{In}
 use Rattle.list_core.proofs.Members.{In-All, In_from_filter, In_from_map, In_from_flat_map}
 use Rattle.list_core.proofs.Ranges.{In_from_range}
 use Rattle.list_core.proofs.Gets.{get_seam}
-use Rattle.vv_core.specs.Vectors.{at, centres}
-use Rattle.tx_core.specs.declared.tx.Record.{Record}
+use Rattle.vv_core.specs.Vectors.{centres}
+use Rattle.dc_talk.specs.declared.sent.Sent.{Sent}
 use Rattle.dc_talk.specs.declared.ask.Ask.{Ask}
-use Rattle.dc_talk.specs.declared.ask.Ask.TheVariants.{Send, Deliver, Report, Learn}
-use Rattle.dc_talk.specs.declared.ask.TheConstants.{MOST_SENT}
+use Rattle.dc_talk.specs.declared.ask.Ask.TheVariants.{Deliver, Report, Learn}
 use Rattle.dc_talk.specs.declared.say.Say.{Say}
 use Rattle.dc_talk.specs.declared.say.Say.TheVariants.{Records, Vector}
 use Rattle.dc_talk.specs.declared.log.Fate.TheVariants.{Unheard}
@@ -27,7 +26,7 @@ use Rattle.dc_talk.specs.Entries.{Entry}
 use Rattle.dc_talk.specs.Logs.{entry_for, entries_made}
 use Rattle.dc_talk.specs.Answers.{answer, History}
 use Rattle.dc_talk.proofs.Doors.{made_one, made_other, made_then}
-use Rattle.script_text.specs.Carrying.{Route, route, routes, is_there, delivery_end, Delivers, AfterSend, Sends, AfterReport, Ships, AfterTold, Tells, InTurn, no_turn, next_turn, Passes, is_news}
+use Rattle.script_text.specs.Carrying.{Route, route, routes, Detour, detour, detours, is_there, delivery_end, Delivers, AfterSend, Sends, AfterReport, Supplies, own_need, origin_need, Ships, Relays, AfterTold, Tells, InTurn, no_turn, next_turn, Passes, is_news}
 use Rattle.dc_worker.specs.Settled.{Centres, AreNumbered, behind_deeds, PassesAmong, IsAlike}
 use Rattle.dc_worker.proofs.Alike.{alike_self, alike_then, IsCarried, alike_answer, alike_more}
 
@@ -52,11 +51,11 @@ pub record MayAsk (c : Centres) (i : ℕ) (ask : Ask) : Type 0 where
   pub carried : IsCarried i ask
 
 -- the deed of an ask
-abbrev asked : ℕ → Ask → Say → Deed
+abbrev pub asked : ℕ → Ask → Say → Deed
 asked i ask say = Asked i ask (Unheard say)
 
 -- the entry of the next ask stands behind the trail so far
-next_entry : (c last : Centres) (actor i : ℕ) (ask : Ask) (say : Say) (rest : List Deed) (run : Runs c last actor (asked i ask say ∷ rest)) → last.trails i ≡ run.now i ++ entry_for actor (ask, say) ∷ entries_made actor i rest
+pub next_entry : (c last : Centres) (actor i : ℕ) (ask : Ask) (say : Say) (rest : List Deed) (run : Runs c last actor (asked i ask say ∷ rest)) → last.trails i ≡ run.now i ++ entry_for actor (ask, say) ∷ entries_made actor i rest
 next_entry c last actor i ask say rest run =
     run.whole i ∙ ap (λ es. run.now i ++ es) (made_then actor i (asked i ask say ∷ []) rest ∙ ap (λ es. es ++ entries_made actor i rest) (made_one actor i i ask (Unheard say) say (eq-eqb i i refl) refl))
 
@@ -73,13 +72,13 @@ carried_by : (c : Centres) (i : ℕ) (ask : Ask) → AreNumbered c → IsCarried
 carried_by c i ask numbered is = subst (λ me. IsCarried me ask) (sym (numbered.me i)) is
 
 -- the next answer is the one that the centre gave at first
-answer_first : (c last : Centres) (actor i : ℕ) (ask : Ask) (say : Say) (rest : List Deed) → EndsWell c last → MayAsk c i ask → Runs c last actor (asked i ask say ∷ rest) → say ≡ answer (c.settings i) (c.trails i) ask
+pub answer_first : (c last : Centres) (actor i : ℕ) (ask : Ask) (say : Say) (rest : List Deed) → EndsWell c last → MayAsk c i ask → Runs c last actor (asked i ask say ∷ rest) → say ≡ answer (c.settings i) (c.trails i) ask
 answer_first c last actor i ask say rest well may run =
     answer_now c last actor i ask say rest well may run
     ∙ alike_answer (c.settings i) (run.now i) (c.trails i) ask (run.alike i) (carried_by c i ask well.numbered may.carried)
 
 -- where it is not news, the run goes on
-goes_on : (c last : Centres) (actor i : ℕ) (ask : Ask) (say : Say) (rest : List Deed) → EndsWell c last → MayAsk c i ask → is_news (asked i ask say) ≡ false → Runs c last actor (asked i ask say ∷ rest) → Runs c last actor rest
+pub goes_on : (c last : Centres) (actor i : ℕ) (ask : Ask) (say : Say) (rest : List Deed) → EndsWell c last → MayAsk c i ask → is_news (asked i ask say) ≡ false → Runs c last actor (asked i ask say ∷ rest) → Runs c last actor rest
 goes_on c last actor i ask say rest well may quiet run = record {
   now = λ j. run.now j ++ entries_made actor j (asked i ask say ∷ []);
   whole = λ j. run.whole j ∙ (ap (λ es. run.now j ++ es) (made_then actor j (asked i ask say ∷ []) rest) ∙ sym (append_assoc (run.now j) (entries_made actor j (asked i ask say ∷ [])) (entries_made actor j rest)));
@@ -125,7 +124,7 @@ pub record Repeats (c : Centres) (b : Both) (ds es : List Deed) (rests : List De
   pub run : BothRun c b rests.0 rests.1
 
 -- the parts of what is not news
-or_false : (a b : Bool) → a || b ≡ false → (a ≡ false) × (b ≡ false)
+pub or_false : (a b : Bool) → a || b ≡ false → (a ≡ false) × (b ≡ false)
 or_false true b none = absurd (false≢true (sym none))
 or_false false b none = (refl, none)
 
@@ -142,21 +141,21 @@ twice_ask c b i ask say again rest more well may quiet run =
 
 -- ---- deliveries
 
-twice_delivers : (c : Centres) (b : Both) (to : ℕ) (items : List Record) (last : Option ShipEnd) (ds es : List Deed) (end again : Option ShipEnd) (rest more : List Deed) → BothWell c b → 1 ≤ to → to ≤ c.n → list_any is_news ds ≡ false → Delivers to items last ds end → Delivers to items last es again → BothRun c b (ds ++ rest) (es ++ more) → Repeats c b ds es (rest, more)
+twice_delivers : (c : Centres) (b : Both) (to : ℕ) (items : List Sent) (last : Option ShipEnd) (ds es : List Deed) (end again : Option ShipEnd) (rest more : List Deed) → BothWell c b → 1 ≤ to → to ≤ c.n → list_any is_news ds ≡ false → Delivers to items last ds end → Delivers to items last es again → BothRun c b (ds ++ rest) (es ++ more) → Repeats c b ds es (rest, more)
 twice_delivers c b to [] last ds es end again rest more well low high quiet one two run =
     record { same = two.0 ∙ sym one.0; run = subst (λ left. BothRun c b (left ++ rest) more) one.0 (subst (λ left. BothRun c b (ds ++ rest) (left ++ more)) two.0 run) }
 twice_delivers c b to (item ∷ items) last [] es end again rest more well low high quiet one two run = absurd one
 twice_delivers c b to (item ∷ items) last (d ∷ ds) [] end again rest more well low high quiet one two run = absurd two
 twice_delivers c b to (item ∷ items) last (d ∷ ds) (e ∷ es) end again rest more well low high quiet one two run =
     let news = or_false (is_news d) (list_any is_news ds) quiet in
-    let front : BothRun c b (asked to (Deliver item) one.0 ∷ (ds ++ rest)) (asked to (Deliver item) two.0 ∷ (es ++ more)) = subst (λ deed. BothRun c b (deed ∷ (ds ++ rest)) (asked to (Deliver item) two.0 ∷ (es ++ more))) one.1 (subst (λ deed. BothRun c b (d ∷ (ds ++ rest)) (deed ∷ (es ++ more))) two.1 run) in
-    let may : MayAsk c to (Deliver item) = record { low = low; high = high; carried = tt } in
-    let step = twice_ask c b to (Deliver item) one.0 two.0 (ds ++ rest) (es ++ more) well may (ap is_news (sym one.1) ∙ news.0) front in
-    let follows = subst (λ say. MatchBool (is_there say) (Delivers to items (delivery_end to item say) es again) ((es ≡ []) × (again ≡ delivery_end to item say))) step.0 two.2 in
-    go (is_there one.0) one.2 follows news.1 step.1 (two.1 ∙ (ap (λ say. asked to (Deliver item) say) step.0 ∙ sym one.1))
-    (λ first later. twice_delivers c b to items (delivery_end to item one.0) ds es end again rest more well low high news.1 first later step.1)
+    let front : BothRun c b (asked to (Deliver item.item item.hops) one.0 ∷ (ds ++ rest)) (asked to (Deliver item.item item.hops) two.0 ∷ (es ++ more)) = subst (λ deed. BothRun c b (deed ∷ (ds ++ rest)) (asked to (Deliver item.item item.hops) two.0 ∷ (es ++ more))) one.1 (subst (λ deed. BothRun c b (d ∷ (ds ++ rest)) (deed ∷ (es ++ more))) two.1 run) in
+    let may : MayAsk c to (Deliver item.item item.hops) = record { low = low; high = high; carried = tt } in
+    let step = twice_ask c b to (Deliver item.item item.hops) one.0 two.0 (ds ++ rest) (es ++ more) well may (ap is_news (sym one.1) ∙ news.0) front in
+    let follows = subst (λ say. MatchBool (is_there say) (Delivers to items (delivery_end to item.item say) es again) ((es ≡ []) × (again ≡ delivery_end to item.item say))) step.0 two.2 in
+    go (is_there one.0) one.2 follows news.1 step.1 (two.1 ∙ (ap (λ say. asked to (Deliver item.item item.hops) say) step.0 ∙ sym one.1))
+    (λ first later. twice_delivers c b to items (delivery_end to item.item one.0) ds es end again rest more well low high news.1 first later step.1)
   where
-    go : (test : Bool) → MatchBool test (Delivers to items (delivery_end to item one.0) ds end) ((ds ≡ []) × (end ≡ delivery_end to item one.0)) → MatchBool test (Delivers to items (delivery_end to item one.0) es again) ((es ≡ []) × (again ≡ delivery_end to item one.0)) → list_any is_news ds ≡ false → BothRun c b (ds ++ rest) (es ++ more) → e ≡ d → (Delivers to items (delivery_end to item one.0) ds end → Delivers to items (delivery_end to item one.0) es again → Repeats c b ds es (rest, more)) → Repeats c b (d ∷ ds) (e ∷ es) (rest, more)
+    go : (test : Bool) → MatchBool test (Delivers to items (delivery_end to item.item one.0) ds end) ((ds ≡ []) × (end ≡ delivery_end to item.item one.0)) → MatchBool test (Delivers to items (delivery_end to item.item one.0) es again) ((es ≡ []) × (again ≡ delivery_end to item.item one.0)) → list_any is_news ds ≡ false → BothRun c b (ds ++ rest) (es ++ more) → e ≡ d → (Delivers to items (delivery_end to item.item one.0) ds end → Delivers to items (delivery_end to item.item one.0) es again → Repeats c b ds es (rest, more)) → Repeats c b (d ∷ ds) (e ∷ es) (rest, more)
     go true first later none left head on =
         let after = on first later in
         record { same = ap (λ deed. deed ∷ es) head ∙ ap (λ tail. d ∷ tail) after.same; run = after.run }
@@ -193,19 +192,23 @@ twice_after_send : (c : Centres) (b : Both) (r : Route) (last : Option ShipEnd) 
 twice_after_send c b r last (Records list) ds es end again rest more well is quiet one two run = twice_delivers c b r.to list last ds es end again rest more well is.to.0 is.to.1 quiet one two run
 twice_after_send c b r last say ds es end again rest more well is quiet one two run = twice_nothing c b ds es rest more one.0 two.0 run
 
-twice_sends : (c : Centres) (b : Both) (r : Route) (last : Option ShipEnd) (after most : ℕ) (ds es : List Deed) (end again : Option ShipEnd) (rest more : List Deed) → BothWell c b → IsRoute c r → list_any is_news ds ≡ false → Sends r last (Send after most) ds end → Sends r last (Send after most) es again → BothRun c b (ds ++ rest) (es ++ more) → Repeats c b ds es (rest, more)
-twice_sends c b r last after most ds es end again rest more well is quiet one two run =
-    twice_begun c b r.from (Send after most) one.say two.say ds es one.later two.later rest more one.whole two.whole well (record { low = is.from.0; high = is.from.1; carried = tt }) quiet run
+twice_sends : (c : Centres) (b : Both) (r : Route) (last : Option ShipEnd) (ask : Ask) (ds es : List Deed) (end again : Option ShipEnd) (rest more : List Deed) → BothWell c b → IsRoute c r → IsCarried r.from ask → list_any is_news ds ≡ false → Sends r last ask ds end → Sends r last ask es again → BothRun c b (ds ++ rest) (es ++ more) → Repeats c b ds es (rest, more)
+twice_sends c b r last ask ds es end again rest more well is carried quiet one two run =
+    twice_begun c b r.from ask one.say two.say ds es one.later two.later rest more one.whole two.whole well (record { low = is.from.0; high = is.from.1; carried = carried }) quiet run
     (λ same none left. twice_after_send c b r last one.say one.later two.later end again rest more well is none one.follows (subst (λ say. AfterSend r last say two.later again) same two.follows) left)
 
-twice_after_report : (c : Centres) (b : Both) (r : Route) (say : Say) (ds es : List Deed) (end again : Option ShipEnd) (rest more : List Deed) → BothWell c b → IsRoute c r → list_any is_news ds ≡ false → AfterReport r say ds end → AfterReport r say es again → BothRun c b (ds ++ rest) (es ++ more) → Repeats c b ds es (rest, more)
-twice_after_report c b r (Vector vector) ds es end again rest more well is quiet one two run = twice_sends c b r None (at vector r.from) MOST_SENT ds es end again rest more well is quiet one two run
-twice_after_report c b r say ds es end again rest more well is quiet one two run = twice_nothing c b ds es rest more one.0 two.0 run
+-- what is needed of the centre that supplies may be carried to it, whatever the vector
+abbrev IsCarriedNeed : Route → (List ℕ → Ask) → Type 0
+IsCarriedNeed r need = (vector : List ℕ) → IsCarried r.from (need vector)
 
-twice_ships : (c : Centres) (b : Both) (r : Route) (ds es : List Deed) (end again : Option ShipEnd) (rest more : List Deed) → BothWell c b → IsRoute c r → list_any is_news ds ≡ false → Ships r ds end → Ships r es again → BothRun c b (ds ++ rest) (es ++ more) → Repeats c b ds es (rest, more)
-twice_ships c b r ds es end again rest more well is quiet one two run =
+twice_after_report : (c : Centres) (b : Both) (r : Route) (need : List ℕ → Ask) (say : Say) (ds es : List Deed) (end again : Option ShipEnd) (rest more : List Deed) → BothWell c b → IsRoute c r → IsCarriedNeed r need → list_any is_news ds ≡ false → AfterReport r need say ds end → AfterReport r need say es again → BothRun c b (ds ++ rest) (es ++ more) → Repeats c b ds es (rest, more)
+twice_after_report c b r need (Vector vector) ds es end again rest more well is carried quiet one two run = twice_sends c b r None (need vector) ds es end again rest more well is (carried vector) quiet one two run
+twice_after_report c b r need say ds es end again rest more well is carried quiet one two run = twice_nothing c b ds es rest more one.0 two.0 run
+
+twice_supplies : (c : Centres) (b : Both) (r : Route) (need : List ℕ → Ask) (ds es : List Deed) (end again : Option ShipEnd) (rest more : List Deed) → BothWell c b → IsRoute c r → IsCarriedNeed r need → list_any is_news ds ≡ false → Supplies r need ds end → Supplies r need es again → BothRun c b (ds ++ rest) (es ++ more) → Repeats c b ds es (rest, more)
+twice_supplies c b r need ds es end again rest more well is carried quiet one two run =
     twice_begun c b r.to Report one.say two.say ds es one.later two.later rest more one.whole two.whole well (record { low = is.to.0; high = is.to.1; carried = tt }) quiet run
-    (λ same none left. twice_after_report c b r one.say one.later two.later end again rest more well is none one.follows (subst (λ say. AfterReport r say two.later again) same two.follows) left)
+    (λ same none left. twice_after_report c b r need one.say one.later two.later end again rest more well is carried none one.follows (subst (λ say. AfterReport r need say two.later again) same two.follows) left)
 
 twice_after_told : (c : Centres) (b : Both) (r : Route) (say : Say) (ds es : List Deed) (line again : Option Line) (rest more : List Deed) → BothWell c b → IsRoute c r → list_any is_news ds ≡ false → AfterTold r say ds line → AfterTold r say es again → BothRun c b (ds ++ rest) (es ++ more) → Repeats c b ds es (rest, more)
 twice_after_told c b r (Vector vector) ds es line again rest more well is quiet one two run =
@@ -221,7 +224,7 @@ twice_tells c b r ds es line again rest more well is quiet one two run =
 -- ---- turns
 
 -- news of deeds in two parts
-parts_quiet : (ds es : List Deed) → list_any is_news (ds ++ es) ≡ false → (list_any is_news ds ≡ false) × (list_any is_news es ≡ false)
+pub parts_quiet : (ds es : List Deed) → list_any is_news (ds ++ es) ≡ false → (list_any is_news ds ≡ false) × (list_any is_news es ≡ false)
 parts_quiet ds es quiet = or_false (list_any is_news ds) (list_any is_news es) (sym (list_any-append is_news ds es) ∙ quiet)
 
 -- what is repeated in each of two parts is repeated in both
@@ -234,21 +237,21 @@ twice_parts c b ds front back es fore hind rest more is was quiet run first late
     let ended = later news.1 begun.run in
     record { same = was ∙ (ap (λ all. all ++ hind) begun.same ∙ (ap (λ all. front ++ all) ended.same ∙ sym is)); run = ended.run }
 
--- over a route deeds of this kind are repeated
-abbrev Repeatable : Centres → Both → (Route → List Deed → Type 0) → Type 0
-Repeatable c b Do = (r : Route) (ds es rest more : List Deed) → IsRoute c r → list_any is_news ds ≡ false → Do r ds → Do r es → BothRun c b (ds ++ rest) (es ++ more) → Repeats c b ds es (rest, more)
+-- over what is so deeds of this kind are repeated
+abbrev pub Repeatable : {X : Type 0} → Centres → Both → (X → Type 0) → (X → List Deed → Type 0) → Type 0
+Repeatable {X} c b Is Do = (x : X) (ds es rest more : List Deed) → Is x → list_any is_news ds ≡ false → Do x ds → Do x es → BothRun c b (ds ++ rest) (es ++ more) → Repeats c b ds es (rest, more)
 
-twice_turns : (c : Centres) (b : Both) (Do : Route → List Deed → Type 0) → Repeatable c b Do → (rs : List Route) (ds es rest more : List Deed) → All (IsRoute c) rs → list_any is_news ds ≡ false → InTurn Do rs ds → InTurn Do rs es → BothRun c b (ds ++ rest) (es ++ more) → Repeats c b ds es (rest, more)
-twice_turns c b Do each [] ds es rest more all quiet no_turn no_turn run = record { same = refl; run = run }
-twice_turns c b Do each (r ∷ rs) ds es rest more all quiet (next_turn front back is does turns) (next_turn fore hind was again others) run =
+pub twice_turns : {X : Type 0} (c : Centres) (b : Both) (Is : X → Type 0) (Do : X → List Deed → Type 0) → Repeatable c b Is Do → (xs : List X) (ds es rest more : List Deed) → All Is xs → list_any is_news ds ≡ false → InTurn Do xs ds → InTurn Do xs es → BothRun c b (ds ++ rest) (es ++ more) → Repeats c b ds es (rest, more)
+twice_turns c b Is Do each [] ds es rest more all quiet no_turn no_turn run = record { same = refl; run = run }
+twice_turns c b Is Do each (x ∷ xs) ds es rest more all quiet (next_turn front back is does turns) (next_turn fore hind was again others) run =
     twice_parts c b ds front back es fore hind rest more is was quiet run
-    (λ none left. each r front fore (back ++ rest) (hind ++ more) (All-head (IsRoute c) r rs all) none does again left)
-    (λ none left. twice_turns c b Do each rs back hind rest more (All-tail (IsRoute c) r rs all) none turns others left)
+    (λ none left. each x front fore (back ++ rest) (hind ++ more) (All-head Is x xs all) none does again left)
+    (λ none left. twice_turns c b Is Do each xs back hind rest more (All-tail Is x xs all) none turns others left)
 
 -- ---- passes
 
 -- all routes are between these centres
-routes_between : (c : Centres) → All (IsRoute c) (routes c.n)
+pub routes_between : (c : Centres) → All (IsRoute c) (routes c.n)
 routes_between c = In-All (IsRoute c) (routes c.n) each
   where
     each : (r : Route) → In r (routes c.n) → IsRoute c r
@@ -264,22 +267,50 @@ routes_between c = In-All (IsRoute c) (routes c.n) each
           apart = λ same. false≢true (ap not (sym (eq-eqb of.0 to.0 same)) ∙ kept.1);
         })
 
+-- a detour is from one of these centres to another
+abbrev pub IsDetour : Centres → Detour → Type 0
+IsDetour c t = IsRoute c (route t.from t.to)
+
+pub detours_between : (c : Centres) → All (IsDetour c) (detours c.n)
+detours_between c = In-All (IsDetour c) (detours c.n) each
+  where
+    each : (t : Detour) → In t (detours c.n) → IsDetour c t
+    each t is =
+        let from = In_from_flat_map (λ i. flat_map (λ o. map (detour i o) (filter (λ j. not (i == j) && not (o == j)) (centres c.n))) (filter (λ o. not (i == o)) (centres c.n))) (centres c.n) t is in
+        let over = In_from_flat_map (λ o. map (detour from.0 o) (filter (λ j. not (from.0 == j) && not (o == j)) (centres c.n))) (filter (λ o. not (from.0 == o)) (centres c.n)) t from.2 in
+        let to = In_from_map (detour from.0 over.0) (filter (λ j. not (from.0 == j) && not (over.0 == j)) (centres c.n)) t over.2 in
+        let kept = In_from_filter (λ j. not (from.0 == j) && not (over.0 == j)) (centres c.n) to.0 to.1 in
+        let apart = and_parts (not (from.0 == to.0)) (not (over.0 == to.0)) kept.1 in
+        let from_range = In_from_range 1 c.n from.0 from.1 in
+        let to_range = In_from_range 1 c.n to.0 kept.0 in
+        subst (IsDetour c) (sym to.2) (record {
+          from = (from_range.0, omega (arith, from_range.1));
+          to = (to_range.0, omega (arith, to_range.1));
+          apart = λ same. false≢true (ap not (sym (eq-eqb from.0 to.0 same)) ∙ apart.0);
+        })
+
+-- so are deliveries over a route, and relays over a detour
+pub twice_ships : (c : Centres) (b : Both) → BothWell c b → Repeatable c b (IsRoute c) (λ r deeds. (end : Option ShipEnd) × Ships r deeds end)
+twice_ships c b well r ds es rest more is none does again left = twice_supplies c b r (own_need r) ds es does.0 again.0 rest more well is (λ vector. tt) none does.1 again.1 left
+
+pub twice_relays : (c : Centres) (b : Both) → BothWell c b → Repeatable c b (IsDetour c) (λ t deeds. (end : Option ShipEnd) × Relays t deeds end)
+twice_relays c b well t ds es rest more is none does again left = twice_supplies c b (route t.from t.to) (origin_need t) ds es does.0 again.0 rest more well is (λ vector. tt) none does.1 again.1 left
+
 twice_passes : (c : Centres) (b : Both) (ds es rest more : List Deed) → BothWell c b → list_any is_news ds ≡ false → Passes c.n ds → Passes c.n es → BothRun c b (ds ++ rest) (es ++ more) → Repeats c b ds es (rest, more)
 twice_passes c b ds es rest more well quiet one two run =
-    twice_parts c b ds one.ships one.tells es two.ships two.tells rest more one.whole two.whole quiet run
-    (λ none left. twice_turns c b (λ r deeds. (end : Option ShipEnd) × Ships r deeds end) ships (routes c.n) one.ships two.ships (one.tells ++ rest) (two.tells ++ more) (routes_between c) none one.shipped two.shipped left)
-    (λ none left. twice_turns c b (λ r deeds. (line : Option Line) × Tells r deeds line) tells (routes c.n) one.tells two.tells rest more (routes_between c) none one.told_all two.told_all left)
+    twice_parts c b ds one.ships (one.relays ++ one.tells) es two.ships (two.relays ++ two.tells) rest more one.whole two.whole quiet run
+    (λ none left. twice_turns c b (IsRoute c) (λ r deeds. (end : Option ShipEnd) × Ships r deeds end) (twice_ships c b well) (routes c.n) one.ships two.ships ((one.relays ++ one.tells) ++ rest) ((two.relays ++ two.tells) ++ more) (routes_between c) none one.shipped two.shipped left)
+    (λ none left. twice_parts c b (one.relays ++ one.tells) one.relays one.tells (two.relays ++ two.tells) two.relays two.tells rest more refl refl none left
+    (λ none left. twice_turns c b (IsDetour c) (λ t deeds. (end : Option ShipEnd) × Relays t deeds end) (twice_relays c b well) (detours c.n) one.relays two.relays (one.tells ++ rest) (two.tells ++ more) (detours_between c) none one.relayed two.relayed left)
+    (λ none left. twice_turns c b (IsRoute c) (λ r deeds. (line : Option Line) × Tells r deeds line) tells (routes c.n) one.tells two.tells rest more (routes_between c) none one.told_all two.told_all left))
   where
-    ships : Repeatable c b (λ r deeds. (end : Option ShipEnd) × Ships r deeds end)
-    ships r ds es rest more is none does again left = twice_ships c b r ds es does.0 again.0 rest more well is none does.1 again.1 left
-
-    tells : Repeatable c b (λ r deeds. (line : Option Line) × Tells r deeds line)
+    tells : Repeatable c b (IsRoute c) (λ r deeds. (line : Option Line) × Tells r deeds line)
     tells r ds es rest more is none does again left = twice_tells c b r ds es does.0 again.0 rest more well is none does.1 again.1 left
 
 -- ---- a pass behind one without news
 
 -- a run from the trails at first
-run_begins : (c : Centres) (actor : ℕ) (ds : List Deed) → Runs c (behind_deeds c actor ds) actor (ds ++ [])
+pub run_begins : (c : Centres) (actor : ℕ) (ds : List Deed) → Runs c (behind_deeds c actor ds) actor (ds ++ [])
 run_begins c actor ds = record { now = c.trails; whole = λ i. ap (λ all. c.trails i ++ entries_made actor i all) (sym (append-nil ds)); alike = λ i. alike_self (c.settings i) (c.trails i) }
 
 -- a pass without news leaves each centre as it was

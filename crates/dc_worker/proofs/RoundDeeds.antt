@@ -6,7 +6,7 @@ use Rattle.std.proofs.lemmas.List.{append-nil}
 use Rattle.std.proofs.lemmas.List.Elements.{filter-append}
 use Rattle.std.proofs.lemmas.Grind.{flat_map-append}
 use Rattle.vv_core.specs.Vectors.{centres}
-use Rattle.tx_core.specs.declared.tx.Record.{Record}
+use Rattle.dc_talk.specs.declared.sent.Sent.{Sent}
 use Rattle.dc_talk.specs.declared.ask.Ask.TheVariants.{Prune}
 use Rattle.dc_talk.specs.declared.line.Line.{Line}
 use Rattle.dc_talk.specs.declared.log.Deed.{Deed}
@@ -21,7 +21,7 @@ use Rattle.dc_worker.proofs.Turns.{centres_more}
 -- ---- what they carry
 
 pub sender_carries : (n i : ℕ) (deeds : List Deed) → SenderDeeds n i deeds → CarriesAll [] deeds
-sender_carries n i deeds is = turns_carry (λ to deeds. (items : List Record) × Mails (route i to) deeds items) (λ to deeds does. mails_carry (route i to) deeds does.0 does.1) (others n i) deeds is
+sender_carries n i deeds is = turns_carry (λ to deeds. (items : List Sent) × Mails (route i to) deeds items) (λ to deeds does. mails_carry (route i to) deeds does.0 does.1) (others n i) deeds is
 
 pub reporter_carries : (n i : ℕ) (deeds : List Deed) → ReporterDeeds n i deeds → CarriesAll [] deeds
 reporter_carries n i deeds is = turns_carry (λ to deeds. (line : Option Line) × Tells (route i to) deeds line) (λ to deeds does. tells_carry (route i to) deeds does.0 does.1) (others n i) deeds is
@@ -39,10 +39,10 @@ pruner_carries i round deeds is = go (is_prune_round round) is
 -- ---- what a sender puts on each link
 
 -- each puts what is its own
-abbrev puts_of : (ℕ → List Record) → ℕ → List ℕ → List Record
+abbrev puts_of : (ℕ → List Sent) → ℕ → List ℕ → List Sent
 puts_of items j tos = flat_map (λ to. cond (to == j) (items to) []) tos
 
-turns_fresh : (i : ℕ) (items : ℕ → List Record) (tos : List ℕ) (deeds : List Deed) → InTurn (λ to deeds. Mails (route i to) deeds (items to)) tos deeds → IsFresh deeds × ((j : ℕ) → mailed j deeds ≡ puts_of items j tos)
+turns_fresh : (i : ℕ) (items : ℕ → List Sent) (tos : List ℕ) (deeds : List Deed) → InTurn (λ to deeds. Mails (route i to) deeds (items to)) tos deeds → IsFresh deeds × ((j : ℕ) → mailed j deeds ≡ puts_of items j tos)
 turns_fresh i items [] deeds no_turn = (record { last = λ last to. refl }, λ j. refl)
 turns_fresh i items (to ∷ tos) deeds (next_turn first later whole does rest) =
     let more = turns_fresh i items tos later rest in
@@ -55,11 +55,11 @@ turns_fresh i items (to ∷ tos) deeds (next_turn first later whole does rest) =
 others_more : (n i : ℕ) → others (suc n) i ≡ others n i ++ cond (not (1 + n == i)) ((1 + n) ∷ []) []
 others_more n i = ap (filter (λ j. not (j == i))) (centres_more n) ∙ filter-append (λ j. not (j == i)) (centres n) ((1 + n) ∷ [])
 
-puts_more : (items : ℕ → List Record) (n i j : ℕ) → puts_of items j (others (suc n) i) ≡ puts_of items j (others n i) ++ puts_of items j (cond (not (1 + n == i)) ((1 + n) ∷ []) [])
+puts_more : (items : ℕ → List Sent) (n i j : ℕ) → puts_of items j (others (suc n) i) ≡ puts_of items j (others n i) ++ puts_of items j (cond (not (1 + n == i)) ((1 + n) ∷ []) [])
 puts_more items n i j = ap (puts_of items j) (others_more n i) ∙ flat_map-append (λ to. cond (to == j) (items to) []) (others n i) (cond (not (1 + n == i)) ((1 + n) ∷ []) [])
 
 -- nothing is put on the link to a centre past them
-puts_past : (items : ℕ → List Record) (n i j : ℕ) → n < j → puts_of items j (others n i) ≡ []
+puts_past : (items : ℕ → List Sent) (n i j : ℕ) → n < j → puts_of items j (others n i) ≡ []
 puts_past items zero i j past = refl
 puts_past items (suc n) i j past =
     puts_more items n i j ∙ (ap (λ front. front ++ puts_of items j (cond (not (1 + n == i)) ((1 + n) ∷ []) [])) (puts_past items n i j (omega arith)) ∙ none (not (1 + n == i)))
@@ -69,7 +69,7 @@ puts_past items (suc n) i j past =
     none false = refl
 
 -- each of them has its own
-puts_there : (items : ℕ → List Record) (n i j : ℕ) → 1 ≤ j → j ≤ n → j ≢ i → puts_of items j (others n i) ≡ items j
+puts_there : (items : ℕ → List Sent) (n i j : ℕ) → 1 ≤ j → j ≤ n → j ≢ i → puts_of items j (others n i) ≡ items j
 puts_there items zero i j low high other = absurd (omega (arith, low, high))
 puts_there items (suc n) i j low high other = puts_more items n i j ∙ go (λ below. puts_there items n i j low below other) (1 + n == j) refl
   where
@@ -88,5 +88,5 @@ puts_there items (suc n) i j low high other = puts_more items n i j ∙ go (λ b
         none true = append-nil (cond (1 + n == j) (items (1 + n)) []) ∙ ap (λ test. cond test (items (1 + n)) []) is
         none false = refl
 
-pub mailed_round : (n i : ℕ) (items : ℕ → List Record) (deeds : List Deed) (j : ℕ) → InTurn (λ to deeds. Mails (route i to) deeds (items to)) (others n i) deeds → 1 ≤ j → j ≤ n → j ≢ i → mailed j deeds ≡ items j
+pub mailed_round : (n i : ℕ) (items : ℕ → List Sent) (deeds : List Deed) (j : ℕ) → InTurn (λ to deeds. Mails (route i to) deeds (items to)) (others n i) deeds → 1 ≤ j → j ≤ n → j ≢ i → mailed j deeds ≡ items j
 mailed_round n i items deeds j turns low high other = (turns_fresh i items (others n i) deeds turns).1 j ∙ puts_there items n i j low high other

@@ -1,7 +1,7 @@
 -- What is taken from a link, and what is put on it, one after another.
 use Rattle.std.proofs.Common.{◌≡◌, ℕ, ◌+◌, ◌-◌, Bool, true, false, cond, List, [], ◌++◌, length, refl, sym, ap, ◌∙◌, subst, arith, append_assoc, length-append}
 use Rattle.std.proofs.lemmas.List.{append-nil}
-use Rattle.tx_core.specs.declared.tx.Record.{Record}
+use Rattle.dc_talk.specs.declared.sent.Sent.{Sent}
 use Rattle.dc_talk.specs.Acting.{Acting}
 use Rattle.script_text.specs.Links.{Inlet, arrived, inlet_after}
 use Rattle.script_text.specs.Carrying.{Route}
@@ -12,16 +12,16 @@ use Rattle.dc_worker.proofs.Bringing.{arrived_none, after_none, arrived_then, af
 
 -- ---- lists that grow at the end
 
-pub more_none : (xs : List Record) → IsMore xs xs
+pub more_none : (xs : List Sent) → IsMore xs xs
 more_none xs = ([], sym (append-nil xs))
 
-pub more_then : (xs ys zs : List Record) → IsMore xs ys → IsMore ys zs → IsMore xs zs
+pub more_then : (xs ys zs : List Sent) → IsMore xs ys → IsMore ys zs → IsMore xs zs
 more_then xs ys zs first later = (first.0 ++ later.0, later.1 ∙ (ap (λ front. front ++ later.0) first.1 ∙ append_assoc xs first.0 later.0))
 
 -- ---- what is received
 
 -- nothing was taken
-pub receives_none : (at : ℕ) (a : Acting) (i : Inlet Record) (xs ys : List Record) → ys ≡ xs → Receives at 0 (incoming a i xs) (incoming a i ys)
+pub receives_none : (at : ℕ) (a : Acting) (i : Inlet Sent) (xs ys : List Sent) → ys ≡ xs → Receives at 0 (incoming a i xs) (incoming a i ys)
 receives_none at a i xs ys same = record {
   items = [];
   taken = same ∙ sym (append-nil xs);
@@ -36,7 +36,7 @@ receives_then at m n a b c first later = record {
   items = first.items ++ later.items;
   taken = later.taken ∙ (ap (λ front. front ++ later.items) first.taken ∙ append_assoc a.taken first.items later.items);
   brings =
-      let come : List Record = arrived a.inlet first.items ++ arrived b.inlet later.items in
+      let come : List Sent = arrived a.inlet first.items ++ arrived b.inlet later.items in
       let all : arrived a.inlet (first.items ++ later.items) ≡ come = arrived_then a.inlet first.items later.items ∙ ap (λ i. arrived a.inlet first.items ++ arrived i later.items) (sym first.inlet) in
       subst (λ all. AddsSuch (Brings at all) a.acting c.acting) (sym all) (brings_both at (arrived a.inlet first.items) (arrived b.inlet later.items) a.acting b.acting c.acting first.brings later.brings);
   inlet = later.inlet ∙ (ap (λ i. inlet_after i later.items) first.inlet ∙ sym (after_then a.inlet first.items later.items));
@@ -50,16 +50,16 @@ receives_more at n a b is = (is.items, is.taken)
 -- as many were taken as there are more of them now
 pub receives_count : (at n : ℕ) (a b : Incoming) → Receives at n a b → length b.taken - length a.taken ≡ n
 receives_count at n a b is =
-    let long : length b.taken ≡ length a.taken + length is.items = ap (λ (xs : List Record). length xs) is.taken ∙ length-append a.taken is.items in
+    let long : length b.taken ≡ length a.taken + length is.items = ap (λ (xs : List Sent). length xs) is.taken ∙ length-append a.taken is.items in
     omega (arith, long, is.count)
 
 -- where no more come, what is held follows
-pub closes_rest : (at n : ℕ) (old : Incoming) (b c : Acting) (i last : Inlet Record) (held taken : List Record) → Receives at n old (incoming b i taken) → held ≡ i.held → AddsSuch (Brings at held) b c → last ≡ record i { held = [] } → Closes at n old (incoming c last taken)
+pub closes_rest : (at n : ℕ) (old : Incoming) (b c : Acting) (i last : Inlet Sent) (held taken : List Sent) → Receives at n old (incoming b i taken) → held ≡ i.held → AddsSuch (Brings at held) b c → last ≡ record i { held = [] } → Closes at n old (incoming c last taken)
 closes_rest at n old b c i last held taken before is rest empty = record {
   items = before.items;
   taken = before.taken;
   brings = brings_rest at old.inlet before.items held i old.acting b c before.brings before.inlet is rest;
-  inlet = empty ∙ ap (λ (i : Inlet Record). record i { held = [] }) before.inlet;
+  inlet = empty ∙ ap (λ (i : Inlet Sent). record i { held = [] }) before.inlet;
   count = before.count;
 }
 
@@ -76,5 +76,5 @@ receives_missed at n found a b c is first one =
 -- ---- what is sent
 
 -- a send without records puts nothing
-pub posts_none : (r : Route) (a b : Acting) (put : List Record) → CarriesSuch (λ deeds. Mails r deeds []) a b → Posts r 0 (outgoing a put) (outgoing b put)
+pub posts_none : (r : Route) (a b : Acting) (put : List Sent) → CarriesSuch (λ deeds. Mails r deeds []) a b → Posts r 0 (outgoing a put) (outgoing b put)
 posts_none r a b put mails = record { items = []; mails = mails; put = sym (append-nil put); count = refl }

@@ -1,5 +1,5 @@
--- What is done over routes in turn.
-use Rattle.std.proofs.Common.{◌≡◌, ◌≢◌, ℕ, suc, ◌+◌, ◌==◌, not, cond, List, [], ◌∷◌, ◌++◌, map, filter, refl, sym, ap, ◌∙◌, subst, arith}
+-- What is done over routes and detours in turn.
+use Rattle.std.proofs.Common.{◌≡◌, ◌≢◌, ℕ, suc, ◌+◌, ◌==◌, ◌&&◌, ◌⊎◌, inl, inr, Bool, true, false, not, cond, List, [], ◌∷◌, ◌++◌, map, filter, Option, refl, sym, ap, ◌∙◌, subst, arith}
 use Rattle.std.specs.Prelude.{flat_map}
 use Rattle.std.proofs.lemmas.Bool.{eq-eqb, ne_eqb}
 use Rattle.std.proofs.lemmas.List.{append-nil, append_assoc, map-append, map-id}
@@ -7,12 +7,13 @@ use Rattle.std.proofs.lemmas.List.Elements.{filter-append}
 use Rattle.std.proofs.lemmas.List.FromFn.{map-range_with_len_more}
 use Rattle.std.proofs.lemmas.Grind.{flat_map-append}
 use Rattle.vv_core.specs.Vectors.{centres}
+use Rattle.dc_talk.specs.declared.line.ShipEnd.{ShipEnd}
 use Rattle.dc_talk.specs.declared.log.Deed.{Deed}
 use Rattle.dc_talk.specs.Acting.{Acting}
-use Rattle.script_text.specs.Carrying.{Route, route, InTurn, no_turn, next_turn}
+use Rattle.script_text.specs.Carrying.{route, Detour, detour, detours, Relays, InTurn, no_turn, next_turn}
 use Rattle.dc_worker.specs.declared.rounds.Round.{Round}
 use Rattle.dc_worker.specs.Work.{CarriesSuch}
-use Rattle.dc_worker.specs.Rounds.{Does, routes_from, routes_of}
+use Rattle.dc_worker.specs.Rounds.{Does, DoesRelay, routes_from, detour_to, detours_to, detours_by, detours_from, detours_of}
 use Rattle.dc_worker.proofs.Work.{adds_none, adds_then}
 use Rattle.script_text.proofs.Provenance.{carries_both}
 
@@ -38,8 +39,12 @@ turns_one : {X : Type 0} (Do : X → List Deed → Type 0) (x : X) (ds : List De
 turns_one Do x ds does = next_turn ds [] (sym (append-nil ds)) does no_turn
 
 -- no turn
-pub turns_none : (Do : Route → List Deed → Type 0) (a : Acting) → CarriesSuch (InTurn Do []) a a
+pub turns_none : {X : Type 0} (Do : X → List Deed → Type 0) (a : Acting) → CarriesSuch (InTurn Do []) a a
 turns_none Do a = record { deeds = []; such = no_turn; adds = adds_none a; carries = tt }
+
+-- a relay over a detour is one turn
+pub does_relay : (t : Detour) (end : Option ShipEnd) (a b : Acting) → CarriesSuch (λ deeds. Relays t deeds end) a b → CarriesSuch (InTurn DoesRelay (t ∷ [])) a b
+does_relay t end a b does = record { deeds = does.deeds; such = turns_one DoesRelay t does.deeds (end, does.such); adds = does.adds; carries = does.carries }
 
 -- ---- the routes from a centre
 
@@ -89,20 +94,74 @@ over_self round k from to a b next self before = subst (λ all. CarriesSuch (InT
 
 -- ---- all routes
 
--- with one centre more there are the routes from it
-pub routes_of_more : (n k from : ℕ) → from ≡ k + 1 → routes_of n from ≡ routes_of n k ++ routes_from n from
-routes_of_more n k from next =
-    let this : from ≡ suc k = omega (arith, next) in
-    let same : 1 + k ≡ from = omega (arith, next) in
-    ap (routes_of n) this
-    ∙ (ap (flat_map (routes_from n)) (centres_more k)
-    ∙ (flat_map-append (routes_from n) (centres k) ((1 + k) ∷ [])
-    ∙ (ap (λ more. routes_of n k ++ more) (append-nil (routes_from n (1 + k)))
-    ∙ ap (λ j. routes_of n k ++ routes_from n j) same)))
+-- with one centre more there is its part too
+parts_more : {X : Type 0} (part : ℕ → List X) (k next : ℕ) → next ≡ k + 1 → flat_map part (centres next) ≡ flat_map part (centres k) ++ part next
+parts_more part k next is =
+    let this : next ≡ suc k = omega (arith, is) in
+    let same : 1 + k ≡ next = omega (arith, is) in
+    ap (λ n. flat_map part (centres n)) this
+    ∙ (ap (flat_map part) (centres_more k)
+    ∙ (flat_map-append part (centres k) ((1 + k) ∷ [])
+    ∙ (ap (λ more. flat_map part (centres k) ++ more) (append-nil (part (1 + k)))
+    ∙ ap (λ j. flat_map part (centres k) ++ part j) same)))
 
--- a round over the routes from the first centres, and over those from the next one
-pub over_more : (round : Round) (n k from : ℕ) (a b c : Acting) → from ≡ k + 1 → CarriesSuch (InTurn (Does round) (routes_of n k)) a b → CarriesSuch (InTurn (Does round) (routes_from n from)) b c → CarriesSuch (InTurn (Does round) (routes_of n from)) a c
-over_more round n k from a b c next before does =
-    subst (λ all. CarriesSuch (InTurn (Does round) all) a c) (sym (routes_of_more n k from next))
-    (carries_such_then (InTurn (Does round) (routes_of n k)) (InTurn (Does round) (routes_from n from)) (InTurn (Does round) (routes_of n k ++ routes_from n from)) a b c
-    (λ ds es first later. turns_then (Does round) (routes_of n k) (routes_from n from) ds es first later) before does)
+-- what is done over the parts of the first centres, and over that of the next one
+pub over_more : {X : Type 0} (Do : X → List Deed → Type 0) (part : ℕ → List X) (k next : ℕ) (a b c : Acting) → next ≡ k + 1 → CarriesSuch (InTurn Do (flat_map part (centres k))) a b → CarriesSuch (InTurn Do (part next)) b c → CarriesSuch (InTurn Do (flat_map part (centres next))) a c
+over_more Do part k next a b c is before does =
+    subst (λ all. CarriesSuch (InTurn Do all) a c) (sym (parts_more part k next is))
+    (carries_such_then (InTurn Do (flat_map part (centres k))) (InTurn Do (part next)) (InTurn Do (flat_map part (centres k) ++ part next)) a b c
+    (λ ds es first later. turns_then Do (flat_map part (centres k)) (part next) ds es first later) before does)
+
+-- ---- detours
+
+-- a part that is kept by a test is the part of what the test keeps
+parts_kept : {X : Type 0} (part : ℕ → List X) (keep : ℕ → Bool) (xs : List ℕ) → flat_map part (filter keep xs) ≡ flat_map (λ x. cond (keep x) (part x) []) xs
+parts_kept part keep [] = refl
+parts_kept part keep (x ∷ xs) = go (keep x) (parts_kept part keep xs)
+  where
+    go : (test : Bool) → flat_map part (filter keep xs) ≡ flat_map (λ x. cond (keep x) (part x) []) xs → flat_map part (cond test (x ∷ filter keep xs) (filter keep xs)) ≡ cond test (part x) [] ++ flat_map (λ x. cond (keep x) (part x) []) xs
+    go true rest = ap (λ more. part x ++ more) rest
+    go false rest = rest
+
+-- one of each is a part
+parts_each : {X : Type 0} (each : ℕ → X) (xs : List ℕ) → map each xs ≡ flat_map (λ x. each x ∷ []) xs
+parts_each each [] = refl
+parts_each each (x ∷ xs) = ap (λ more. each x ∷ more) (parts_each each xs)
+
+-- the detours from all centres are all
+pub detours_all : (n : ℕ) → detours_of n n ≡ detours n
+detours_all n = sym (λ i. flat_map (λ from. from_one from i) (centres n))
+  where
+    to_one : (from origin : ℕ) → map (detour from origin) (filter (λ to. not (from == to) && not (origin == to)) (centres n)) ≡ detours_to from origin n
+    to_one from origin =
+        parts_each (detour from origin) (filter (λ to. not (from == to) && not (origin == to)) (centres n))
+        ∙ parts_kept (λ to. detour from origin to ∷ []) (λ to. not (from == to) && not (origin == to)) (centres n)
+
+    from_one : (from : ℕ) → flat_map (λ origin. map (detour from origin) (filter (λ to. not (from == to) && not (origin == to)) (centres n))) (filter (λ origin. not (from == origin)) (centres n)) ≡ detours_from n from n
+    from_one from =
+        parts_kept (λ origin. map (detour from origin) (filter (λ to. not (from == to) && not (origin == to)) (centres n))) (λ origin. not (from == origin)) (centres n)
+        ∙ (λ i. flat_map (λ origin. cond (not (from == origin)) (to_one from origin i) []) (centres n))
+
+-- ---- the detour to one centre
+
+-- there is none where the centre that hands on or the origin is that one
+pub detour_none : (from origin to : ℕ) → (from ≡ to) ⊎ (origin ≡ to) → detour_to from origin to ≡ []
+detour_none from origin to (inl same) = ap (λ test. cond (not test && not (origin == to)) (detour from origin to ∷ []) []) (eq-eqb from to same)
+detour_none from origin to (inr same) = ap (λ test. cond (not (from == to) && not test) (detour from origin to ∷ []) []) (eq-eqb origin to same) ∙ none (not (from == to))
+  where
+    none : (test : Bool) → cond (test && false) (detour from origin to ∷ []) [] ≡ []
+    none true = refl
+    none false = refl
+
+-- else there is it alone
+pub detour_one : (from origin to : ℕ) → from ≢ to → origin ≢ to → detour_to from origin to ≡ detour from origin to ∷ []
+detour_one from origin to apart away =
+    ap (λ test. cond (not test && not (origin == to)) (detour from origin to ∷ []) []) (ne_eqb from to apart)
+    ∙ ap (λ test. cond (not test) (detour from origin to ∷ []) []) (ne_eqb origin to away)
+
+-- those of an origin's records, of which there are none for the centre's own
+pub detours_own : (n from origin : ℕ) → from ≡ origin → detours_by n from origin ≡ []
+detours_own n from origin same = ap (λ test. cond (not test) (detours_to from origin n) []) (eq-eqb from origin same)
+
+pub detours_other : (n from origin : ℕ) → from ≢ origin → detours_by n from origin ≡ detours_to from origin n
+detours_other n from origin apart = ap (λ test. cond (not test) (detours_to from origin n) []) (ne_eqb from origin apart)

@@ -1,7 +1,7 @@
 -- What a receiver makes of one item that it takes from a link.
 use Rattle.std.specs.Prelude.{ℕ, ◌≤◌, cond, List, [], ◌∷◌, ◌++◌}
 use Rattle.std.specs.Option.{option_to_list}
-use Rattle.tx_core.specs.declared.tx.Record.{Record}
+use Rattle.dc_talk.specs.declared.sent.Sent.{Sent}
 use Rattle.dc_talk.specs.declared.links.LinkFault.{LinkFault}
 use Rattle.dc_talk.specs.declared.links.LinkFault.TheVariants.{Clean, Drop, Twice, Hold}
 use Rattle.script_text.specs.Links.{is_nth, is_held}
@@ -28,9 +28,9 @@ module _ {X : Type 0} where
   stays fault number x = cond (is_held fault number) (x ∷ []) []
 
 -- the records of a lot that are delivered
-abbrev pub lot_items : Lot → List Record
+abbrev pub lot_items : Lot → List Sent
 lot_items lot = option_to_list lot.first ++ option_to_list lot.again
 
 -- the records that are due
-abbrev pub due_items : Due → List Record
+abbrev pub due_items : Due → List Sent
 due_items due = option_to_list due.first ++ option_to_list due.again ++ option_to_list due.held

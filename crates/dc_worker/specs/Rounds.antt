@@ -1,10 +1,10 @@
--- Deliveries and tells over all routes, and how many passes a settling takes.
-use Rattle.std.specs.Prelude.{ℕ, suc, ◌==◌, not, filter, map, flat_map, List, Option}
+-- Deliveries, relays and tells over all routes, and how many passes a settling takes.
+use Rattle.std.specs.Prelude.{ℕ, suc, ◌==◌, ◌&&◌, not, cond, filter, map, flat_map, List, [], ◌∷◌, Option}
 use Rattle.vv_core.specs.Vectors.{centres}
 use Rattle.dc_talk.specs.declared.line.Line.{Line}
 use Rattle.dc_talk.specs.declared.line.ShipEnd.{ShipEnd}
 use Rattle.dc_talk.specs.declared.log.Deed.{Deed}
-use Rattle.script_text.specs.Carrying.{Route, route, Ships, Tells, Settles, last_pass, one_pass}
+use Rattle.script_text.specs.Carrying.{Route, route, Detour, detour, Ships, Relays, Tells, Settles, last_pass, one_pass}
 use Rattle.dc_worker.specs.declared.rounds.Round.{Round}
 use Rattle.dc_worker.specs.declared.rounds.Round.TheVariants.{Ship, Tell}
 
@@ -20,6 +20,30 @@ routes_from n from = map (route from) (filter (λ to. not (from == to)) (centres
 -- the routes from the first k centres to the others of the first n
 abbrev pub routes_of : ℕ → ℕ → List Route
 routes_of n k = flat_map (routes_from n) (centres k)
+
+-- a relay over a detour
+abbrev pub DoesRelay : Detour → List Deed → Type 0
+DoesRelay t deeds = (end : Option ShipEnd) × Relays t deeds end
+
+-- the detour from a centre of an origin's records to another one, where all three differ
+abbrev pub detour_to : ℕ → ℕ → ℕ → List Detour
+detour_to from origin to = cond (not (from == to) && not (origin == to)) (detour from origin to ∷ []) []
+
+-- those to the first k centres
+abbrev pub detours_to : ℕ → ℕ → ℕ → List Detour
+detours_to from origin k = flat_map (detour_to from origin) (centres k)
+
+-- those of an origin's records to n centres, where the two differ
+abbrev pub detours_by : ℕ → ℕ → ℕ → List Detour
+detours_by n from origin = cond (not (from == origin)) (detours_to from origin n) []
+
+-- those of the records of the first k origins
+abbrev pub detours_from : ℕ → ℕ → ℕ → List Detour
+detours_from n from k = flat_map (detours_by n from) (centres k)
+
+-- those from the first k centres
+abbrev pub detours_of : ℕ → ℕ → List Detour
+detours_of n k = flat_map (λ from. detours_from n from n) (centres k)
 
 -- how many passes there were
 abbrev pub passes_of : {n : ℕ} {deeds : List Deed} → Settles n deeds → ℕ

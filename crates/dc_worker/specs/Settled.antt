@@ -4,7 +4,7 @@ use Rattle.dc_talk.specs.declared.settings.Settings.{Settings}
 use Rattle.dc_talk.specs.declared.log.Deed.{Deed}
 use Rattle.dc_talk.specs.Entries.{Entry}
 use Rattle.dc_talk.specs.Logs.{entries_made}
-use Rattle.dc_talk.specs.Trails.{applied, told, horizon, stopped}
+use Rattle.dc_talk.specs.Trails.{carried, told, horizon, stopped}
 use Rattle.dc_talk.specs.Answers.{History}
 use Rattle.script_text.specs.Carrying.{Passes}
 
@@ -32,10 +32,10 @@ pub record PassesAmong (c : Centres) (actor : ℕ) (deeds : List Deed) : Type 0 
   pub passes : Passes c.n deeds
   pub histories : AreHistories (behind_deeds c actor deeds)
 
--- after both trails a centre has applied the same, was told the same of the others, has pruned as far, and is stopped
--- or is not
+-- after both trails a centre has applied the same records with the same hops, was told the same of the others, has pruned
+-- as far, and is stopped or is not
 pub record IsAlike (s : Settings) (x y : List Entry) : Type 0 where
-  pub lists : applied s.n x ≡ applied s.n y
+  pub lists : carried s.n x ≡ carried s.n y
   pub rows : (j : ℕ) → j ≢ s.me → told s.n j x ≡ told s.n j y
   pub horizons : horizon s x ≡ horizon s y
   pub switch : stopped x ≡ stopped y

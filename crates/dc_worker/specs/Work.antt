@@ -1,6 +1,6 @@
 -- How the log of a worker, and what its door shows, grow by deeds of a kind.
 use Rattle.std.specs.Prelude.{◌≡◌, ◌≢◌, ◌<◌, ◌^◌, ℕ, Bool, length, List, [], ◌∷◌, Option}
-use Rattle.tx_core.specs.declared.tx.Record.{Record}
+use Rattle.dc_talk.specs.declared.sent.Sent.{Sent}
 use Rattle.dc_talk.specs.declared.ask.Ask.TheVariants.{Deliver}
 use Rattle.dc_talk.specs.declared.say.Say.{Say}
 use Rattle.dc_talk.specs.declared.log.Fate.TheVariants.{Unheard}
@@ -18,10 +18,10 @@ pub record Adds (old new : Acting) (deeds : List Deed) : Type 0 where
   pub short : (i : ℕ) → entries_made old.door.actor i deeds ≢ [] → length (new.door.made i) < 2 ^ 62
 
 -- they grow by the delivery of a record, which ended so, and after which the record is there or not
-pub record HasDelivered (to : ℕ) (item : Record) (it : Option ShipEnd × Bool) (old new : Acting) : Type 0 where
+pub record HasDelivered (to : ℕ) (item : Sent) (it : Option ShipEnd × Bool) (old new : Acting) : Type 0 where
   pub say : Say
-  pub adds : Adds old new (Asked to (Deliver item) (Unheard say) ∷ [])
-  pub end : it.0 ≡ delivery_end to item say
+  pub adds : Adds old new (Asked to (Deliver item.item item.hops) (Unheard say) ∷ [])
+  pub end : it.0 ≡ delivery_end to item.item say
   pub there : it.1 ≡ is_there say
 
 -- they grow by deeds that are so

@@ -10,9 +10,8 @@ ghost use Rattle.dc_worker.specs.Inlets.{due_items};
 
 use crate::deliveries::deliver;
 use crate::inlets::{Due, Inlet};
-use dc_talk::{Door, Log};
+use dc_talk::{Door, Log, Sent};
 use ids_core::NoMemory;
-use tx_core::Record;
 
 /// Delivers to a centre behind the door what comes of records as they are taken from a link, whatever the centre
 /// answers; more records may come later. An `Err` is want of memory, or that more than 2^64 - 1 records were taken
@@ -21,7 +20,7 @@ pub fn bring<D: Door>(
     door: &mut D,
     at: u8,
     inlet: &mut Inlet,
-    items: Vec<Record>,
+    items: Vec<Sent>,
     log: &mut Log,
 ) -> Result<(), NoMemory>
     requires { IsBehind (D.shown door.old) at }
@@ -41,7 +40,7 @@ pub fn bring_rest<D: Door>(
     door: &mut D,
     at: u8,
     inlet: &mut Inlet,
-    items: Vec<Record>,
+    items: Vec<Sent>,
     log: &mut Log,
 ) -> Result<(), NoMemory>
     requires { IsBehind (D.shown door.old) at }
@@ -60,7 +59,7 @@ pub(crate) fn bring_one<D: Door>(
     door: &mut D,
     at: u8,
     inlet: &mut Inlet,
-    item: Record,
+    item: Sent,
     log: &mut Log,
 ) -> Result<(), NoMemory>
     requires { IsBehind (D.shown door.old) at }
@@ -90,7 +89,7 @@ fn bring_due<D: Door>(door: &mut D, at: u8, due: Due, log: &mut Log) -> Result<(
 pub(crate) fn bring_some<D: Door>(
     door: &mut D,
     at: u8,
-    item: Option<Record>,
+    item: Option<Sent>,
     log: &mut Log,
 ) -> Result<(), NoMemory>
     requires { IsBehind (D.shown door.old) at }

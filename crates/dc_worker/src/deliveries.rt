@@ -10,19 +10,19 @@ ghost use Rattle.dc_worker.specs.Work.{Adds, AddsSuch, HasDelivered};
 
 use crate::asks::ask_unheard;
 use crate::ends::{delivery_end, is_there};
-use dc_talk::{Ask, Door, Log, Records, Say, ShipEnd};
+use dc_talk::{Ask, Door, Log, Records, Say, Sent, ShipEnd};
 use ids_core::NoMemory;
-use tx_core::Record;
 
 /// Delivers a record to a centre behind the door, and notes the answer. Answers what the centre said. An `Err` is
 /// want of memory: the record may have been delivered.
-pub fn deliver<D: Door>(door: &mut D, to: u8, item: Record, log: &mut Log) -> Result<Say, NoMemory>
+pub fn deliver<D: Door>(door: &mut D, to: u8, item: Sent, log: &mut Log) -> Result<Say, NoMemory>
     requires { IsBehind (D.shown door.old) to }
     ensures place { D.place door.new ≡ D.place door.old }
-    ensures asks { IfOk result (λ say. Adds (acting (D.shown door.old) log.old) (acting (D.shown door.new) log.new) (Asked to (Deliver item) (Unheard say) ∷ [])) }
+    ensures asks { IfOk result (λ say. Adds (acting (D.shown door.old) log.old) (acting (D.shown door.new) log.new) (Asked to (Deliver item.item item.hops) (Unheard say) ∷ [])) }
     ensures short { OnErr result (IsCutShort (acting (D.shown door.old) log.old) (acting (D.shown door.new) log.new)) }
 {
-    ask_unheard(door, to, Ask::Deliver { item }, log)
+    let Sent { item, hops } = item;
+    ask_unheard(door, to, Ask::Deliver { item, hops }, log)
 }
 
 /// Delivers records to a centre behind the door, in order, until one is not there: until a delivery is answered
@@ -55,7 +55,7 @@ pub fn deliver_all<D: Door>(
 fn deliver_next<D: Door>(
     door: &mut D,
     to: u8,
-    item: Record,
+    item: Sent,
     log: &mut Log,
 ) -> Result<(Option<ShipEnd>, bool), NoMemory>
     requires { IsBehind (D.shown door.old) to }
@@ -63,7 +63,7 @@ fn deliver_next<D: Door>(
     ensures delivers { IfOk result (λ it. HasDelivered to item it (acting (D.shown door.old) log.old) (acting (D.shown door.new) log.new)) }
     ensures short { OnErr result (IsCutShort (acting (D.shown door.old) log.old) (acting (D.shown door.new) log.new)) }
 {
-    let seq = item.stamp.seq;
+    let seq = item.item.stamp.seq;
     let say = deliver(door, to, item, log)?;
     Ok((delivery_end(to, seq, &say), is_there(&say)))
 }

@@ -1,7 +1,7 @@
 // How a delivery ends, and the lines of deliveries and tells.
 ghost use Rattle.std.specs.Prelude.{◌≡◌};
 ghost use Rattle.tx_core.specs.declared.tx.Record.{Record};
-ghost use Rattle.script_text.specs.Carrying.{route, stopped_end, send_end, delivery_end, is_there, ship_line, tell_line};
+ghost use Rattle.script_text.specs.Carrying.{route, detour, stopped_end, send_end, delivery_end, is_there, ship_line, relay_line, tell_line};
 ghost use Rattle.script_text.specs.Orders.{base_line};
 
 use dc_talk::{Line, Say, ShipEnd};
@@ -18,7 +18,7 @@ pub(crate) fn stopped_end(centre: u8, say: &Say) -> Option<ShipEnd>
     }
 }
 
-// How a delivery ends by the origin's answer to a send that gave no records.
+// How a delivery ends by the answer, without records, of the centre that was asked for them.
 pub(crate) fn send_end(from: u8, say: &Say) -> Option<ShipEnd>
     ensures { result ≡ send_end from say.now }
 {
@@ -66,6 +66,21 @@ pub fn ship_line(from: u8, to: u8, end: Option<ShipEnd>) -> Option<Line>
 {
     match end {
         Some(end) => Some(Line::Ship { from, to, end }),
+        None => None,
+    }
+}
+
+/// The line of a relay that ended so, where it has one.
+pub fn relay_line(from: u8, origin: u8, to: u8, end: Option<ShipEnd>) -> Option<Line>
+    ensures { result ≡ relay_line (detour from origin to) end }
+{
+    match end {
+        Some(end) => Some(Line::Relay {
+            from,
+            origin,
+            to,
+            end,
+        }),
         None => None,
     }
 }

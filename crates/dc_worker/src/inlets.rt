@@ -4,10 +4,9 @@ ghost use Rattle.std.specs.Option.{option_to_list};
 ghost use Rattle.script_text.specs.Links.{is_nth, clean_inlet, arrived, inlet_after, inlet_set};
 ghost use Rattle.dc_worker.specs.Inlets.{HasCount, comes, stays, lot_items, due_items};
 
-use dc_talk::LinkFault;
+use dc_talk::{LinkFault, Sent};
 use ids_core::NoMemory;
 use std::marker::Model;
-use tx_core::Record;
 
 /// The end of a link at which records are taken: the fault of the link, how many records were taken since that was set,
 /// and the record that is held, where one is.
@@ -15,16 +14,16 @@ use tx_core::Record;
 pub struct Inlet {
     fault: LinkFault,
     before: u64,
-    held: Option<Record>,
+    held: Option<Sent>,
 }
 
 impl Model for Inlet {
     ghost use Rattle.std.specs.Option.{option_to_list};
-    ghost use Rattle.tx_core.specs.declared.tx.Record.{Record};
+    ghost use Rattle.dc_talk.specs.declared.sent.Sent.{Sent};
     ghost use Rattle.script_text.specs.Links.{Inlet as InletOf};
     ghost use Rattle.dc_worker.specs.Inlets.{HasCount};
 
-    ghost Value = { InletOf Record };
+    ghost Value = { InletOf Sent };
 
     ghost view = { λ i. record { fault = i.fault; before = i.before; held = option_to_list i.held } };
 
@@ -33,16 +32,16 @@ impl Model for Inlet {
 
 // What becomes of one item by itself: what is delivered of it, and what is held.
 pub(crate) struct Lot {
-    pub(crate) first: Option<Record>,
-    pub(crate) again: Option<Record>,
-    pub(crate) kept: Option<Record>,
+    pub(crate) first: Option<Sent>,
+    pub(crate) again: Option<Sent>,
+    pub(crate) kept: Option<Sent>,
 }
 
 // What is to be delivered, in order, as an item is taken: what comes of it, and then what was held before it.
 pub(crate) struct Due {
-    pub(crate) first: Option<Record>,
-    pub(crate) again: Option<Record>,
-    pub(crate) held: Option<Record>,
+    pub(crate) first: Option<Sent>,
+    pub(crate) again: Option<Sent>,
+    pub(crate) held: Option<Sent>,
 }
 
 impl Inlet {
@@ -69,7 +68,7 @@ impl Inlet {
 
     // What is to be delivered as a record is taken. Nothing changes where memory is refused, or 2^64 - 1 records were
     // taken.
-    pub(crate) fn pass(&mut self, item: Record) -> Result<Due, NoMemory>
+    pub(crate) fn pass(&mut self, item: Sent) -> Result<Due, NoMemory>
         ensures due { IfOk result (λ due. due_items due ≡ arrived self.old (item ∷ [])) }
         ensures ok { OnOk result (self.new ≡ inlet_after self.old (item ∷ [])) }
         ensures err { OnErr result (self.new ≡ self.old) }
@@ -85,7 +84,7 @@ impl Inlet {
     }
 
     // Lets go of the record that is held, where one is.
-    pub(crate) fn release(&mut self) -> Option<Record>
+    pub(crate) fn release(&mut self) -> Option<Sent>
         ensures held { option_to_list result ≡ self.old.held }
         ensures new { self.new ≡ record self.old { held = [] } }
     {
@@ -94,7 +93,7 @@ impl Inlet {
 }
 
 // What a fault makes of the item of a number, by itself.
-fn lot_of(fault: LinkFault, number: u64, item: Record) -> Result<Lot, NoMemory>
+fn lot_of(fault: LinkFault, number: u64, item: Sent) -> Result<Lot, NoMemory>
     requires { HasCount fault }
     ensures items { IfOk result (λ lot. lot_items lot ≡ comes fault number item) }
     ensures kept { IfOk result (λ lot. option_to_list lot.kept ≡ stays fault number item) }
@@ -134,7 +133,7 @@ fn is_nth(every: u64, number: u64) -> bool
 }
 
 // An item that is delivered once.
-fn delivered(item: Record) -> Lot
+fn delivered(item: Sent) -> Lot
     ensures items { lot_items result ≡ item ∷ [] }
     ensures kept { option_to_list result.kept ≡ [] }
 {
@@ -158,7 +157,7 @@ fn dropped() -> Lot
 }
 
 // An item that is delivered two times.
-fn doubled(item: Record) -> Result<Lot, NoMemory>
+fn doubled(item: Sent) -> Result<Lot, NoMemory>
     ensures items { IfOk result (λ lot. lot_items lot ≡ item ∷ item ∷ []) }
     ensures kept { IfOk result (λ lot. option_to_list lot.kept ≡ []) }
 {
@@ -171,7 +170,7 @@ fn doubled(item: Record) -> Result<Lot, NoMemory>
 }
 
 // An item that is held.
-fn kept(item: Record) -> Lot
+fn kept(item: Sent) -> Lot
     ensures items { lot_items result ≡ [] }
     ensures kept { option_to_list result.kept ≡ item ∷ [] }
 {

@@ -10,7 +10,7 @@ ghost use Rattle.script_text.specs.Rounds.{Mails};
 ghost use Rattle.dc_worker.specs.Work.{CarriesSuch};
 
 use crate::asks::ask_only;
-use crate::sends::{Sent, send_for};
+use crate::sends::{Handed, send_for};
 use crate::tells::tell;
 use dc_talk::{Ask, Door, Log, Records};
 use ids_core::NoMemory;
@@ -34,8 +34,8 @@ pub fn mail_for<D: Door>(
     ensures short { OnErr result (IsCutShort (acting (D.shown door.old) log.old) (acting (D.shown door.new) log.new)) }
 {
     match send_for(door, from, to, MOST_MAILED, log)? {
-        Sent::Items(items) => Ok(items),
-        Sent::Ended(_) => Ok(Records::new(alloc)),
+        Handed::Items(items) => Ok(items),
+        Handed::Ended(_) => Ok(Records::new(alloc)),
     }
 }
 

@@ -8,12 +8,11 @@ ghost use Rattle.dc_worker.specs.Links.{IsMore, Receives, Closes, incoming};
 
 use crate::brings::{bring_one, bring_some};
 use crate::inlets::Inlet;
-use dc_talk::{Door, Log};
+use dc_talk::{Door, Log, Sent};
 use ids_core::NoMemory;
 use mail_link::{Giver, Link, Taker};
 use script_text::MOST_MAILED;
 use std::sync::Wait;
-use tx_core::Record;
 
 /// Takes records from a link, at most `MOST_MAILED` of them, until none is found, and delivers to a centre behind the
 /// door what comes of them, whatever it answers. Answers how many were taken. An `Err` is want of memory, or that
@@ -23,8 +22,8 @@ pub fn take_round<R: Wait, D: Door>(
     door: &mut D,
     at: u8,
     inlet: &mut Inlet,
-    link: &Link<Record>,
-    taker: &mut Taker<Record>,
+    link: &Link<Sent>,
+    taker: &mut Taker<Sent>,
     log: &mut Log,
 ) -> Result<u32, NoMemory>
     requires at { IsBehind (D.shown door.old) at }
@@ -55,9 +54,9 @@ pub fn drain_round<R: Wait, D: Door>(
     door: &mut D,
     at: u8,
     inlet: &mut Inlet,
-    link: &Link<Record>,
-    giver: &Giver<Record>,
-    taker: &mut Taker<Record>,
+    link: &Link<Sent>,
+    giver: &Giver<Sent>,
+    taker: &mut Taker<Sent>,
     log: &mut Log,
 ) -> Result<u64, NoMemory>
     requires at { IsBehind (D.shown door.old) at }
@@ -82,9 +81,9 @@ fn take_all<R: Wait, D: Door>(
     door: &mut D,
     at: u8,
     inlet: &mut Inlet,
-    link: &Link<Record>,
-    giver: &Giver<Record>,
-    taker: &mut Taker<Record>,
+    link: &Link<Sent>,
+    giver: &Giver<Sent>,
+    taker: &mut Taker<Sent>,
     log: &mut Log,
 ) -> Result<u64, NoMemory>
     requires at { IsBehind (D.shown door.old) at }
@@ -112,8 +111,8 @@ fn take_one<R: Wait, D: Door>(
     door: &mut D,
     at: u8,
     inlet: &mut Inlet,
-    link: &Link<Record>,
-    taker: &mut Taker<Record>,
+    link: &Link<Sent>,
+    taker: &mut Taker<Sent>,
     log: &mut Log,
 ) -> Result<bool, NoMemory>
     requires at { IsBehind (D.shown door.old) at }

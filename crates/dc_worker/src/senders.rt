@@ -5,13 +5,12 @@ ghost use Rattle.dc_talk.specs.Doors.{IsBehind};
 ghost use Rattle.script_text.specs.Carrying.{route};
 ghost use Rattle.dc_worker.specs.Links.{IsMore, Posts, outgoing};
 
-use crate::sends::{Sent, send_for};
-use dc_talk::{Door, Log, Records};
+use crate::sends::{Handed, send_for};
+use dc_talk::{Door, Log, Records, Sent};
 use ids_core::NoMemory;
 use mail_link::{Giver, Link};
 use script_text::MOST_MAILED;
 use std::sync::Wait;
-use tx_core::Record;
 
 /// Has a centre report what it has, and another one send what the first lacks of its own records, at most
 /// `MOST_MAILED` of them, and puts these on a link, in order. Both are behind the door. Answers how many were put: none
@@ -22,8 +21,8 @@ pub fn send_round<R: Wait, D: Door>(
     door: &mut D,
     from: u8,
     to: u8,
-    link: &Link<Record>,
-    giver: &mut Giver<Record>,
+    link: &Link<Sent>,
+    giver: &mut Giver<Sent>,
     log: &mut Log,
 ) -> Result<u32, NoMemory>
     requires from { IsBehind (D.shown door.old) from }
@@ -36,16 +35,16 @@ pub fn send_round<R: Wait, D: Door>(
     ensures kept { OnErr result (IsMore giver.old.put giver.new.put) }
 {
     match send_for(door, from, to, MOST_MAILED, log)? {
-        Sent::Items(items) => put_all(rt, link, giver, items),
-        Sent::Ended(_) => Ok(0),
+        Handed::Items(items) => put_all(rt, link, giver, items),
+        Handed::Ended(_) => Ok(0),
     }
 }
 
 // Puts records on a link, in order. Answers how many. After an `Err` the first of them may have been put.
 fn put_all<R: Wait>(
     rt: &R,
-    link: &Link<Record>,
-    giver: &mut Giver<Record>,
+    link: &Link<Sent>,
+    giver: &mut Giver<Sent>,
     items: Records,
 ) -> Result<u32, NoMemory>
     requires { giver.old.link ≡ link.now }
@@ -65,9 +64,9 @@ fn put_all<R: Wait>(
 // Puts one record on a link. After an `Err` it was not put.
 fn put_one<R: Wait>(
     rt: &R,
-    link: &Link<Record>,
-    giver: &mut Giver<Record>,
-    item: Record,
+    link: &Link<Sent>,
+    giver: &mut Giver<Sent>,
+    item: Sent,
 ) -> Result<(), NoMemory>
     requires { giver.old.link ≡ link.now }
     ensures link { giver.new.link ≡ link.now }

@@ -1,11 +1,11 @@
-// Sends, by which a centre gives its records.
+// Asks, by which a centre hands on its records.
 ghost use Rattle.std.specs.Prelude.{◌≡◌, ◌≤◌, IfOk, OnErr};
 ghost use Rattle.vv_core.specs.Vectors.{at};
 ghost use Rattle.dc_talk.specs.Acting.{acting, IsCutShort};
 ghost use Rattle.dc_talk.specs.Doors.{IsBehind};
 ghost use Rattle.script_text.specs.Carrying.{route};
 ghost use Rattle.dc_worker.specs.Work.{AddsSuch};
-ghost use Rattle.dc_worker.specs.Sends.{SendsFor, sent_of};
+ghost use Rattle.dc_worker.specs.Sends.{AsksFor, own_part, handed_of};
 
 use crate::asks::ask_unheard;
 use crate::ends::{send_end, stopped_end};
@@ -13,9 +13,9 @@ use dc_talk::{Ask, Door, Log, Records, Say, ShipEnd};
 use ids_core::NoMemory;
 use vv_core::Vector;
 
-/// What a send came to.
+/// What an ask for records came to.
 #[derive(Drop)]
-pub enum Sent {
+pub enum Handed {
     /// The records that are to be delivered.
     Items(Records),
     /// There are none, since a delivery ends so.
@@ -31,35 +31,35 @@ pub fn send_for<D: Door>(
     to: u8,
     most: u32,
     log: &mut Log,
-) -> Result<Sent, NoMemory>
+) -> Result<Handed, NoMemory>
     requires from { IsBehind (D.shown door.old) from }
     requires to { IsBehind (D.shown door.old) to }
     ensures place { D.place door.new ≡ D.place door.old }
-    ensures sends { IfOk result (λ sent. AddsSuch (λ deeds. SendsFor (route from to) most deeds sent) (acting (D.shown door.old) log.old) (acting (D.shown door.new) log.new)) }
+    ensures sends { IfOk result (λ handed. AddsSuch (λ deeds. AsksFor (route from to) (own_part (route from to) most) deeds handed) (acting (D.shown door.old) log.old) (acting (D.shown door.new) log.new)) }
     ensures short { OnErr result (IsCutShort (acting (D.shown door.old) log.old) (acting (D.shown door.new) log.new)) }
 {
     match ask_unheard(door, to, Ask::Report, log)? {
         Say::Vector { vector } => {
             let after = entry_of(&vector, from);
             let say = ask_unheard(door, from, Ask::Send { after, most }, log)?;
-            Ok(sent_of(from, say))
+            Ok(handed_of(from, say))
         }
-        say => Ok(Sent::Ended(stopped_end(to, &say))),
+        say => Ok(Handed::Ended(stopped_end(to, &say))),
     }
 }
 
-// What the origin's answer to a send gives.
-pub(crate) fn sent_of(from: u8, say: Say) -> Sent
-    ensures { result ≡ sent_of from say }
+// What the answer of the centre that was asked for records gives.
+pub(crate) fn handed_of(from: u8, say: Say) -> Handed
+    ensures { result ≡ handed_of from say }
 {
     match say {
-        Say::Records { list } => Sent::Items(list),
-        say => Sent::Ended(send_end(from, &say)),
+        Say::Records { list } => Handed::Items(list),
+        say => Handed::Ended(send_end(from, &say)),
     }
 }
 
 // The entry of a centre, counted from 1, and 0 where there is none.
-fn entry_of(vector: &Vector, centre: u8) -> u64
+pub(crate) fn entry_of(vector: &Vector, centre: u8) -> u64
     requires { 1 ≤ centre }
     ensures { result ≡ at vector.now centre }
 {

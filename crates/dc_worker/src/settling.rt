@@ -6,14 +6,15 @@ ghost use Rattle.script_text.specs.Carrying.{Passes, Settles, is_news};
 ghost use Rattle.dc_worker.specs.Work.{CarriesSuch};
 ghost use Rattle.dc_worker.specs.Rounds.{passes_of};
 
+use crate::detours::over_all_detours;
 use crate::news::has_news;
 use crate::rounds::{Round, over_all_routes};
 use dc_talk::{Door, Log};
 use ids_core::NoMemory;
 
-/// Delivers and tells between the `n` centres behind the door, which are all, pass by pass, until a pass has no
-/// news: no record is applied in it, and no vector tells a centre more. A pass is a delivery over each route, and
-/// then a tell over each. Answers how many passes there were. It ends over every door, since the lists of a door
+/// Delivers, relays and tells between the `n` centres behind the door, which are all, pass by pass, until a pass has no
+/// news: no record is applied in it, and no vector tells a centre more. A pass is a delivery over each route, then a
+/// relay over each detour, and then a tell over each route. Answers how many passes there were. It ends over every door, since the lists of a door
 /// stay short. An `Err` is want of memory: any of the centres may have been asked.
 pub fn settle<D: Door>(door: &mut D, n: u8, log: &mut Log) -> Result<u64, NoMemory>
     requires { (D.shown door.old).centres ≡ n }
@@ -37,6 +38,7 @@ fn pass<D: Door>(door: &mut D, n: u8, log: &mut Log) -> Result<bool, NoMemory>
 {
     let before = log.as_slice().len();
     over_all_routes(door, Round::Ship, n, log)?;
+    over_all_detours(door, n, log)?;
     over_all_routes(door, Round::Tell, n, log)?;
     Ok(has_news(log.as_slice(), before))
 }

@@ -9,7 +9,7 @@ ghost use Rattle.dc_worker.specs.Work.{CarriesSuch};
 
 use crate::asks::ask_unheard;
 use crate::deliveries::deliver_all;
-use crate::sends::{Sent, send_for, sent_of};
+use crate::sends::{Handed, handed_of, send_for};
 use dc_talk::{Ask, Door, Log, MOST_SENT, ShipEnd};
 use ids_core::NoMemory;
 
@@ -32,9 +32,9 @@ pub fn ship_one<D: Door>(
 {
     let after = seq - 1;
     let say = ask_unheard(door, from, Ask::Send { after, most: 1 }, log)?;
-    match sent_of(from, say) {
-        Sent::Items(items) => deliver_all(door, to, items, Some(ShipEnd::Absent { seq }), log),
-        Sent::Ended(end) => Ok(end),
+    match handed_of(from, say) {
+        Handed::Items(items) => deliver_all(door, to, items, Some(ShipEnd::Absent { seq }), log),
+        Handed::Ended(end) => Ok(end),
     }
 }
 
@@ -55,7 +55,7 @@ pub fn ship_all<D: Door>(
     ensures short { OnErr result (IsCutShort (acting (D.shown door.old) log.old) (acting (D.shown door.new) log.new)) }
 {
     match send_for(door, from, to, MOST_SENT, log)? {
-        Sent::Items(items) => deliver_all(door, to, items, None, log),
-        Sent::Ended(end) => Ok(end),
+        Handed::Items(items) => deliver_all(door, to, items, None, log),
+        Handed::Ended(end) => Ok(end),
     }
 }

@@ -27,7 +27,7 @@ fn delivery(alloc: Global) -> Result<Ask, Fail> {
     let stamp = Stamp { centre: 1, seq: 1 };
     let deps = pair(0, 0);
     let item = Record { stamp, deps, tx };
-    Ok(Ask::Deliver { item })
+    Ok(Ask::Deliver { item, hops: 0 })
 }
 
 // Whether centre 2 answers, through any door, that it lacks the transaction before a delivered one.

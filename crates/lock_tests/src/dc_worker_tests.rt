@@ -2,7 +2,7 @@
 ghost use Rattle.std.specs.Prelude.{◌≡◌, IfSome, IfOk};
 ghost use Rattle.dc_worker.specs.Inlets.{HasCount};
 
-use dc_talk::{Ask, LinkFault, ListDoor, Log, Records, Say};
+use dc_talk::{Ask, LinkFault, ListDoor, Log, Records, Say, Sent};
 use dc_worker::{
     Inlet, bring, bring_rest, drain_round, mail_for, prune_round, report_round, send_round,
     take_round,
@@ -16,8 +16,11 @@ use std::test::Fail;
 use tx_core::Record;
 use vv_core::Stamp;
 
-// The record of centre 1 with this number.
-fn record(alloc: Global, seq: u64) -> Result<Record, Fail> {
+// The hops of each record here; a receiver delivers each with its own.
+const HOPS: u8 = 2;
+
+// The record of centre 1 with this number, as a centre hands it on.
+fn record(alloc: Global, seq: u64) -> Result<Sent, Fail> {
     let (stamp, dot) = (
         Stamp { centre: 1, seq },
         Dot {
@@ -27,11 +30,12 @@ fn record(alloc: Global, seq: u64) -> Result<Record, Fail> {
     );
     let deps = pair(0, 0);
     let tx = inc_tx(alloc, dot, seq, deps, &counter("a")?, &[5])?;
-    Ok(Record { stamp, deps, tx })
+    let item = Record { stamp, deps, tx };
+    Ok(Sent { item, hops: HOPS })
 }
 
 // The records of centre 1 behind the first so many, up to this number.
-fn records(alloc: Global, after: u64, last: u64) -> Result<Vec<Record>, Fail> {
+fn records(alloc: Global, after: u64, last: u64) -> Result<Vec<Sent>, Fail> {
     let mut list = Vec::new(alloc);
     for seq in 1..=last {
         if seq > after {
@@ -65,7 +69,7 @@ fn number_of(ask: &Ask) -> u64 {
     match ask {
         Ask::Report => 101,
         Ask::Send { after: 0, most } => 1000 + u64::from(*most),
-        Ask::Deliver { item } => item.stamp.seq,
+        Ask::Deliver { item, hops: HOPS } => item.stamp.seq,
         Ask::Learn { .. } => 102,
         Ask::Prune => 103,
         _ => 104,
@@ -196,10 +200,10 @@ fn a_reporter_tells_and_a_pruner_prunes(rt: HostRuntime) -> Result<(), Fail> {
 fn sent<R: Wait>(
     rt: &R,
     alloc: Global,
-    link: &Link<Record>,
-    giver: Giver<Record>,
+    link: &Link<Sent>,
+    giver: Giver<Sent>,
     last: u64,
-) -> Result<(u32, Giver<Record>), Fail>
+) -> Result<(u32, Giver<Sent>), Fail>
     requires { giver.link ≡ link.now }
     ensures { IfOk result (λ r. r.1.link ≡ link.now) }
 {

@@ -4,7 +4,7 @@ use Rattle.std.specs.Prelude.{replicate}
 use Rattle.std.specs.List.{range_with_len}
 use Rattle.std.proofs.lemmas.List.{append-nil, map-append, map-id, replicate-append-replicate, length-replicate}
 use Rattle.std.proofs.lemmas.List.FromFn.{map-range_with_len_more, length-range_with_len}
-use Rattle.tx_core.specs.declared.tx.Record.{Record}
+use Rattle.dc_talk.specs.declared.sent.Sent.{Sent}
 use Rattle.dc_talk.specs.declared.log.Deed.{Deed}
 use Rattle.dc_talk.specs.declared.log.Note.{Note}
 use Rattle.dc_talk.specs.Logs.{Logged}
@@ -42,7 +42,7 @@ next_step : (k : ℕ) → k + 1 ≡ 1 + length (range_with_len 1 k)
 next_step k = omega (arith, length-range_with_len 1 k)
 
 -- a round of a sender begins with a report
-sender_fresh : (i : ℕ) (tos : List ℕ) (deeds : List Deed) → InTurn (λ to deeds. (items : List Record) × Mails (route i to) deeds items) tos deeds → IsFresh deeds
+sender_fresh : (i : ℕ) (tos : List ℕ) (deeds : List Deed) → InTurn (λ to deeds. (items : List Sent) × Mails (route i to) deeds items) tos deeds → IsFresh deeds
 sender_fresh i [] deeds no_turn = record { last = λ last to. refl }
 sender_fresh i (to ∷ tos) deeds (next_turn first later whole mails rest) =
     let after : IsFresh later = sender_fresh i tos later rest in
@@ -139,7 +139,7 @@ receiver_more n i section before a b c log is was round =
     (goes_some n i section (before + 1) b c log round))
 
 -- the closing round
-pub closes_over : (n i section step : ℕ) (givers : List (List (GiverView Record))) (a c : Receiving) (log : Logged) → log ≡ log_at_step section step a.acting.log → DrainsOver n i givers (inward a.takers a.inlets) (inward c.takers c.inlets) (acting a.acting.door log) c.acting → Closes n i section step givers a c
+pub closes_over : (n i section step : ℕ) (givers : List (List (GiverView Sent))) (a c : Receiving) (log : Logged) → log ≡ log_at_step section step a.acting.log → DrainsOver n i givers (inward a.takers a.inlets) (inward c.takers c.inlets) (acting a.acting.door log) c.acting → Closes n i section step givers a c
 closes_over n i section step givers a c log is round =
     let leaves : Leaves (acting a.acting.door (log_at_step section step a.acting.log)) c.acting round.takes.deeds = subst (λ (log : Logged). Leaves (acting a.acting.door log) c.acting round.takes.deeds) is round.takes.adds.leaves in
     record {

@@ -1,6 +1,6 @@
 -- The actors of a phase, each before it and behind its part.
 use Rattle.std.specs.Prelude.{◌≡◌, ℕ, ◌+◌, replicate, length, List}
-use Rattle.tx_core.specs.declared.tx.Record.{Record}
+use Rattle.dc_talk.specs.declared.sent.Sent.{Sent}
 use Rattle.mail_link.specs.Ends.{GiverView}
 use Rattle.dc_links.specs.Links.{AreGivers, AreTakers}
 use Rattle.run_book.specs.Moves.{operator_steps}
@@ -51,7 +51,7 @@ pub record HasReceived (scene : Scene) (centre : ℕ) (old new : ReceiverEnd) : 
   pub plays : PlaysReceiver scene.script.now.n centre scene.number (replicate scene.script.now.rounds takes_some) (receiving old) (receiving new)
 
 -- it made its closing round, given the ends of all senders
-pub record HasClosed (scene : Scene) (centre : ℕ) (givers : List (List (GiverView Record))) (old new : ReceiverEnd) : Type 0 where
+pub record HasClosed (scene : Scene) (centre : ℕ) (givers : List (List (GiverView Sent))) (old new : ReceiverEnd) : Type 0 where
   pub same : IsSameCaller old.caller new.caller
   pub is : IsReceiverOf scene centre new
   pub closes : Closes scene.script.now.n centre scene.number (scene.script.now.rounds + 1) givers (receiving old) (receiving new)

@@ -1,7 +1,7 @@
 -- What the operator and the workers of a centre do in a phase.
 use Rattle.std.specs.Prelude.{◌≡◌, ◌≢◌, ℕ, length, All, List, ◌++◌}
 use Rattle.std.specs.List.{range_with_len}
-use Rattle.tx_core.specs.declared.tx.Record.{Record}
+use Rattle.dc_talk.specs.declared.sent.Sent.{Sent}
 use Rattle.dc_talk.specs.declared.log.Note.{Note}
 use Rattle.dc_talk.specs.Acting.{Acting}
 use Rattle.mail_link.specs.Ends.{GiverView, TakerView}
@@ -32,7 +32,7 @@ PlaysPruner i section rounds old new = Plays (PrunerGoes i) section tt (range_wi
 -- the ends of the links at which the sender of a centre puts, beside its door and its log
 pub record Sending : Type 0 where
   pub acting : Acting
-  pub givers : List (GiverView Record)
+  pub givers : List (GiverView Sent)
 
 -- the sender of centre i makes so many rounds, and puts on each link what its deeds mail there
 pub record PlaysSender (n i section rounds : ℕ) (old new : Sending) : Type 0 where
@@ -42,8 +42,8 @@ pub record PlaysSender (n i section rounds : ℕ) (old new : Sending) : Type 0 w
 -- the ends of the links at which the receiver of a centre takes, beside its door and its log
 pub record Receiving : Type 0 where
   pub acting : Acting
-  pub takers : List (TakerView Record)
-  pub inlets : List (Inlet Record)
+  pub takers : List (TakerView Sent)
+  pub inlets : List (Inlet Sent)
 
 -- what it took of each link, and its end
 abbrev pub intakes_of : Receiving → ℕ → Intake
@@ -67,7 +67,7 @@ receiving end = record { acting = seen_by end.caller; takers = end.takers.items;
 
 -- the receiver of centre i makes its closing round in a step of a section: it takes of each link all that was put there,
 -- as much by number as its sender's end says
-pub record Closes (n i section step : ℕ) (givers : List (List (GiverView Record))) (old new : Receiving) : Type 0 where
+pub record Closes (n i section step : ℕ) (givers : List (List (GiverView Sent))) (old new : Receiving) : Type 0 where
   pub mine : List Note
   pub acted : Acted old.acting new.acting mine
   pub at : All (IsAt section step) mine

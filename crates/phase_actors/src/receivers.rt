@@ -15,20 +15,19 @@ use crate::pace::{Pace, Worker};
 use crate::scene::Scene;
 use dc_host::HostDoor;
 use dc_links::{Links, drain_all, receive_all};
-use dc_talk::{Door, Log};
+use dc_talk::{Door, Log, Sent};
 use dc_worker::Inlet;
 use ids_core::NoMemory;
 use io_edge::Gate;
 use mail_link::{Giver, Taker};
 use std::sync::Wait;
-use tx_core::Record;
 
 /// A receiver as a caller, with the ends of the links to its centre and the fault of each with what it holds, one from
 /// each centre in order.
 #[derive(Drop)]
 pub struct ReceiverEnd {
     pub caller: Caller,
-    pub takers: Vec<Taker<Record>>,
+    pub takers: Vec<Taker<Sent>>,
     pub inlets: Vec<Inlet>,
 }
 
@@ -42,7 +41,7 @@ fn receive_rounds<R: Wait, D: Door>(
     rounds: u32,
     centre: u8,
     links: &Links,
-    takers: &mut Vec<Taker<Record>>,
+    takers: &mut Vec<Taker<Sent>>,
     inlets: &mut Vec<Inlet>,
     log: &mut Log,
 ) -> Result<(), NoMemory>
@@ -117,7 +116,7 @@ pub fn close_over<R: Wait, G: Gate>(
     scene: Scene<'_>,
     gate: &G,
     centre: u8,
-    givers: &[Vec<Giver<Record>>],
+    givers: &[Vec<Giver<Sent>>],
     end: ReceiverEnd,
 ) -> Result<ReceiverEnd, NoMemory>
     requires scene { IsScene scene }

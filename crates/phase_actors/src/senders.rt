@@ -14,18 +14,17 @@ use crate::pace::{Pace, Worker};
 use crate::scene::Scene;
 use dc_host::HostDoor;
 use dc_links::{Links, send_all};
-use dc_talk::{Door, Log};
+use dc_talk::{Door, Log, Sent};
 use ids_core::NoMemory;
 use io_edge::Gate;
 use mail_link::Giver;
 use std::sync::Wait;
-use tx_core::Record;
 
 /// A sender as a caller, with the ends of the links from its centre, one to each centre in order.
 #[derive(Drop)]
 pub struct SenderEnd {
     pub caller: Caller,
-    pub givers: Vec<Giver<Record>>,
+    pub givers: Vec<Giver<Sent>>,
 }
 
 // The rounds of the sender of a centre through a door.
@@ -38,7 +37,7 @@ fn send_rounds<R: Wait, D: Door>(
     rounds: u32,
     centre: u8,
     links: &Links,
-    givers: &mut Vec<Giver<Record>>,
+    givers: &mut Vec<Giver<Sent>>,
     log: &mut Log,
 ) -> Result<(), NoMemory>
     requires centres { (D.shown door.old).centres ≡ n }

@@ -4,6 +4,4 @@
 #[cfg(test)]
 mod made_tests;
 #[cfg(test)]
-mod maker;
-#[cfg(test)]
 mod spoilt_tests;

@@ -1,7 +1,6 @@
 // Two hundred made scripts, each played five times with threads in its phases, with the book of each run looked at slowly.
 ghost use Rattle.script_text.specs.Scripts.{IsInRange};
 
-use crate::maker::script_of;
 use dc_centre::Centre;
 use dc_talk::{Ask, Deed, Fate, Note};
 use hist_lock::Trail;
@@ -11,7 +10,9 @@ use run_book::Book;
 use run_progress::{Extent, Progress};
 use script_reader::parse;
 use script_text::Script;
-use slow_check::{Verdict, Worker, count_reads, log_of, records_in, verdict_on_threads};
+use slow_check::{
+    Relays, Verdict, Worker, count_reads, log_of, records_in, script_of, verdict_on_threads,
+};
 use std::alloc::Global;
 use std::process::Abort;
 use std::sync::Wait;
@@ -24,6 +25,9 @@ use thread_run::run;
 const SCRIPTS: u64 = 200;
 
 const RUNS: u64 = 5;
+
+// How many centres one script after another has.
+const CENTRES: [u64; 8] = [2, 3, 3, 2, 4, 3, 2, 5];
 
 // A gate that has some callers give way to others before a call, other ones in each run.
 #[derive(Clone, Copy)]
@@ -51,7 +55,7 @@ impl Progress for Sway {
 }
 
 // What there was in books: reads with a value, records that senders put on links and that receivers delivered, those of
-// these that came twice in a row, prunes of workers, and scripts of which two runs had another order.
+// these that came twice in a row, prunes of workers, scripts of which two runs had another order, and relays.
 #[derive(Clone, Copy, Debug)]
 struct Tally {
     reads: u64,
@@ -60,6 +64,7 @@ struct Tally {
     doubled: u64,
     prunes: u64,
     swayed: u64,
+    relays: Relays,
 }
 
 // The notes of a worker.
@@ -91,7 +96,7 @@ fn count_brought(notes: &[Note]) -> (u64, u64) {
     let mut last = None;
     for note in notes {
         if let Deed::Asked {
-            ask: Ask::Deliver { item },
+            ask: Ask::Deliver { item, .. },
             ..
         } = &note.deed
         {
@@ -115,6 +120,7 @@ impl Tally {
             doubled: 0,
             prunes: 0,
             swayed: 0,
+            relays: Relays::new(),
         }
     }
 
@@ -138,6 +144,7 @@ impl Tally {
             let (_agree, all) = count_reads(alloc, book, log)?;
             self.reads = self.reads.saturating_add(all);
         }
+        self.relays.take(book);
         Ok(())
     }
 
@@ -150,6 +157,8 @@ impl Tally {
             && self.doubled > 400
             && self.prunes > 800
             && self.swayed > 20
+            && self.relays.stops > 500
+            && self.relays.applied > 500
     }
 }
 
@@ -194,7 +203,9 @@ fn look_at<R: Threads + Wait + Abort + Sync>(
     seed: u64,
     tally: &mut Tally,
 ) -> Result<(), Fail> {
-    let script = parse(alloc, script_of(alloc, seed)?.as_bytes())?;
+    let centres = CENTRES.get(seed as usize % CENTRES.len()).copied();
+    let text = script_of(alloc, seed, centres.unwrap_or(2))?;
+    let script = parse(alloc, text.as_bytes())?;
     let first = seed.wrapping_mul(RUNS);
     let order = play(rt, alloc, &script, first, tally)?;
     let mut is_swayed = false;

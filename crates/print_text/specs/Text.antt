@@ -9,7 +9,7 @@ use Rattle.vv_core.specs.Vectors.{most}
 use Rattle.tx_core.specs.declared.state.Value.{Value}
 use Rattle.tx_core.specs.declared.state.Value.TheVariants.{Number, Word, Words, Pairs}
 use Rattle.dc_talk.specs.declared.line.Line.{Line}
-use Rattle.dc_talk.specs.declared.line.Line.TheVariants.{At, Refused, ConnectMissed, BeginOpen, BeginClock, Closed, ManyUpdates, ManyTags, Unconnected, FetchMissed, FetchLacks, FetchPruned, FetchIgnored, ReadValue, CommitNumber, CommitNone, CommitClosed, CommitPending, AbortClosed, PushUnconnected, PushNone, Push, AgainNone, Again, Flushed, Sees, RefreshUnconnected, RefreshOpen, RefreshLacks, RefreshMissed, RefreshIgnored, Ship, ToldDown, ToldMisfit, Based, BaseDown}
+use Rattle.dc_talk.specs.declared.line.Line.TheVariants.{At, Refused, ConnectMissed, BeginOpen, BeginClock, Closed, ManyUpdates, ManyTags, Unconnected, FetchMissed, FetchLacks, FetchPruned, FetchIgnored, ReadValue, CommitNumber, CommitNone, CommitClosed, CommitPending, AbortClosed, PushUnconnected, PushNone, Push, AgainNone, Again, Flushed, Sees, RefreshUnconnected, RefreshOpen, RefreshLacks, RefreshMissed, RefreshIgnored, Ship, Relay, ToldDown, ToldMisfit, Based, BaseDown}
 use Rattle.dc_talk.specs.declared.line.Miss.{Miss}
 use Rattle.dc_talk.specs.declared.line.Miss.TheVariants.{Unreachable, Lost, Misfit}
 use Rattle.dc_talk.specs.declared.line.PushEnd.{PushEnd}
@@ -139,6 +139,7 @@ line_text (RefreshLacks client lack) = client_text client ++ codes " refresh " +
 line_text (RefreshMissed client miss) = client_text client ++ codes " refresh " ++ miss_text miss
 line_text (RefreshIgnored client) = client_text client ++ codes " refresh ignored"
 line_text (Ship from to end) = centres_text to (codes " from ") from ++ codes " " ++ ship_end_text end
+line_text (Relay from origin to end) = centres_text to (codes " from ") from ++ codes " of " ++ decimal origin ++ codes " " ++ ship_end_text end
 line_text (ToldDown from to centre) = centres_text to (codes " told ") from ++ codes " down " ++ decimal centre
 line_text (ToldMisfit from to) = centres_text to (codes " told ") from ++ codes " misfit"
 line_text (Based centre vector folded trimmed) = decimal centre ++ codes " base " ++ vector_text vector ++ codes " folded " ++ decimal folded ++ codes " trimmed " ++ decimal trimmed

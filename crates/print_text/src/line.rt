@@ -141,6 +141,17 @@ pub fn write_line(text: &mut Vec<u8>, line: &Line) -> Result<(), NoMemory>
             text.extend_from_slice(b" ")?;
             write_ship_end(text, end)
         }
+        Line::Relay {
+            from,
+            origin,
+            to,
+            end,
+        } => {
+            write_centres(text, *to, b" from ", *from)?;
+            write_named(text, b" of ", u64::from(*origin))?;
+            text.extend_from_slice(b" ")?;
+            write_ship_end(text, end)
+        }
         Line::ToldDown { from, to, centre } => {
             write_centres(text, *to, b" told ", *from)?;
             write_named(text, b" down ", u64::from(*centre))

@@ -6,7 +6,6 @@ use Rattle.std.proofs.lemmas.Bool.{eq-eqb, false_from_ne_true, eqb-true}
 use Rattle.std.proofs.lemmas.List.FromFn.{map-range_with_len_more}
 use Rattle.std.proofs.lemmas.List.{append-nil, append_assoc, map-append, take-map, take_all, length-replicate, get_or-map}
 use Rattle.std.proofs.lemmas.List.Elements.{filter_map-append}
-use Rattle.std.proofs.lemmas.List.Sums.{fold_push}
 use Rattle.list_core.proofs.Moments.{by_moments}
 use Rattle.list_core.proofs.Ranges.{In_from_range}
 use Rattle.ids_core.specs.declared.ids.Dot.{Dot}
@@ -18,6 +17,7 @@ use Rattle.dc_talk.specs.declared.ask.Ask.TheVariants.{Commit, Deliver}
 use Rattle.dc_talk.specs.declared.say.Say.{Say}
 use Rattle.dc_talk.specs.declared.say.Say.TheVariants.{Stamped, Applied}
 use Rattle.dc_talk.specs.Entries.{Entry}
+use Rattle.dc_talk.proofs.Growth.{applied_push}
 use Rattle.dc_talk.specs.Logs.{Logged}
 use Rattle.dc_talk.specs.Records.{own, deps_of}
 use Rattle.dc_talk.specs.Trails.{grown, applied}
@@ -73,7 +73,7 @@ own_stamped_at settings trail history = by_moments (λ X. map (λ r. r.tx.dot) (
   where
     step : (p : ℕ) (entry : Entry) → slice_get trail p ≡ Some entry → map (λ r. r.tx.dot) (own settings.me (applied settings.n (take p trail))) ≡ stamped_dots (take p trail) → map (λ r. r.tx.dot) (own settings.me (applied settings.n (take p trail ++ entry ∷ []))) ≡ stamped_dots (take p trail ++ entry ∷ [])
     step p entry there before =
-        ap (λ A. map (λ r. r.tx.dot) (own settings.me A)) (fold_push (λ A (entry : Entry). grown settings.n A entry.ask entry.say) [] (take p trail) entry)
+        ap (λ A. map (λ r. r.tx.dot) (own settings.me A)) (applied_push settings.n (take p trail) entry)
         ∙ (go entry.ask entry.say (history.holds p entry there)
         ∙ (ap (λ l. l ++ cons_option (dot_stamped entry.ask entry.say) []) before
         ∙ sym (filter_map-append (λ (e : Entry). dot_stamped e.ask e.say) (take p trail) (entry ∷ []))))
@@ -89,10 +89,10 @@ own_stamped_at settings trail history = by_moments (λ X. map (λ r. r.tx.dot) (
             let by = stamped_by settings (take p trail) tx stamp is in
             own_more settings.me A (record { stamp = stamp; deps = deps_of settings.n A tx; tx = tx }) (ap (λ (s : Stamp). s.centre) by.is)
         go (Commit tx) _ is = same refl
-        go (Deliver item) (Applied fresh) is =
-            let by = applied_by settings (take p trail) item fresh is in
+        go (Deliver item hops) (Applied fresh) is =
+            let by = applied_by settings (take p trail) item hops fresh is in
             ap (map (λ r. r.tx.dot)) (own_other settings.me A item by.other) ∙ same refl
-        go (Deliver item) _ is = same refl
+        go (Deliver item hops) _ is = same refl
         go _ _ is = same refl
 
 -- so are those of the whole trail

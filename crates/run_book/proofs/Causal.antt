@@ -33,6 +33,8 @@ pub mod Reads
 pub mod ClosedSetValues
 pub mod Pruned
 pub mod Theorem
+pub mod Pigeons
+pub mod Hops
 pub mod Deliveries
 pub mod Links
 pub mod FitCommits

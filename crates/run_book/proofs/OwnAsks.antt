@@ -46,8 +46,8 @@ sent client s C i tx h sends =
     In_drop s.mine C tx (get_In (drop s.mine C) place tx there)
 
 -- commit asks are no deliveries, and teach nothing
-commit_no_delivery : (ask : Ask) (tx : Tx) (item : Record) → ask ≡ Commit tx → ask ≡ Deliver item → ⊥
-commit_no_delivery ask tx item commit delivers = cc
+commit_no_delivery : (ask : Ask) (tx : Tx) (item : Record) (hops : ℕ) → ask ≡ Commit tx → ask ≡ Deliver item hops → ⊥
+commit_no_delivery ask tx item hops commit delivers = cc
 
 commit_no_news : (ask : Ask) (tx : Tx) (from : ℕ) (news : List ℕ) → ask ≡ Commit tx → ask ≡ Learn from news → ⊥
 commit_no_news ask tx from news commit teaches = cc
@@ -145,9 +145,9 @@ module _ (n client capacity : ℕ) (notes : List Note) (follows : Follows n clie
       (allowed m note i ask fate there is)
 
   -- a client delivers no record
-  pub delivers_none : (m : ℕ) (note : Note) (i : ℕ) (fate : Fate) (item : Record) → slice_get notes m ≡ Some note → note.deed ≡ Asked i (Deliver item) fate → ⊥
-  delivers_none m note i fate item there is =
-      ⊎_elim (λ given. given.1.1) (λ commit. commit_no_delivery (Deliver item) commit.0 item commit.1 refl) (asked_given m note i (Deliver item) fate there is)
+  pub delivers_none : (m : ℕ) (note : Note) (i : ℕ) (fate : Fate) (item : Record) (hops : ℕ) → slice_get notes m ≡ Some note → note.deed ≡ Asked i (Deliver item hops) fate → ⊥
+  delivers_none m note i fate item hops there is =
+      ⊎_elim (λ given. given.1.1) (λ commit. commit_no_delivery (Deliver item hops) commit.0 item hops commit.1 refl) (asked_given m note i (Deliver item hops) fate there is)
 
   -- and teaches no vector
   pub teaches_none : (m : ℕ) (note : Note) (i : ℕ) (fate : Fate) (from : ℕ) (news : List ℕ) → slice_get notes m ≡ Some note → note.deed ≡ Asked i (Learn from news) fate → ⊥

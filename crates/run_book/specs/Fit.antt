@@ -12,7 +12,9 @@ use Rattle.dc_talk.specs.declared.calls.Outcome.{Outcome}
 use Rattle.dc_talk.specs.declared.log.Fate.{Fate}
 use Rattle.dc_talk.specs.declared.log.Deed.TheVariants.{Did, Asked}
 use Rattle.dc_talk.specs.declared.log.Note.{Note}
+use Rattle.dc_talk.specs.declared.sent.Sent.{Sent}
 use Rattle.dc_talk.specs.Entries.{Entry}
+use Rattle.dc_talk.specs.Sents.{with_hops}
 use Rattle.dc_talk.specs.Answers.{History}
 use Rattle.dc_talk.specs.Rule.{Follows}
 use Rattle.run_book.specs.declared.book.Book.{Book}
@@ -33,15 +35,16 @@ pub record InForm (b : Book) (setup : Setup) : Type 0 where
   pub centres : (a m : ℕ) (note : Note) (i : ℕ) (ask : Ask) (fate : Fate) → slice_get (notes_of b a) m ≡ Some note → note.deed ≡ Asked i ask fate → (1 ≤ i) × (i ≤ b.n)
   pub calls : (a m : ℕ) (note : Note) (call : Call) (outcome : Outcome) → slice_get (notes_of b a) m ≡ Some note → note.deed ≡ Did call outcome → IsClient setup a
 
--- the record stands in an answer of its origin to a send
-pub record IsSent (b : Book) (item : Record) : Type 0 where
-  pub origin : (1 ≤ item.stamp.centre) × (item.stamp.centre ≤ b.n)
+-- the record stands with these hops in an answer of some centre to a send or a relay
+pub record IsHandedOn (b : Book) (item : Record) (hops : ℕ) : Type 0 where
+  pub centre : ℕ
+  pub range : (1 ≤ centre) × (centre ≤ b.n)
   pub place : ℕ
   pub entry : Entry
-  pub there : slice_get (trail_of b item.stamp.centre) place ≡ Some entry
-  pub list : List Record
+  pub there : slice_get (trail_of b centre) place ≡ Some entry
+  pub list : List Sent
   pub says : entry.say ≡ Records list
-  pub has : In item list
+  pub has : In (with_hops item hops) list
 
 -- the vector stands in an answer of its centre to a report
 pub record IsReported (b : Book) (from : ℕ) (news : List ℕ) : Type 0 where
@@ -60,7 +63,7 @@ pub record FitsWith (b : Book) (setup : Setup) : Type 0 where
   pub capacity_range : 1 ≤ setup.capacity
   pub histories : (i : ℕ) → 1 ≤ i → i ≤ b.n → History (centre_settings b setup i) (trail_of b i)
   pub paired : (i a : ℕ) → 1 ≤ i → i ≤ b.n → 1 ≤ a → a ≤ length b.logs → entries_by a (trail_of b i) ≡ exchanged i (notes_of b a)
-  pub delivered : (i p : ℕ) (entry : Entry) (item : Record) → slice_get (trail_of b i) p ≡ Some entry → entry.ask ≡ Deliver item → IsSent b item
+  pub delivered : (i p : ℕ) (entry : Entry) (item : Record) (hops : ℕ) → slice_get (trail_of b i) p ≡ Some entry → entry.ask ≡ Deliver item hops → IsHandedOn b item hops
   pub learned : (i p : ℕ) (entry : Entry) (from : ℕ) (news : List ℕ) → slice_get (trail_of b i) p ≡ Some entry → entry.ask ≡ Learn from news → IsReported b from news
   pub follows : (a : ℕ) → IsClient setup a → Follows b.n (a - 1) setup.capacity (notes_of b a)
   pub commits_home : (a m : ℕ) (note : Note) (i : ℕ) (tx : Tx) (fate : Fate) → slice_get (notes_of b a) m ≡ Some note → note.deed ≡ Asked i (Commit tx) fate → IsClient setup a × In tx (commits_at b setup a m)

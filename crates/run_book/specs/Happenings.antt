@@ -5,9 +5,10 @@ use Rattle.list_core.specs.Members.{In}
 use Rattle.list_core.specs.Moments.{Each}
 use Rattle.ids_core.specs.declared.limits.TheConstants.{MOST_CENTRES, MOST_CLIENTS, MOST_RECORDS}
 use Rattle.vv_core.specs.Vectors.{at}
-use Rattle.tx_core.specs.declared.tx.Record.{Record}
+use Rattle.dc_talk.specs.declared.sent.Sent.{Sent}
+use Rattle.dc_talk.specs.Sents.{with_hops}
 use Rattle.dc_talk.specs.declared.ask.Ask.{Ask}
-use Rattle.dc_talk.specs.declared.ask.Ask.TheVariants.{Send, Deliver, Report, Learn, Prune, Stop, Start}
+use Rattle.dc_talk.specs.declared.ask.Ask.TheVariants.{Send, Deliver, Relay, Report, Learn, Prune, Stop, Start}
 use Rattle.dc_talk.specs.declared.say.Say.{Say}
 use Rattle.dc_talk.specs.declared.say.Say.TheVariants.{Trimmed, Records, Vector}
 use Rattle.dc_talk.specs.declared.calls.Connection.{Connection}
@@ -75,18 +76,20 @@ pub record HasAnswer (trail : List Entry) (say : Say) : Type 0 where
   pub there : In entry trail
   pub says : entry.say ≡ say
 
--- the record stands in an answer of its origin
-pub record WasSent (trails : ℕ → List Entry) (item : Record) : Type 0 where
-  pub list : List Record
-  pub answer : HasAnswer (trails item.stamp.centre) (Records list)
+-- the record stands with its hops in an answer of some centre
+pub record WasSent (trails : ℕ → List Entry) (item : Sent) : Type 0 where
+  pub centre : ℕ
+  pub list : List Sent
+  pub answer : HasAnswer (trails centre) (Records list)
   pub has : In item list
 
 -- what the operator and the workers ask: what they deliver was sent, what they teach was reported, and they ask for
 -- no session
 abbrev pub CarrierAsks : (ℕ → List Entry) → Ask → Type 0
-CarrierAsks trails (Deliver item) = WasSent trails item
+CarrierAsks trails (Deliver item hops) = WasSent trails (with_hops item hops)
 CarrierAsks trails (Learn from news) = HasAnswer (trails from) (Vector news)
 CarrierAsks trails (Send after most) = Unit {0}
+CarrierAsks trails (Relay origin after most) = Unit {0}
 CarrierAsks trails Report = Unit {0}
 CarrierAsks trails Prune = Unit {0}
 CarrierAsks trails Stop = Unit {0}
@@ -146,11 +149,17 @@ pub record AreTogether (n k : ℕ) (setup : Setup) (all : List Happened) : Type 
   pub histories : AreHistories n k setup all
   pub each : Each (Happens n setup) all
 
--- a centre that answers that own records were let go up to a number does so when every centre has them; so it never
--- answers that to a send from where a centre has no more, by the report of this one just before
+-- the ask, of a centre, is for the records of this origin behind this number
+abbrev pub AsksFor : ℕ → ℕ → ℕ → Ask → Type 0
+AsksFor i origin after (Send low most) = (origin ≡ i) × (after ≡ low)
+AsksFor i origin after (Relay from low most) = (origin ≡ from) × (after ≡ low)
+AsksFor i origin after _ = ⊥
+
+-- a centre that answers that an origin's records were let go up to a number does so when every centre has them; so it
+-- never answers that where it is asked for those that another centre lacks, by the report of this one just before
 pub record TrimsInTime (n : ℕ) (all : List Happened) : Type 0 where
-  pub had : (p i after most number j : ℕ) (h : Happened) (fate : Fate) → slice_get all p ≡ Some h → h.note.deed ≡ Asked i (Send after most) fate → answered fate ≡ Some (Trimmed number) → 1 ≤ j → j ≤ n → number ≤ at (vector n (applied n (trail_in j (take p all)))) i
-  pub ships : (p from to most number : ℕ) (first second : Happened) (v : List ℕ) (fate other : Fate) → slice_get all p ≡ Some first → slice_get all (p + 1) ≡ Some second → first.note.deed ≡ Asked to Report fate → answered fate ≡ Some (Vector v) → second.note.deed ≡ Asked from (Send (at v from) most) other → answered other ≢ Some (Trimmed number)
+  pub had : (p i origin after number j : ℕ) (h : Happened) (ask : Ask) (fate : Fate) → slice_get all p ≡ Some h → h.note.deed ≡ Asked i ask fate → AsksFor i origin after ask → answered fate ≡ Some (Trimmed number) → 1 ≤ j → j ≤ n → number ≤ at (vector n (applied n (trail_in j (take p all)))) origin
+  pub asked : (p from origin to number : ℕ) (first second : Happened) (v : List ℕ) (ask : Ask) (fate other : Fate) → slice_get all p ≡ Some first → slice_get all (p + 1) ≡ Some second → first.note.deed ≡ Asked to Report fate → answered fate ≡ Some (Vector v) → second.note.deed ≡ Asked from ask other → AsksFor from origin (at v origin) ask → answered other ≢ Some (Trimmed number)
 
 -- ---- the book of it
 

@@ -65,10 +65,10 @@ pub record HasReported (b : Book) (j : ℕ) (stamp : Stamp) : Type 0 where
   pub says : entry.say ≡ Vector (vector b.n (applied_at b j place))
   pub covers : within stamp (vector b.n (applied_at b j place)) ≡ true
 
--- every centre has the stamp at a moment of its own trail, and each but the one that gave it has reported so
-pub record IsKnownToAll (b : Book) (stamp : Stamp) : Type 0 where
+-- every centre has the stamp at a moment of its own trail, and each but centre i has reported so
+pub record IsKnownToAll (b : Book) (i : ℕ) (stamp : Stamp) : Type 0 where
   pub moments : (j : ℕ) → 1 ≤ j → j ≤ b.n → HasMoment b j stamp
-  pub reports : (j : ℕ) → 1 ≤ j → j ≤ b.n → j ≢ stamp.centre → HasReported b j stamp
+  pub reports : (j : ℕ) → 1 ≤ j → j ≤ b.n → j ≢ i → HasReported b j stamp
 
 -- at a moment of the trail the centre knew K centres to have the stamp
 pub record WasKnownBy (settings : Settings) (trail : List Entry) (stamp : Stamp) : Type 0 where

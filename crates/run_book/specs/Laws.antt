@@ -1,5 +1,5 @@
 -- What holds of every book that fits.
-use Rattle.std.specs.Prelude.{◌≡◌, ◌≢◌, ◌≤◌, ◌↔◌, ℕ, ◌+◌, ◌-◌, true, take, List, [], Some, slice_get}
+use Rattle.std.specs.Prelude.{◌≡◌, ◌≢◌, ◌≤◌, ◌<◌, ◌↔◌, ℕ, ◌+◌, ◌-◌, true, take, List, [], Some, slice_get}
 use Rattle.list_core.specs.Members.{In}
 use Rattle.ids_core.specs.declared.ids.Dot.{Dot}
 use Rattle.ids_core.specs.declared.object.ObjectId.{ObjectId}
@@ -9,11 +9,12 @@ use Rattle.tx_core.specs.declared.tx.Tx.{Tx}
 use Rattle.tx_core.specs.declared.tx.Record.{Record}
 use Rattle.tx_core.specs.declared.state.Value.{Value}
 use Rattle.dc_talk.specs.declared.ask.TheConstants.{MOST_SENT}
-use Rattle.dc_talk.specs.declared.ask.Ask.TheVariants.{Fetch, Send, Prune}
+use Rattle.dc_talk.specs.declared.ask.Ask.TheVariants.{Fetch, Send, Relay, Prune}
 use Rattle.dc_talk.specs.declared.say.Say.TheVariants.{Misfit, Snap, Pruned}
 use Rattle.dc_talk.specs.Entries.{Entry}
 use Rattle.dc_talk.specs.Records.{vector, count, own, inside}
-use Rattle.dc_talk.specs.Trails.{told, rows, stable}
+use Rattle.dc_talk.specs.declared.sent.Sent.{Sent}
+use Rattle.dc_talk.specs.Trails.{carried, told, rows, stable}
 use Rattle.dc_talk.specs.Clients.{draft_updates}
 use Rattle.dc_talk.specs.Rule.{takes}
 use Rattle.run_book.specs.declared.book.Book.{Book}
@@ -25,7 +26,7 @@ use Rattle.run_book.specs.Graphs.{own_list, cover, graph, basis_at, client_at, c
 use Rattle.run_book.specs.Sound.{IsSound}
 use Rattle.run_book.specs.Known.{HasMoment, IsKnown, IsKnownToAll, WasKnownBy}
 use Rattle.run_book.specs.Causal.{ValueRead, Reads, IsValueAt}
-use Rattle.run_book.specs.Refusals.{IsEntry, Exchange, IsSendAnswer, IsPruneAnswer, HearsRefresh, IsTimely}
+use Rattle.run_book.specs.Refusals.{IsEntry, Exchange, IsRelay, IsSendAnswer, IsPruneAnswer, HearsRefresh, IsTimely}
 
 -- the vectors of the book are sound at each moment: those of the centres, what centres told one
 -- another, the stable vectors, those up to which centres folded and will fold, the snapshots that were answered, and
@@ -84,15 +85,22 @@ pub record TakesSnapshots (b : Book) (setup : Setup) : Type 0 where
   pub exact : (x : Exchange) (number : ℕ) → HearsRefresh b setup x number → (takes (client_at b setup x.actor x.place) x.centre x.ask x.answer ≡ true) ↔ (number ≤ (client_at b setup x.actor x.place).own)
   pub timely : IsTimely b setup → (x : Exchange) (number : ℕ) → HearsRefresh b setup x number → takes (client_at b setup x.actor x.place) x.centre x.ask x.answer ≡ true
 
--- what is pruned is known: what a centre folded, it has, and knew K centres to have; what it let go of its own records,
--- every centre has had; a fetch is refused for what is folded with the least centre of which the base is above its vector,
--- and both numbers; a send that asks for what was let go is answered with the number up to which all was, and every other
--- one that fits with records, where the centre runs; and a prune is answered with how far the centre then has pruned
+-- what is pruned is known: what a centre folded, it has, and knew K centres to have; what it let go, of whatever origin,
+-- every centre has had, and each other one reported so; a fetch is refused for what is folded with the least centre of which
+-- the base is above its vector, and both numbers; a send or a relay that asks for what was let go is answered with the
+-- number up to which all was, and every other one that fits with records, where the centre runs; and a prune is answered
+-- with how far the centre then has pruned
 pub record KnowsPruned (b : Book) (setup : Setup) : Type 0 where
   pub folded : (i p : ℕ) (stamp : Stamp) → 1 ≤ i → i ≤ b.n → 1 ≤ stamp.seq → stamp.seq ≤ at (horizon_at b setup i p).base stamp.centre → WasKnownBy (centre_settings b setup i) (take p (trail_of b i)) stamp
   pub held : (i p : ℕ) → 1 ≤ i → i ≤ b.n → Covers (vector b.n (applied_at b i p)) (horizon_at b setup i p).base
-  pub let_go : (i p : ℕ) (stamp : Stamp) → 1 ≤ i → i ≤ b.n → stamp.centre ≡ i → 1 ≤ stamp.seq → stamp.seq ≤ (horizon_at b setup i p).trimmed → IsKnownToAll b stamp
+  pub let_go : (i p : ℕ) (stamp : Stamp) → 1 ≤ i → i ≤ b.n → 1 ≤ stamp.seq → stamp.seq ≤ at (horizon_at b setup i p).trimmed stamp.centre → IsKnownToAll b i stamp
   pub refused : (i : ℕ) (o : ObjectId) (here : List ℕ) (centre high low : ℕ) (entry : Entry) (stands : IsEntry b i entry) → entry.ask ≡ Fetch o here → entry.say ≡ Pruned centre high low → IsFirstLack here (horizon_at b setup i stands.place).base (record { centre = centre; need = high; have = low })
-  pub sends : (i after most : ℕ) (entry : Entry) (stands : IsEntry b i entry) → entry.ask ≡ Send after most → (1 ≤ most) × (most ≤ MOST_SENT) → IsSendAnswer (horizon_at b setup i stands.place).trimmed after entry.say
+  pub sends : (i after most : ℕ) (entry : Entry) (stands : IsEntry b i entry) → entry.ask ≡ Send after most → (1 ≤ most) × (most ≤ MOST_SENT) → IsSendAnswer (at (horizon_at b setup i stands.place).trimmed i) after entry.say
   pub misfits : (i after most : ℕ) (entry : Entry) → IsEntry b i entry → entry.ask ≡ Send after most → (entry.say ≡ Misfit) ↔ ((1 ≤ most) × (most ≤ MOST_SENT) → ⊥)
-  pub prunes : (i : ℕ) (entry : Entry) (stands : IsEntry b i entry) → entry.ask ≡ Prune → IsPruneAnswer (horizon_at b setup i stands.place) (horizon_at b setup i (stands.place + 1)) entry.say
+  pub relays : (i origin after most : ℕ) (entry : Entry) (stands : IsEntry b i entry) → entry.ask ≡ Relay origin after most → IsRelay b.n origin most → IsSendAnswer (at (horizon_at b setup i stands.place).trimmed origin) after entry.say
+  pub relay_misfits : (i origin after most : ℕ) (entry : Entry) → IsEntry b i entry → entry.ask ≡ Relay origin after most → (entry.say ≡ Misfit) ↔ (IsRelay b.n origin most → ⊥)
+  pub prunes : (i : ℕ) (entry : Entry) (stands : IsEntry b i entry) → entry.ask ≡ Prune → IsPruneAnswer i (horizon_at b setup i stands.place) (horizon_at b setup i (stands.place + 1)) entry.say
+
+-- no record that a centre has applied came there by as many deliveries as there are centres
+pub record HasFewHops (b : Book) : Type 0 where
+  pub below : (i p : ℕ) (x : Sent) → 1 ≤ i → i ≤ b.n → In x (carried b.n (take p (trail_of b i))) → x.hops < b.n

@@ -1,7 +1,8 @@
 -- How the asks of sessions are answered in a book.
 use Rattle.std.specs.Prelude.{◌≡◌, ◌≢◌, ◌≤◌, ◌<◌, ◌-◌, ℕ, length, take, List, Some, slice_get}
-use Rattle.vv_core.specs.Vectors.{Covers, IsFirstLack}
+use Rattle.vv_core.specs.Vectors.{at, Covers, IsFirstLack}
 use Rattle.dc_talk.specs.declared.ask.Ask.{Ask}
+use Rattle.dc_talk.specs.declared.ask.TheConstants.{MOST_SENT}
 use Rattle.dc_talk.specs.declared.ask.Ask.TheVariants.{Refresh}
 use Rattle.dc_talk.specs.declared.say.Say.{Say}
 use Rattle.dc_talk.specs.declared.say.Say.TheVariants.{Misfit, Down, Lacks, Known, Full, Stamped, Trimmed, Records, Snap, Pruned, Object, Base}
@@ -79,8 +80,13 @@ pub record IsFetched (b : Book) (setup : Setup) (x : Exchange) (here : List ℕ)
   pub there : slice_get (trail_of b x.centre) place ≡ Some (record { caller = x.actor; ask = x.ask; say = x.answer })
   pub answer : IsFetchAnswer (horizon_at b setup x.centre place).base here x.answer
 
--- the answers to a send of what comes after so many own records, of a centre that let them go up to a number: records
--- where these are not among those, and else the number
+-- a relay among n centres is of one of these as origin, and asks for so many records as may be sent
+pub record IsRelay (n origin most : ℕ) : Type 0 where
+  pub range : (1 ≤ origin) × (origin ≤ n)
+  pub few : (1 ≤ most) × (most ≤ MOST_SENT)
+
+-- the answers to a send or a relay of what comes after so many of an origin's records, of a centre that let them go up to
+-- a number: records where these are not among those, and else the number
 abbrev pub IsSendAnswer : ℕ → ℕ → Say → Type 0
 IsSendAnswer trimmed after (Records list) = trimmed ≤ after
 IsSendAnswer trimmed after (Trimmed from) = (after < trimmed) × (from ≡ trimmed)
@@ -89,10 +95,10 @@ IsSendAnswer trimmed after _ = ⊥
 
 -- the answers to a prune, of a centre that had pruned so far, and now so far: the new base, which was the mark before,
 -- and the new number up to which own records were let go; a stopped centre prunes nothing
-abbrev pub IsPruneAnswer : Horizon → Horizon → Say → Type 0
-IsPruneAnswer old new (Base vector folded trimmed) = (vector ≡ new.base) × (new.base ≡ old.mark) × (trimmed ≡ new.trimmed)
-IsPruneAnswer old new Down = new ≡ old
-IsPruneAnswer old new _ = ⊥
+abbrev pub IsPruneAnswer : ℕ → Horizon → Horizon → Say → Type 0
+IsPruneAnswer me old new (Base vector folded trimmed) = (vector ≡ new.base) × (new.base ≡ old.mark) × (trimmed ≡ at new.trimmed me)
+IsPruneAnswer me old new Down = new ≡ old
+IsPruneAnswer me old new _ = ⊥
 
 -- a client hears the answer to a refresh, a snapshot with so many of its commits
 pub record HearsRefresh (b : Book) (setup : Setup) (x : Exchange) (number : ℕ) : Type 0 where

@@ -19,7 +19,7 @@ ghost use Rattle.run_book.specs.Fit.{FitsWith};
 ghost use Rattle.run_book.specs.Graphs.{client_at, commits_at};
 ghost use Rattle.run_book.specs.Causal.{IsCausal};
 ghost use Rattle.run_book.specs.Refusals.{IsEntry, Exchange, Makes, IsPushAnswer, IsNoRefusal, IsFetched, IsReached};
-ghost use Rattle.run_book.specs.Laws.{HasSoundVectors, HasOneList, HasClosedBases, KeepsSessions, HasKnownBases, HasValues, Agrees, TakesSnapshots, KnowsPruned};
+ghost use Rattle.run_book.specs.Laws.{HasSoundVectors, HasOneList, HasClosedBases, KeepsSessions, HasKnownBases, HasValues, Agrees, TakesSnapshots, KnowsPruned, HasFewHops};
 ghost use Rattle.run_book.specs.Numbers.{HasNumbers};
 ghost use Rattle.run_book.specs.declared.book.Book.{Book};
 ghost use Rattle.run_book.specs.Refusals.{IsTimely};
@@ -93,7 +93,7 @@ pub fn law_agree(book: &Book)
 /// A state is always taken, and a snapshot where it has no more of the session's commits than it had made.
 pub fn law_refusals(book: &Book)
     ensures orphan { (setup : Setup) (i number have : ℕ) (entry : Entry) → FitsWith book.now setup → IsEntry book.now i entry → entry.say ≢ Orphan number have }
-    ensures deliver { (setup : Setup) (i : ℕ) (entry : Entry) (item : Record) → FitsWith book.now setup → IsEntry book.now i entry → entry.ask ≡ Deliver item → entry.say ≢ Misfit }
+    ensures deliver { (setup : Setup) (i : ℕ) (entry : Entry) (item : Record) (hops : ℕ) → FitsWith book.now setup → IsEntry book.now i entry → entry.ask ≡ Deliver item hops → entry.say ≢ Misfit }
     ensures learn { (setup : Setup) (i from : ℕ) (entry : Entry) (news : List ℕ) → FitsWith book.now setup → IsEntry book.now i entry → entry.ask ≡ Learn from news → entry.say ≢ Misfit }
     ensures fit { (setup : Setup) (a m : ℕ) (tx : Tx) → FitsWith book.now setup → IsClient setup a → In tx (commits_at book.now setup a m) → IsFit book.now.n tx }
     ensures linked { (setup : Setup) (a m : ℕ) (link : Connection) → FitsWith book.now setup → IsClient setup a → (client_at book.now setup a m).link ≡ Some link → IsReached book.now a (take m (notes_of book.now a)) (client_at book.now setup a m).vector link }
@@ -109,6 +109,11 @@ pub fn law_refusals(book: &Book)
 /// centre was told, and every centre has had, and reported, the records that their centre let go.
 pub fn law_pruned(book: &Book)
     ensures { (setup : Setup) → FitsWith book.now setup → KnowsPruned book.now setup }
+{}
+
+/// Where the book fits, no record that a centre has applied came there by as many deliveries as there are centres.
+pub fn law_hops(book: &Book)
+    ensures { (setup : Setup) → FitsWith book.now setup → HasFewHops book.now }
 {}
 
 /// A book that fits is causal (Zawirski and others, Middleware 2015). Asks and answers may be lost, and

@@ -4,11 +4,9 @@ use Rattle.std.specs.Prelude.{MatchBool}
 use Rattle.std.specs.List.{list_any}
 use Rattle.std.proofs.lemmas.Bool.{false≢true}
 use Rattle.std.proofs.lemmas.List.{append-nil}
-use Rattle.vv_core.specs.Vectors.{at}
-use Rattle.tx_core.specs.declared.tx.Record.{Record}
+use Rattle.dc_talk.specs.declared.sent.Sent.{Sent}
 use Rattle.dc_talk.specs.declared.ask.Ask.{Ask}
 use Rattle.dc_talk.specs.declared.ask.Ask.TheVariants.{Send, Deliver, Report, Learn, Prune as PruneAsk, Stop, Start}
-use Rattle.dc_talk.specs.declared.ask.TheConstants.{MOST_SENT}
 use Rattle.dc_talk.specs.declared.say.Say.{Say}
 use Rattle.dc_talk.specs.declared.say.Say.TheVariants.{Records, Vector}
 use Rattle.dc_talk.specs.declared.log.Fate.TheVariants.{Unheard}
@@ -18,9 +16,9 @@ use Rattle.dc_talk.specs.declared.line.Line.{Line}
 use Rattle.dc_talk.specs.declared.line.ShipEnd.{ShipEnd}
 use Rattle.dc_talk.specs.declared.line.ShipEnd.TheVariants.{Absent}
 use Rattle.script_text.specs.declared.steps.OperatorStep.{OperatorStep}
-use Rattle.script_text.specs.declared.steps.OperatorStep.TheVariants.{Down, Up, ShipOne, Ship, Tell, Prune, Link, Settle}
+use Rattle.script_text.specs.declared.steps.OperatorStep.TheVariants.{Down, Up, ShipOne, Ship, Relay, Tell, Prune, Link, Settle}
 use Rattle.script_text.specs.Deeds.{told}
-use Rattle.script_text.specs.Carrying.{Route, route, is_there, delivery_end, send_end, stopped_end, ship_line, tell_line, Delivers, AfterSend, Sends, AfterReport, Ships, AfterTold, Tells, routes, InTurn, no_turn, next_turn, Passes, is_news, Settles, last_pass, one_pass}
+use Rattle.script_text.specs.Carrying.{Route, route, detour, is_there, delivery_end, send_end, stopped_end, ship_line, relay_line, tell_line, Delivers, AfterSend, Sends, AfterReport, Supplies, own_need, origin_need, Ships, Relays, AfterTold, Tells, routes, detours, InTurn, no_turn, next_turn, Passes, is_news, Settles, last_pass, one_pass}
 use Rattle.script_text.specs.Orders.{Orders, base_line, OperatorDeeds}
 use Rattle.run_forks.specs.Forks.{IsFork, AreOneOrFork}
 use Rattle.run_forks.proofs.Forks.{OneWith, Same, fork_as, fork_front, with_as, with_then, one_or_fork, both_are, by_unheard}
@@ -36,20 +34,20 @@ begun i ask say again ds es xs ys Q one two on = with_as (Asked i ask (Unheard s
 -- ---- records
 
 -- deliveries of the same records
-delivers_fork : (to : ℕ) (items : List Record) (last : Option ShipEnd) (ds es : List Deed) (end again : Option ShipEnd) → Delivers to items last ds end → Delivers to items last es again → OneWith ds es (end ≡ again)
+delivers_fork : (to : ℕ) (items : List Sent) (last : Option ShipEnd) (ds es : List Deed) (end again : Option ShipEnd) → Delivers to items last ds end → Delivers to items last es again → OneWith ds es (end ≡ again)
 delivers_fork to [] last ds es end again one two = nothing ds es end again last one two
 delivers_fork to (item ∷ items) last [] es end again one two = absurd one
 delivers_fork to (item ∷ items) last (d ∷ ds) [] end again one two = absurd two
 delivers_fork to (item ∷ items) last (d ∷ ds) (e ∷ es) end again one two =
-    begun to (Deliver item) one.0 two.0 (d ∷ ds) (e ∷ es) ds es (end ≡ again) (ap (λ deed. deed ∷ ds) one.1) (ap (λ deed. deed ∷ es) two.1)
-    (λ same. go (is_there one.0) one.2 (subst (λ say. Follow (is_there say) say es again) (sym same) two.2) (λ first later. delivers_fork to items (delivery_end to item one.0) ds es end again first later))
+    begun to (Deliver item.item item.hops) one.0 two.0 (d ∷ ds) (e ∷ es) ds es (end ≡ again) (ap (λ deed. deed ∷ ds) one.1) (ap (λ deed. deed ∷ es) two.1)
+    (λ same. go (is_there one.0) one.2 (subst (λ say. Follow (is_there say) say es again) (sym same) two.2) (λ first later. delivers_fork to items (delivery_end to item.item one.0) ds es end again first later))
   where
     Follow : Bool → Say → List Deed → Option ShipEnd → Type 0
-    Follow test say deeds end = MatchBool test (Delivers to items (delivery_end to item say) deeds end) ((deeds ≡ []) × (end ≡ delivery_end to item say))
+    Follow test say deeds end = MatchBool test (Delivers to items (delivery_end to item.item say) deeds end) ((deeds ≡ []) × (end ≡ delivery_end to item.item say))
 
-    go : (test : Bool) → Follow test one.0 ds end → Follow test one.0 es again → (Delivers to items (delivery_end to item one.0) ds end → Delivers to items (delivery_end to item one.0) es again → OneWith ds es (end ≡ again)) → OneWith ds es (end ≡ again)
+    go : (test : Bool) → Follow test one.0 ds end → Follow test one.0 es again → (Delivers to items (delivery_end to item.item one.0) ds end → Delivers to items (delivery_end to item.item one.0) es again → OneWith ds es (end ≡ again)) → OneWith ds es (end ≡ again)
     go true first later on = on first later
-    go false first later on = nothing ds es end again (delivery_end to item one.0) first later
+    go false first later on = nothing ds es end again (delivery_end to item.item one.0) first later
 
 -- what follows the same answer to a send
 after_send_fork : (r : Route) (last : Option ShipEnd) (say : Say) (ds es : List Deed) (end again : Option ShipEnd) → AfterSend r last say ds end → AfterSend r last say es again → OneWith ds es (end ≡ again)
@@ -63,15 +61,15 @@ sends_fork r last ask ds es end again one two =
     (λ same. after_send_fork r last one.say one.later two.later end again one.follows (subst (λ say. AfterSend r last say two.later again) (sym same) two.follows))
 
 -- what follows the same report
-after_report_fork : (r : Route) (say : Say) (ds es : List Deed) (end again : Option ShipEnd) → AfterReport r say ds end → AfterReport r say es again → OneWith ds es (end ≡ again)
-after_report_fork r (Vector vector) ds es end again one two = sends_fork r None (Send (at vector r.from) MOST_SENT) ds es end again one two
-after_report_fork r say ds es end again one two = nothing ds es end again (stopped_end r.to say) one two
+after_report_fork : (r : Route) (need : List ℕ → Ask) (say : Say) (ds es : List Deed) (end again : Option ShipEnd) → AfterReport r need say ds end → AfterReport r need say es again → OneWith ds es (end ≡ again)
+after_report_fork r need (Vector vector) ds es end again one two = sends_fork r None (need vector) ds es end again one two
+after_report_fork r need say ds es end again one two = nothing ds es end again (stopped_end r.to say) one two
 
 -- deliveries of what a centre lacks
-ships_fork : (r : Route) (ds es : List Deed) (end again : Option ShipEnd) → Ships r ds end → Ships r es again → OneWith ds es (end ≡ again)
-ships_fork r ds es end again one two =
+supplies_fork : (r : Route) (need : List ℕ → Ask) (ds es : List Deed) (end again : Option ShipEnd) → Supplies r need ds end → Supplies r need es again → OneWith ds es (end ≡ again)
+supplies_fork r need ds es end again one two =
     begun r.to Report one.say two.say ds es one.later two.later (end ≡ again) one.whole two.whole
-    (λ same. after_report_fork r one.say one.later two.later end again one.follows (subst (λ say. AfterReport r say two.later again) (sym same) two.follows))
+    (λ same. after_report_fork r need one.say one.later two.later end again one.follows (subst (λ say. AfterReport r need say two.later again) (sym same) two.follows))
 
 -- ---- vectors
 
@@ -111,10 +109,12 @@ turns_fork Does each (x ∷ xs) ds es (next_turn first later is does rest) (next
 -- passes
 passes_fork : (n : ℕ) (ds es : List Deed) → Passes n ds → Passes n es → Same ds es
 passes_fork n ds es one two =
-    with_as (one.ships ++ one.tells) (two.ships ++ two.tells) ds es (Unit {0}) one.whole two.whole
-    (with_then one.ships two.ships one.tells two.tells (Unit {0}) (Unit {0})
-    (turns_fork (λ r deeds. (end : Option ShipEnd) × Ships r deeds end) (λ r ds es does again. plain ds es (does.0 ≡ again.0) (ships_fork r ds es does.0 again.0 does.1 again.1)) (routes n) one.ships two.ships one.shipped two.shipped)
-    (λ _. turns_fork (λ r deeds. (line : Option Line) × Tells r deeds line) (λ r ds es does again. plain ds es (does.0 ≡ again.0) (tells_fork r ds es does.0 again.0 does.1 again.1)) (routes n) one.tells two.tells one.told_all two.told_all))
+    with_as (one.ships ++ (one.relays ++ one.tells)) (two.ships ++ (two.relays ++ two.tells)) ds es (Unit {0}) one.whole two.whole
+    (with_then one.ships two.ships (one.relays ++ one.tells) (two.relays ++ two.tells) (Unit {0}) (Unit {0})
+    (turns_fork (λ r deeds. (end : Option ShipEnd) × Ships r deeds end) (λ r ds es does again. plain ds es (does.0 ≡ again.0) (supplies_fork r (own_need r) ds es does.0 again.0 does.1 again.1)) (routes n) one.ships two.ships one.shipped two.shipped)
+    (λ _. with_then one.relays two.relays one.tells two.tells (Unit {0}) (Unit {0})
+    (turns_fork (λ t deeds. (end : Option ShipEnd) × Relays t deeds end) (λ t ds es does again. plain ds es (does.0 ≡ again.0) (supplies_fork (route t.from t.to) (origin_need t) ds es does.0 again.0 does.1 again.1)) (detours n) one.relays two.relays one.relayed two.relayed)
+    (λ _. turns_fork (λ r deeds. (line : Option Line) × Tells r deeds line) (λ r ds es does again. plain ds es (does.0 ≡ again.0) (tells_fork r ds es does.0 again.0 does.1 again.1)) (routes n) one.tells two.tells one.told_all two.told_all)))
 
 -- one has news and the other none, so they part
 news_fork : (n : ℕ) (ds es : List Deed) → Passes n ds → Passes n es → list_any is_news ds ≡ false → list_any is_news es ≡ true → IsFork ds es
@@ -154,7 +154,10 @@ order_same n (ShipOne from to seq) ds es one two =
     (sends_fork (route from to) (Some (Absent seq)) (Send (seq - 1) 1) one.asks two.asks one.end two.end one.sends two.sends)
 order_same n (Ship from to) ds es one two =
     with_line ds es one.asks two.asks one.end two.end (ship_line (route from to)) one.whole two.whole
-    (ships_fork (route from to) one.asks two.asks one.end two.end one.ships two.ships)
+    (supplies_fork (route from to) (own_need (route from to)) one.asks two.asks one.end two.end one.ships two.ships)
+order_same n (Relay from origin to) ds es one two =
+    with_line ds es one.asks two.asks one.end two.end (relay_line (detour from origin to)) one.whole two.whole
+    (supplies_fork (route from to) (origin_need (detour from origin to)) one.asks two.asks one.end two.end one.relays two.relays)
 order_same n (Tell from to) ds es one two =
     with_line ds es one.asks two.asks one.line two.line (λ line. line) one.whole two.whole
     (tells_fork (route from to) one.asks two.asks one.line two.line one.tells two.tells)

@@ -1,7 +1,7 @@
 -- The deeds of a worker's round are the same, or part at an answer.
 use Rattle.std.proofs.Common.{◌≡◌, ℕ, inl, Bool, true, false, cond, List, [], ◌∷◌, Option, refl, sym, ap, ◌∙◌, subst}
 use Rattle.vv_core.specs.Vectors.{at}
-use Rattle.tx_core.specs.declared.tx.Record.{Record}
+use Rattle.dc_talk.specs.declared.sent.Sent.{Sent}
 use Rattle.dc_talk.specs.declared.ask.Ask.TheVariants.{Send, Deliver, Report, Prune}
 use Rattle.dc_talk.specs.declared.say.Say.{Say}
 use Rattle.dc_talk.specs.declared.say.Say.TheVariants.{Vector}
@@ -16,14 +16,14 @@ use Rattle.run_forks.proofs.Forks.{OneWith, Same, one_or_fork, both_are}
 use Rattle.run_forks.proofs.OperatorForks.{nothing, begun, tells_fork, plain, turns_fork, orders_fork}
 
 -- what follows the same report to a sender
-after_needed_fork : (r : Route) (say : Say) (ds es : List Deed) (items again : List Record) → AfterNeeded r say ds items → AfterNeeded r say es again → OneWith ds es (items ≡ again)
+after_needed_fork : (r : Route) (say : Say) (ds es : List Deed) (items again : List Sent) → AfterNeeded r say ds items → AfterNeeded r say es again → OneWith ds es (items ≡ again)
 after_needed_fork r (Vector vector) ds es items again one two =
     begun r.from (Send (at vector r.from) MOST_MAILED) one.0 two.0 ds es [] [] (items ≡ again) one.1 two.1
     (λ same. inl (refl, one.2 ∙ (ap records_in same ∙ sym two.2)))
 after_needed_fork r say ds es items again one two = nothing ds es items again [] one two
 
 -- the asks of a sender over one route
-mails_fork : (r : Route) (ds es : List Deed) (items again : List Record) → Mails r ds items → Mails r es again → OneWith ds es (items ≡ again)
+mails_fork : (r : Route) (ds es : List Deed) (items again : List Sent) → Mails r ds items → Mails r es again → OneWith ds es (items ≡ again)
 mails_fork r ds es items again one two =
     begun r.to Report one.say two.say ds es one.later two.later (items ≡ again) one.whole two.whole
     (λ same. after_needed_fork r one.say one.later two.later items again one.follows (subst (λ say. AfterNeeded r say two.later again) (sym same) two.follows))
@@ -31,19 +31,19 @@ mails_fork r ds es items again one two =
 -- a round of a sender
 pub sender_fork : (n i : ℕ) (ds es : List Deed) → SenderDeeds n i ds → SenderDeeds n i es → AreOneOrFork ds es
 sender_fork n i ds es one two = one_or_fork ds es (Unit {0})
-    (turns_fork (λ to deeds. (items : List Record) × Mails (route i to) deeds items) (λ to ds es does again. plain ds es (does.0 ≡ again.0) (mails_fork (route i to) ds es does.0 again.0 does.1 again.1)) (others n i) ds es one two)
+    (turns_fork (λ to deeds. (items : List Sent) × Mails (route i to) deeds items) (λ to ds es does again. plain ds es (does.0 ≡ again.0) (mails_fork (route i to) ds es does.0 again.0 does.1 again.1)) (others n i) ds es one two)
 
 -- deliveries of the same records, whatever is answered
-brings_fork : (to : ℕ) (items : List Record) (ds es : List Deed) → Brings to items ds → Brings to items es → Same ds es
+brings_fork : (to : ℕ) (items : List Sent) (ds es : List Deed) → Brings to items ds → Brings to items es → Same ds es
 brings_fork to [] ds es one two = both_are ds es [] one two
 brings_fork to (item ∷ items) [] es one two = absurd one
 brings_fork to (item ∷ items) (d ∷ ds) [] one two = absurd two
 brings_fork to (item ∷ items) (d ∷ ds) (e ∷ es) one two =
-    begun to (Deliver item) one.0.0 two.0.0 (d ∷ ds) (e ∷ es) ds es (Unit {0}) (ap (λ deed. deed ∷ ds) one.0.1) (ap (λ deed. deed ∷ es) two.0.1)
+    begun to (Deliver item.item item.hops) one.0.0 two.0.0 (d ∷ ds) (e ∷ es) ds es (Unit {0}) (ap (λ deed. deed ∷ ds) one.0.1) (ap (λ deed. deed ∷ es) two.0.1)
     (λ same. brings_fork to items ds es one.1 two.1)
 
 -- a round of a receiver to which the same records are due
-pub receiver_fork : (n j : ℕ) (due : ℕ → List Record) (ds es : List Deed) → ReceiverDeeds n j due ds → ReceiverDeeds n j due es → AreOneOrFork ds es
+pub receiver_fork : (n j : ℕ) (due : ℕ → List Sent) (ds es : List Deed) → ReceiverDeeds n j due ds → ReceiverDeeds n j due es → AreOneOrFork ds es
 receiver_fork n j due ds es one two = one_or_fork ds es (Unit {0})
     (turns_fork (λ from deeds. Brings j (due from) deeds) (λ from ds es does again. brings_fork j (due from) ds es does again) (others n j) ds es one two)
 

@@ -1,6 +1,6 @@
 // The laws of moves. Each is a function with nothing to do, whose contract is the law.
 ghost use Rattle.std.specs.Prelude.{◌≡◌, ℕ, List};
-ghost use Rattle.tx_core.specs.declared.tx.Record.{Record};
+ghost use Rattle.dc_talk.specs.declared.sent.Sent.{Sent};
 ghost use Rattle.dc_talk.specs.declared.log.Deed.{Deed};
 ghost use Rattle.script_text.specs.declared.steps.ClientStep.{ClientStep};
 ghost use Rattle.script_text.specs.declared.steps.OperatorStep.{OperatorStep};
@@ -22,7 +22,7 @@ pub fn law_forks()
     ensures client { (p : Progress) (step : ClientStep) (ds es : List Deed) → StepDeeds p step ds → StepDeeds p step es → AreOneOrFork ds es }
     ensures operator { (n : ℕ) (step : OperatorStep) (ds es : List Deed) → OperatorDeeds n step ds → OperatorDeeds n step es → AreOneOrFork ds es }
     ensures sender { (n i : ℕ) (ds es : List Deed) → SenderDeeds n i ds → SenderDeeds n i es → AreOneOrFork ds es }
-    ensures receiver { (n j : ℕ) (due : ℕ → List Record) (ds es : List Deed) → ReceiverDeeds n j due ds → ReceiverDeeds n j due es → AreOneOrFork ds es }
+    ensures receiver { (n j : ℕ) (due : ℕ → List Sent) (ds es : List Deed) → ReceiverDeeds n j due ds → ReceiverDeeds n j due es → AreOneOrFork ds es }
     ensures reporter { (n i : ℕ) (ds es : List Deed) → ReporterDeeds n i ds → ReporterDeeds n i es → AreOneOrFork ds es }
     ensures pruner { (i round : ℕ) (ds es : List Deed) → PrunerDeeds i round ds → PrunerDeeds i round es → AreOneOrFork ds es }
 {}

@@ -1,11 +1,8 @@
 -- What an actor carries as its own deeds brought it was sent and reported, be it before or behind.
-use Rattle.std.proofs.Common.{◌≡◌, ℕ, inl, inr, List, [], ◌∷◌, ◌++◌, take, Some, sym, ap, ◌∙◌, subst, append_assoc}
-use Rattle.std.specs.Prelude.{◌==◌}
-use Rattle.std.proofs.lemmas.Bool.{eqb-true}
+use Rattle.std.proofs.Common.{◌≡◌, ℕ, inl, inr, List, [], ◌∷◌, ◌++◌, Some, sym, ap, ◌∙◌, subst, append_assoc}
 use Rattle.list_core.specs.Members.{In}
-use Rattle.list_core.proofs.Gets.{In_get}
-use Rattle.list_core.proofs.Members.{In_left, In_map, In_from_map, In_from_filter}
-use Rattle.tx_core.specs.declared.tx.Record.{Record}
+use Rattle.list_core.proofs.Members.{In_left, In_map, In_from_map}
+use Rattle.dc_talk.specs.declared.sent.Sent.{Sent}
 use Rattle.dc_talk.specs.declared.ask.Ask.{Ask}
 use Rattle.dc_talk.specs.declared.ask.Ask.TheVariants as ask
 use Rattle.dc_talk.specs.declared.say.Say.{Say}
@@ -14,10 +11,9 @@ use Rattle.dc_talk.specs.declared.log.Deed.{Deed}
 use Rattle.dc_talk.specs.declared.log.Deed.TheVariants.{Did, Asked, Told}
 use Rattle.dc_talk.specs.declared.log.Note.{Note}
 use Rattle.dc_talk.specs.Entries.{Entry}
+use Rattle.dc_talk.specs.Sents.{with_hops}
 use Rattle.dc_talk.specs.Logs.{exchanged_in}
-use Rattle.dc_talk.specs.Trails.{applied}
-use Rattle.dc_talk.specs.Answers.{History, answer}
-use Rattle.dc_talk.proofs.PeerAnswers.{sent_by}
+use Rattle.dc_talk.specs.Answers.{History}
 use Rattle.script_text.specs.declared.script.Script.{Script}
 use Rattle.script_text.specs.Steps.{IsCount}
 use Rattle.script_text.specs.Provenance.{HasAnswer as HasBrought, WasSent as WasBrought, Carries, CarriesAll}
@@ -34,9 +30,10 @@ use Rattle.run_sections.proofs.InTurn.{order_each}
 
 -- what a carrier may ask by some trails it may ask by others that have the answers of these
 asks_more : (trails others : ℕ → List Entry) → ((i : ℕ) (say : Say) → HasAnswer (trails i) say → HasAnswer (others i) say) → (a : Ask) → CarrierAsks trails a → CarrierAsks others a
-asks_more trails others more (ask.Deliver item) h = record { list = h.list; answer = more item.stamp.centre (Records h.list) h.answer; has = h.has }
+asks_more trails others more (ask.Deliver item hops) h = record { centre = h.centre; list = h.list; answer = more h.centre (Records h.list) h.answer; has = h.has }
 asks_more trails others more (ask.Learn from news) h = more from (Vector news) h
 asks_more trails others more (ask.Send after most) h = tt
+asks_more trails others more (ask.Relay origin after most) h = tt
 asks_more trails others more ask.Report h = tt
 asks_more trails others more ask.Prune h = tt
 asks_more trails others more ask.Stop h = tt
@@ -75,15 +72,6 @@ pub record AreExchanged (script : Script) (notes : ℕ → List Note) (trails : 
   pub reach : (a : ℕ) (note : Note) → IsCount (actors_of script) a → In note (notes a) → GoesToOneOf script.n note.deed
 
 module _ (script : Script) (notes : ℕ → List Note) (trails : ℕ → List Entry) (are : AreExchanged script notes trails) where
-  -- a record of an answer with records was sent by its origin, which is the centre that answered
-  sent_by_origin : (i : ℕ) (list : List Record) (item : Record) → IsCount script.n i → HasAnswer (trails i) (Records list) → In item list → WasSent trails item
-  sent_by_origin i list item centre has there =
-      let at = In_get (trails i) has.entry has.there in
-      let front : List Entry = take at.0 (trails i) in
-      let said : Records list ≡ answer (settings_among script.n script.k (setup_of script) i) front has.entry.ask = sym has.says ∙ (are.histories i centre).holds at.0 has.entry at.1 in
-      let own : item.stamp.centre ≡ i = eqb-true item.stamp.centre i (In_from_filter (λ (r : Record). r.stamp.centre == i) (applied script.n front) item (sent_by (settings_among script.n script.k (setup_of script) i) front has.entry.ask list item said there)).1 in
-      record { list = list; answer = subst (λ i. HasAnswer (trails i) (Records list)) (sym own) has; has = there }
-
   module _ (a : ℕ) (actor : IsCount (actors_of script) a) (deeds : List Deed) (own : (deed : Deed) → In deed deeds → In deed (deeds_of (notes a))) where
     -- an answer that deeds of an actor brought stands in the trail of the centre
     brought : (i : ℕ) (ask : Ask) (say : Say) → HasBrought deeds i ask say → IsCount script.n i × HasAnswer (trails i) say
@@ -94,16 +82,17 @@ module _ (script : Script) (notes : ℕ → List Note) (trails : ℕ → List En
         (centre, note_entered i a (trails i) (notes a) (are.paired i a centre actor) from.0 ask say from.1 gives)
 
     -- a record that they brought was sent
-    pub brought_sent : (item : Record) → WasBrought deeds item → WasSent trails item
+    pub brought_sent : (item : Sent) → WasBrought deeds item → WasSent trails item
     brought_sent item was =
-        let has = brought was.centre (ask.Send was.after was.most) (Records was.list) was.answer in
-        sent_by_origin was.centre was.list item has.0 has.1 was.among
+        let has = brought was.centre was.ask (Records was.list) was.answer in
+        record { centre = was.centre; list = was.list; answer = has.1; has = was.among }
 
     -- what carries no more than they brought, a carrier may do
     carries_allowed : (deed : Deed) → Carries deeds deed → CarrierAllows trails deed
-    carries_allowed (Asked i (ask.Deliver item) fate) is = brought_sent item is
+    carries_allowed (Asked i (ask.Deliver item hops) fate) is = brought_sent (with_hops item hops) is
     carries_allowed (Asked i (ask.Learn from news) fate) is = (brought from ask.Report (Vector news) is).1
     carries_allowed (Asked i (ask.Send after most) fate) is = tt
+    carries_allowed (Asked i (ask.Relay origin after most) fate) is = tt
     carries_allowed (Asked i ask.Report fate) is = tt
     carries_allowed (Asked i ask.Prune fate) is = tt
     carries_allowed (Asked i ask.Stop fate) is = tt

@@ -17,6 +17,7 @@ use Rattle.dc_talk.specs.declared.log.Deed.{Deed}
 use Rattle.dc_talk.specs.declared.log.Deed.TheVariants.{Did, Asked}
 use Rattle.dc_talk.specs.declared.log.Note.{Note}
 use Rattle.dc_talk.specs.Entries.{Entry}
+use Rattle.dc_talk.specs.Sents.{with_hops}
 use Rattle.dc_talk.specs.Logs.{Logged}
 use Rattle.dc_talk.specs.Answers.{History}
 use Rattle.dc_talk.specs.Rule.{Follows, commits_of}
@@ -27,7 +28,7 @@ use Rattle.run_book.specs.declared.book.Book.{Book}
 use Rattle.run_book.specs.Setups.{setup_of, settings_among, centre_settings}
 use Rattle.run_book.specs.Parts.{trail_of, idle_log, notes_of, entries_by, exchanged, IsClient}
 use Rattle.run_book.specs.Graphs.{commits_at}
-use Rattle.run_book.specs.Fit.{InForm, IsSent, IsReported, FitsWith}
+use Rattle.run_book.specs.Fit.{InForm, IsHandedOn, IsReported, FitsWith}
 use Rattle.run_book.specs.Happenings.{GoesToOneOf, HasAnswer, WasSent, CarrierAllows, IsCarrier}
 use Rattle.run_book.proofs.OwnAsks.{own_commit, delivers_none, teaches_none}
 use Rattle.run_sections.specs.Sections.{actors_of}
@@ -68,16 +69,16 @@ module _ (script : Script) (notes : ℕ → List Note) (trails : ℕ → List En
       entry_noted i entry.caller (trails i) (notes entry.caller) (apart.paired i entry.caller centre caller) entry refl there
 
   -- what is delivered was sent
-  delivered : (i : ℕ) (entry : Entry) (item : Record) → In entry (trails i) → entry.ask ≡ Deliver item → WasSent trails item
-  delivered i entry item there delivers =
+  delivered : (i : ℕ) (entry : Entry) (item : Record) (hops : ℕ) → In entry (trails i) → entry.ask ≡ Deliver item hops → WasSent trails (with_hops item hops)
+  delivered i entry item hops there delivers =
       let h = noted i entry there in
       let a : ℕ = entry.caller in
-      let deed : h.note.deed ≡ Asked i (Deliver item) h.exchange.fate = h.exchange.is ∙ ap (λ ask. Asked i ask h.exchange.fate) delivers in
+      let deed : h.note.deed ≡ Asked i (Deliver item hops) h.exchange.fate = h.exchange.is ∙ ap (λ ask. Asked i ask h.exchange.fate) delivers in
       ⊎_elim
       (λ client.
       let at = In_get (notes a) h.note h.there in
-      absurd (delivers_none script.n (a - 1) script.cache (notes a) (follows a client) at.0 h.note i h.exchange.fate item at.1 deed))
-      (λ carrier. allowed a h.note (Asked i (Deliver item) h.exchange.fate) h.there deed carrier)
+      absurd (delivers_none script.n (a - 1) script.cache (notes a) (follows a client) at.0 h.note i h.exchange.fate item hops at.1 deed))
+      (λ carrier. allowed a h.note (Asked i (Deliver item hops) h.exchange.fate) h.there deed carrier)
       (client_or_carrier script a (apart.callers i entry (centre_in i entry there) there))
 
   -- what is learned was reported
@@ -156,12 +157,12 @@ module _ (script : Script) (b : Book) (notes : ℕ → List Note) (trails : ℕ 
     calls = λ a m note call outcome there deed. by_client a m note (Did call outcome) there deed (λ none. none);
   }
 
-  -- what is delivered was sent
-  sent : (i p : ℕ) (entry : Entry) (item : Record) → slice_get (trail_of b i) p ≡ Some entry → entry.ask ≡ Deliver item → IsSent b item
-  sent i p entry item there delivers =
-      let was = delivered script notes trails apart i entry item (in_trail i p entry there).1 delivers in
-      let at = answer_there item.stamp.centre (Records was.list) was.answer in
-      record { origin = at.centre; place = at.place; entry = at.entry; there = at.there; list = was.list; says = at.says; has = was.has }
+  -- what is delivered was handed on
+  handed : (i p : ℕ) (entry : Entry) (item : Record) (hops : ℕ) → slice_get (trail_of b i) p ≡ Some entry → entry.ask ≡ Deliver item hops → IsHandedOn b item hops
+  handed i p entry item hops there delivers =
+      let was = delivered script notes trails apart i entry item hops (in_trail i p entry there).1 delivers in
+      let at = answer_there was.centre (Records was.list) was.answer in
+      record { centre = was.centre; range = at.centre; place = at.place; entry = at.entry; there = at.there; list = was.list; says = at.says; has = was.has }
 
   -- what is learned was reported
   reported : (i p : ℕ) (entry : Entry) (from : ℕ) (news : List ℕ) → slice_get (trail_of b i) p ≡ Some entry → entry.ask ≡ Learn from news → IsReported b from news
@@ -204,7 +205,7 @@ module _ (script : Script) (b : Book) (notes : ℕ → List Note) (trails : ℕ 
         let centre : IsCount script.n i = (low, omega (arith, high, is.n)) in
         let actor : IsCount (actors_of script) a = (least, omega (arith, most, is.log_count)) in
         ap (entries_by a) (is.trails_are i centre) ∙ (apart.paired i a centre actor ∙ ap (exchanged i) (sym (is.notes_are a actor)));
-    delivered = sent;
+    delivered = handed;
     learned = reported;
     follows = λ a client.
         subst (λ n. Follows n (a - 1) script.cache (notes_of b a)) (sym is.n)

@@ -5,7 +5,7 @@ use Rattle.std.proofs.lemmas.Bool.{eq-eqb, false≢true}
 use Rattle.list_core.specs.Members.{In}
 use Rattle.list_core.proofs.Members.{In_left, In_right, In_either, In_take, In_drop, In_map, In_from_filter}
 use Rattle.vv_core.specs.Vectors.{centres}
-use Rattle.tx_core.specs.declared.tx.Record.{Record}
+use Rattle.dc_talk.specs.declared.sent.Sent.{Sent}
 use Rattle.dc_talk.specs.declared.log.Note.{Note}
 use Rattle.dc_talk.specs.Entries.{Entry}
 use Rattle.script_text.specs.declared.steps.OperatorStep.{OperatorStep}
@@ -22,12 +22,12 @@ use Rattle.run_sections.specs.Sections.{linked}
 -- ---- one round
 
 -- what is delivered was taken or held
-delivered_among : (receipt : Receipt) (inlet : Inlet Record) (items : List Record) (item : Record) → In item (delivered_of receipt inlet items) → In item (items ++ inlet.held)
+delivered_among : (receipt : Receipt) (inlet : Inlet Sent) (items : List Sent) (item : Sent) → In item (delivered_of receipt inlet items) → In item (items ++ inlet.held)
 delivered_among takes_some inlet items item there = arrivals_among inlet items item (In_take (arrived_count inlet items) (arrivals inlet items) item there)
 delivered_among takes_rest inlet items item there = arrivals_among inlet items item there
 
 -- so is what is held then
-held_among : (receipt : Receipt) (inlet : Inlet Record) (items : List Record) (item : Record) → In item (inlet_then receipt inlet items).held → In item (items ++ inlet.held)
+held_among : (receipt : Receipt) (inlet : Inlet Sent) (items : List Sent) (item : Sent) → In item (inlet_then receipt inlet items).held → In item (items ++ inlet.held)
 held_among takes_some inlet items item there = arrivals_among inlet items item (In_drop (arrived_count inlet items) (arrivals inlet items) item there)
 held_among takes_rest inlet items item there = absurd there
 
@@ -41,14 +41,14 @@ others_apart n j from there same =
 
 module _ (n j section : ℕ) where
   -- what was taken stays taken
-  taken_still : (step : ℕ) (s last : ℕ → Intake) (receipts : List Receipt) (notes : List Note) (from : ℕ) (item : Record) → IsCount n from → from ≢ j → InOrder (ReceiverGoes n j) section step s receipts notes last → In item (s from).taken → In item (last from).taken
+  taken_still : (step : ℕ) (s last : ℕ → Intake) (receipts : List Receipt) (notes : List Note) (from : ℕ) (item : Sent) → IsCount n from → from ≢ j → InOrder (ReceiverGoes n j) section step s receipts notes last → In item (s from).taken → In item (last from).taken
   taken_still step s last [] notes from item range other none_left there = there
   taken_still step s last (receipt ∷ receipts) notes from item range other (one_first next mine later whole at goes rest) there =
       taken_still (step + 1) next last receipts later from item range other rest
       (subst (λ (now : Intake). In item now.taken) (sym (goes.then_is from range other)) (In_left (s from).taken (goes.items from) item there))
 
   -- it delivers what was sent, where that is so of all that it takes and of what its links held
-  pub receiver_allowed : (trails : ℕ → List Entry) (step : ℕ) (s last : ℕ → Intake) (receipts : List Receipt) (notes : List Note) → ((from : ℕ) → IsCount n from → from ≢ j → (item : Record) → In item (last from).taken → WasSent trails item) → ((from : ℕ) → IsCount n from → from ≢ j → (item : Record) → In item (s from).inlet.held → WasSent trails item) → InOrder (ReceiverGoes n j) section step s receipts notes last → (note : Note) → In note notes → CarrierAllows trails note.deed
+  pub receiver_allowed : (trails : ℕ → List Entry) (step : ℕ) (s last : ℕ → Intake) (receipts : List Receipt) (notes : List Note) → ((from : ℕ) → IsCount n from → from ≢ j → (item : Sent) → In item (last from).taken → WasSent trails item) → ((from : ℕ) → IsCount n from → from ≢ j → (item : Sent) → In item (s from).inlet.held → WasSent trails item) → InOrder (ReceiverGoes n j) section step s receipts notes last → (note : Note) → In note notes → CarrierAllows trails note.deed
   receiver_allowed trails step s last [] notes taken held none_left note there = absurd there
   receiver_allowed trails step s last (receipt ∷ receipts) notes taken held (one_first next mine later whole at goes rest) note there = ⊎_elim
       (λ front.
@@ -61,10 +61,10 @@ module _ (n j section : ℕ) where
       rest note back)
       (In_either mine later note (subst (In note) whole there))
     where
-      due : ℕ → List Record
+      due : ℕ → List Sent
       due from = delivered_of receipt (s from).inlet (goes.items from)
 
-      had : (from : ℕ) → IsCount n from → from ≢ j → (item : Record) → In item (goes.items from ++ (s from).inlet.held) → WasSent trails item
+      had : (from : ℕ) → IsCount n from → from ≢ j → (item : Sent) → In item (goes.items from ++ (s from).inlet.held) → WasSent trails item
       had from range other item here = ⊎_elim
           (λ new. taken from range other item (taken_still (step + 1) next last receipts later from item range other rest
           (subst (λ (now : Intake). In item now.taken) (sym (goes.then_is from range other)) (In_right (s from).taken (goes.items from) item new))))
@@ -79,7 +79,7 @@ module _ (n j section : ℕ) where
 -- ---- links that are set
 
 -- a link that is set holds what it held
-pub linked_held : (steps : List OperatorStep) (from to : ℕ) (inlet : Inlet Record) → (linked steps from to inlet).held ≡ inlet.held
+pub linked_held : (steps : List OperatorStep) (from to : ℕ) (inlet : Inlet Sent) → (linked steps from to inlet).held ≡ inlet.held
 linked_held [] from to inlet = refl
 linked_held (Link i j fault ∷ steps) from to inlet = linked_held steps from to (cond (from == i && to == j) (inlet_set fault inlet) inlet) ∙ go (from == i && to == j)
   where

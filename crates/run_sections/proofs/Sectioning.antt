@@ -5,7 +5,7 @@ use Rattle.std.proofs.lemmas.List.Elements.{filter_map-append}
 use Rattle.list_core.specs.Members.{In}
 use Rattle.list_core.proofs.Members.{In_either, In_right, In_map, In_from_map}
 use Rattle.list_core.proofs.Moments.{each_none}
-use Rattle.tx_core.specs.declared.tx.Record.{Record}
+use Rattle.dc_talk.specs.declared.sent.Sent.{Sent}
 use Rattle.dc_talk.specs.declared.say.Say.{Say}
 use Rattle.dc_talk.specs.declared.log.Note.{Note}
 use Rattle.dc_talk.specs.Clients.{Client, new_client}
@@ -71,7 +71,7 @@ module _ (script : Script) (number : ℕ) (section : Section) (old : Between) (l
   ends_bare : (j from : ℕ) → IsCount script.n j → IsCount script.n from → from ≢ j → (new.inlets from j).held ≡ []
   ends_bare j from range there other =
       let r = plays.receivers j range in
-      ap (λ (inlet : Inlet Record). inlet.held) (r.inlets from there other)
+      ap (λ (inlet : Inlet Sent). inlet.held) (r.inlets from there other)
       ∙ go section.phase (left.notes (worker_of script.clients j Receiver)) r.first r.last (starts_bare j from range there other) r.order
     where
       go : (phase : Bool) (mine : List Note) (first last : ℕ → Intake) → (first from).inlet.held ≡ [] → InOrder (ReceiverGoes script.n j) number 1 first (cond phase (replicate script.rounds takes_some ++ takes_rest ∷ []) []) mine last → (last from).inlet.held ≡ []
@@ -110,7 +110,7 @@ module _ (script : Script) (number : ℕ) (section : Section) (old : Between) (l
         (carrier_acts script 1 (record { who = inl refl })) (left_among 1) (λ s next step m mine does. order_carries script.n m (deeds_of mine) does) plays.operator
 
     -- what a sender put on a link was sent
-    mail_sent : (from j : ℕ) (item : Record) → IsCount script.n from → In item (mail_left script left from j) → WasSent (trails_then trails left) item
+    mail_sent : (from j : ℕ) (item : Sent) → IsCount script.n from → In item (mail_left script left from j) → WasSent (trails_then trails left) item
     mail_sent from j item range there =
         let a : ℕ = worker_of script.clients from Sender in
         brought_sent script (notes_then notes left) (trails_then trails left) are_exchanged a (carrier_acts script a (worker_carries script.n script.clients from Sender range)) (deeds_of (left.notes a))

@@ -1,6 +1,6 @@
 -- What an actor does by itself in a section, one thing after another.
 use Rattle.std.specs.Prelude.{◌≡◌, ◌≢◌, ◌≤◌, ℕ, ◌+◌, map, length, All, List, [], ◌∷◌, ◌++◌}
-use Rattle.tx_core.specs.declared.tx.Record.{Record}
+use Rattle.dc_talk.specs.declared.sent.Sent.{Sent}
 use Rattle.dc_talk.specs.declared.log.Deed.{Deed}
 use Rattle.dc_talk.specs.declared.log.Note.{Note}
 use Rattle.script_text.specs.declared.steps.ClientStep.{ClientStep}
@@ -45,10 +45,10 @@ PrunerGoes i s step round notes later = PrunerDeeds i round (deeds_of notes)
 
 -- what a receiver took from a link since the section began, and the end of the link
 pub record Intake : Type 0 where
-  pub inlet : Inlet Record
-  pub taken : List Record
+  pub inlet : Inlet Sent
+  pub taken : List Sent
 
-abbrev pub intake : Inlet Record → List Record → Intake
+abbrev pub intake : Inlet Sent → List Sent → Intake
 intake inlet taken = record { inlet = inlet; taken = taken }
 
 -- a round of a receiver: one that takes of each link at most so many records as one round mails, or the closing one
@@ -57,24 +57,24 @@ pub data Receipt : Type 0 where
   takes_rest : Receipt
 
 -- how many of a link's records it may take
-abbrev pub MayTake : Receipt → List Record → Type 0
+abbrev pub MayTake : Receipt → List Sent → Type 0
 MayTake takes_some items = length items ≤ MOST_MAILED
 MayTake takes_rest items = Unit {0}
 
 -- what is delivered as records are taken from a link
-abbrev pub delivered_of : Receipt → Inlet Record → List Record → List Record
+abbrev pub delivered_of : Receipt → Inlet Sent → List Sent → List Sent
 delivered_of takes_some inlet items = arrived inlet items
 delivered_of takes_rest inlet items = arrivals inlet items
 
 -- the end of the link then
-abbrev pub inlet_then : Receipt → Inlet Record → List Record → Inlet Record
+abbrev pub inlet_then : Receipt → Inlet Sent → List Sent → Inlet Sent
 inlet_then takes_some inlet items = inlet_after inlet items
 inlet_then takes_rest inlet items = inlet_closed inlet items
 
 -- the receiver of centre i among n makes a round: of the link from each other centre it takes the next records, as many
 -- as it finds, and delivers what comes of them by the link's fault
 pub record ReceiverGoes (n i : ℕ) (s : ℕ → Intake) (step : ℕ) (receipt : Receipt) (notes : List Note) (later : ℕ → Intake) : Type 0 where
-  pub items : ℕ → List Record
+  pub items : ℕ → List Sent
   pub may : (from : ℕ) → IsCount n from → from ≢ i → MayTake receipt (items from)
   pub delivers : ReceiverDeeds n i (λ from. delivered_of receipt (s from).inlet (items from)) (deeds_of notes)
   pub then_is : (from : ℕ) → IsCount n from → from ≢ i → later from ≡ intake (inlet_then receipt (s from).inlet (items from)) ((s from).taken ++ items from)

@@ -3,7 +3,7 @@
 use Rattle.std.specs.Prelude.{◌≡◌, ◌≢◌, ℕ, ◌+◌, ◌*◌, ◌==◌, ◌&&◌, true, cond, replicate, List, [], ◌∷◌, ◌++◌}
 use Rattle.std.specs.List.{range_with_len}
 use Rattle.list_core.specs.Members.{In}
-use Rattle.tx_core.specs.declared.tx.Record.{Record}
+use Rattle.dc_talk.specs.declared.sent.Sent.{Sent}
 use Rattle.dc_talk.specs.declared.log.Note.{Note}
 use Rattle.dc_talk.specs.Entries.{Entry}
 use Rattle.script_text.specs.declared.script.Script.{Script}
@@ -25,14 +25,14 @@ use Rattle.run_sections.specs.Orders.{deeds_of, InOrder, ClientGoes, OperatorGoe
 -- how far each client has come, and the end of each link between two centres; nothing lies on a link then
 pub record Between : Type 0 where
   pub come : ℕ → Progress
-  pub inlets : ℕ → ℕ → Inlet Record
+  pub inlets : ℕ → ℕ → Inlet Sent
 
 -- before the first section of a script
 abbrev pub first_between : Script → Between
 first_between script = record { come = λ client. new_progress script.n client script.cache; inlets = λ from to. clean_inlet }
 
 -- the end of a link as steps of the operator set it, one after another
-abbrev pub linked : List OperatorStep → ℕ → ℕ → Inlet Record → Inlet Record
+abbrev pub linked : List OperatorStep → ℕ → ℕ → Inlet Sent → Inlet Sent
 linked [] from to inlet = inlet
 linked (Link i j fault ∷ steps) from to inlet = linked steps from to (cond (from == i && to == j) (inlet_set fault inlet) inlet)
 linked (step ∷ steps) from to inlet = linked steps from to inlet
@@ -57,7 +57,7 @@ pub record Left : Type 0 where
   pub entries : ℕ → List Entry
 
 -- what the sender of a centre put on the link to another one, by its notes
-abbrev pub mail_left : Script → Left → ℕ → ℕ → List Record
+abbrev pub mail_left : Script → Left → ℕ → ℕ → List Sent
 mail_left script left from to = mailed to (deeds_of (left.notes (worker_of script.clients from Sender)))
 
 -- the receiver of centre j does its rounds in order, and takes from each other centre just what that one's sender put

@@ -1,5 +1,5 @@
 // Lines that no script can write, and the text of logs.
-use dc_talk::{Call, Deed, Line, Log, Miss, Outcome, PushEnd, StepWord};
+use dc_talk::{Call, Deed, Line, Log, Miss, Outcome, PushEnd, ShipEnd, StepWord};
 use ids_core::{NoMemory, ObjectId};
 use print_text::{text_of, write_deed, write_line};
 use samples::counter;
@@ -139,6 +139,35 @@ fn lines_of_refreshes(rt: HostRuntime) -> Result<(), Fail> {
     let missed = Line::RefreshMissed { client, miss };
     assert!(rt; prints(alloc, missed, "c7 refresh misfit")?);
     assert!(rt; prints(alloc, Line::RefreshIgnored { client }, "c7 refresh ignored")?);
+    Ok(())
+}
+
+#[test]
+fn lines_of_relays(rt: HostRuntime) -> Result<(), Fail> {
+    let (from, origin, to) = (2, 1, 3);
+    for (end, want) in [
+        (ShipEnd::Applied { seq: 7 }, "3 from 2 of 1 applied 7"),
+        (ShipEnd::Alias { seq: 7 }, "3 from 2 of 1 alias 7"),
+        (
+            ShipEnd::Waits { lack: LACK },
+            "3 from 2 of 1 waits 3:9 has 7",
+        ),
+        (
+            ShipEnd::Orphan { number: 5, have: 2 },
+            "3 from 2 of 1 orphan 5 has 2",
+        ),
+        (ShipEnd::Trimmed { from: 4 }, "3 from 2 of 1 trimmed 4"),
+        (ShipEnd::Down { centre: 2 }, "3 from 2 of 1 down 2"),
+        (ShipEnd::Misfit, "3 from 2 of 1 misfit"),
+    ] {
+        let relay = Line::Relay {
+            from,
+            origin,
+            to,
+            end,
+        };
+        assert!(rt; prints(rt.alloc(), relay, want)?, "{want}");
+    }
     Ok(())
 }
 

@@ -1,7 +1,7 @@
 // Books of several centres, made by hand: a client's commit was stamped more than once, since an answer
 // was lost and a copy came late.
 use dc_centre::Centre;
-use dc_talk::{Ask, Call, Change, Deed, Fate, Log, Outcome, Records, Refusal, Say};
+use dc_talk::{Ask, Call, Change, Deed, Fate, Log, Outcome, Records, Refusal, Say, Sent};
 use hist_lock::Trail;
 use ids_core::{Dot, NoMemory, ObjectId};
 use run_book::{
@@ -184,7 +184,11 @@ fn carry(
     to: u8,
 ) -> Result<(), NoMemory> {
     let item = hand.record(alloc, object, from)?;
-    let list = Records::from_vec(vec![in alloc; hand.record(alloc, object, from)?]?);
+    let sent = Sent {
+        item: hand.record(alloc, object, from)?,
+        hops: 0,
+    };
+    let list = Records::from_vec(vec![in alloc; sent]?);
     hand.settles(
         from,
         Ask::Send {
@@ -193,7 +197,11 @@ fn carry(
         },
         Say::Records { list },
     )?;
-    hand.settles(to, Ask::Deliver { item }, Say::Applied { fresh: false })
+    hand.settles(
+        to,
+        Ask::Deliver { item, hops: 0 },
+        Say::Applied { fresh: false },
+    )
 }
 
 // One centre learns that another has what centres 1 and 2 stamped.

@@ -33,7 +33,8 @@ fn change(alloc: Global, dice: &mut Dice, client: u64) -> Result<String, AllocEr
 fn far_step(alloc: Global, dice: &mut Dice, client: u64) -> Result<String, AllocError> {
     let centre = dice.roll(3) + 1;
     let other = centre % 3 + 1;
-    match dice.roll(8) {
+    let third = other % 3 + 1;
+    match dice.roll(9) {
         0 | 1 => format!(in alloc; "c{client} connect {centre}\n"),
         2 => {
             let fault = one_of(dice, &["lose ask", "lose reply", "twice"]);
@@ -46,6 +47,7 @@ fn far_step(alloc: Global, dice: &mut Dice, client: u64) -> Result<String, Alloc
             let switch = one_of(dice, &["down", "up", "up"]);
             format!(in alloc; "{switch} {centre}\n")
         }
+        7 => format!(in alloc; "relay {centre} {other} {third}\n"),
         _ => format!(in alloc; "settle\n"),
     }
 }

@@ -73,6 +73,8 @@ fn words_are_told_from_left_to_right(rt: HostRuntime) -> Result<(), Fail> {
     assert!(rt; is_refused_of_three(alloc, b"ship x 1 0", Cause::Number)?);
     assert!(rt; is_refused_of_three(alloc, b"ship 1 2 0", Cause::Range)?);
     assert!(rt; is_refused_of_three(alloc, b"ship 1 2 1000001", Cause::Range)?);
+    assert!(rt; is_refused_of_three(alloc, b"relay 1 1 x", Cause::Range)?);
+    assert!(rt; is_refused_of_three(alloc, b"relay 1 x 1", Cause::Number)?);
     assert!(rt; is_refused_of_three(alloc, b"c13 inc s.A x", Cause::Range)?);
     assert!(rt; is_refused_of_three(alloc, b"c01 begin", Cause::Number)?);
     assert!(rt; is_refused_of_three(alloc, b"c12345678901234567890 begin", Cause::Number)?);
@@ -405,5 +407,32 @@ fn the_steps_of_a_phase_are_one_section(rt: HostRuntime) -> Result<(), Fail> {
     assert!(rt; sections[1].phase && are_three(sections[1].steps.as_slice()));
     assert!(rt; sections[2].phase && sections[2].steps.is_empty());
     assert!(rt; matches!(order_at(sections, 3), Some(OperatorStep::Up { centre: 1 })));
+    Ok(())
+}
+
+#[test]
+fn a_relay_names_three_centres(rt: HostRuntime) -> Result<(), Fail> {
+    let script = parse(rt.alloc(), b"centres 3 k 1\nclients 1\nrelay 2 1 3\n")?;
+    assert!(rt;
+        matches!(
+            order_at(script.sections.as_slice(), 0),
+            Some(OperatorStep::Relay {
+                from: 2,
+                origin: 1,
+                to: 3
+            })
+        )
+    );
+    for line in [
+        b"relay 2 2 3",
+        b"relay 2 1 2",
+        b"relay 2 1 1",
+        b"relay 2 1 4",
+    ] {
+        assert!(rt; is_refused_of_three(rt.alloc(), line, Cause::Range)?);
+    }
+    for line in [b"relay 2 1".as_slice(), b"relay 2 1 3 1".as_slice()] {
+        assert!(rt; is_refused_of_three(rt.alloc(), line, Cause::Count)?);
+    }
     Ok(())
 }

@@ -8,7 +8,7 @@ use Rattle.script_text.specs.declared.script.Script.{Script}
 use Rattle.script_text.specs.declared.script.TheConstants.{DEFAULT_CACHE, DEFAULT_THREADS, DEFAULT_ROUNDS}
 use Rattle.script_text.specs.declared.steps.Section.{Section}
 use Rattle.script_text.specs.declared.steps.ClientStep.TheVariants.{Begin}
-use Rattle.script_text.specs.declared.steps.OperatorStep.TheVariants.{Down, Up, Link, Settle}
+use Rattle.script_text.specs.declared.steps.OperatorStep.TheVariants.{Down, Up, Relay, Link, Settle}
 use Rattle.script_text.specs.declared.steps.Step.TheVariants.{Client, Operator}
 use Rattle.script_text.specs.Rows.{phase_of, section_of}
 use Rattle.script_reader.specs.declared.fault.Cause.{Cause}
@@ -163,6 +163,40 @@ a_link_to_the_same_centre : RefusedAt 3 (codes "link 2 2 twice 1\n") cause.Range
 unfolding script_read words_of number_in delta_in object_named form_among said_word row_of row_in_text row_in may_stand read_more
 a_link_to_the_same_centre = refl
 
+-- ---- relays
+
+-- this line behind the two of a header with three centres and one client is refused so
+abbrev RefusedOfThree : List ℕ → Cause → Type 0
+RefusedOfThree line why = script_read (codes "centres 3 k 1\nclients 1\n" ++ line) ≡ Err (Refused 3 why)
+
+a_relay_over_its_origin : RefusedOfThree (codes "relay 2 2 x\n") cause.Range
+unfolding script_read words_of number_in delta_in object_named form_among said_word row_of row_in_text row_in may_stand read_more
+a_relay_over_its_origin = refl
+
+a_relay_back : RefusedOfThree (codes "relay 1 2 1\n") cause.Range
+unfolding script_read words_of number_in delta_in object_named form_among said_word row_of row_in_text row_in may_stand read_more
+a_relay_back = refl
+
+a_relay_to_its_origin : RefusedOfThree (codes "relay 1 2 2\n") cause.Range
+unfolding script_read words_of number_in delta_in object_named form_among said_word row_of row_in_text row_in may_stand read_more
+a_relay_to_its_origin = refl
+
+a_relay_to_no_centre : RefusedOfThree (codes "relay 1 2 4\n") cause.Range
+unfolding script_read words_of number_in delta_in object_named form_among said_word row_of row_in_text row_in may_stand read_more
+a_relay_to_no_centre = refl
+
+a_relay_without_a_third_centre : RefusedOfThree (codes "relay 1 2\n") cause.Count
+unfolding script_read words_of number_in delta_in object_named form_among said_word row_of row_in_text row_in may_stand read_more
+a_relay_without_a_third_centre = refl
+
+a_relay_of_a_record : RefusedOfThree (codes "relay 1 2 3 4\n") cause.Count
+unfolding script_read words_of number_in delta_in object_named form_among said_word row_of row_in_text row_in may_stand read_more
+a_relay_of_a_record = refl
+
+a_relay_to_a_word : RefusedOfThree (codes "relay 1 2 x\n") cause.Number
+unfolding script_read words_of number_in delta_in object_named form_among said_word row_of row_in_text row_in may_stand read_more
+a_relay_to_a_word = refl
+
 -- ---- scripts that are taken
 
 -- the script with these sections, of two centres, with one client and no settings
@@ -188,3 +222,7 @@ two_phases = refl
 faults_of_links : Reads (codes "link 1 2 hold 3\nlink 2 1 drop 1\nlink 1 2 twice 2\nlink 1 2 clean\n") (section_of (Operator (Link 1 2 (fault.Hold 3))) ∷ section_of (Operator (Link 2 1 (fault.Drop 1))) ∷ section_of (Operator (Link 1 2 (fault.Twice 2))) ∷ section_of (Operator (Link 1 2 fault.Clean)) ∷ [])
 unfolding script_read words_of number_in delta_in object_named form_among said_word row_of row_in_text row_in may_stand read_more
 faults_of_links = refl
+
+a_relay : script_read (codes "centres 3 k 1\nclients 1\nrelay 3 1 2\nphase\nrelay 1 2 3\nend\n") ≡ Ok (record (plain_script (section_of (Operator (Relay 3 1 2)) ∷ phase_of (Operator (Relay 1 2 3) ∷ []) ∷ [])) { n = 3 })
+unfolding script_read words_of number_in delta_in object_named form_among said_word row_of row_in_text row_in may_stand read_more
+a_relay = refl

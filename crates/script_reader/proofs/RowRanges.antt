@@ -5,7 +5,7 @@ use Rattle.std.specs.List.{list_any}
 use Rattle.std.proofs.lemmas.Bool.{and_parts}
 use Rattle.ids_core.specs.Same.{same_sort-true}
 use Rattle.ids_core.specs.declared.limits.TheConstants.{MOST_CENTRES, MOST_CLIENTS, MOST_CACHED, MOST_RECORDS}
-use Rattle.script_text.specs.Steps.{IsCount, IsHeader, IsRoute, IsStepOf}
+use Rattle.script_text.specs.Steps.{IsCount, IsDetour, IsHeader, IsRoute, IsStepOf}
 use Rattle.script_text.specs.declared.limits.TheConstants.{MAX_LINE, MAX_LINES}
 use Rattle.script_text.specs.declared.script.Header.{Header}
 use Rattle.script_reader.specs.declared.fault.Cause.{Cause}
@@ -22,7 +22,7 @@ use Rattle.script_reader.specs.Words.{words_of, without_return, is_comment, is_p
 use Rattle.script_reader.specs.Forms.{agrees, fits, forms, found, form_among, form_of, parts_of}
 use Rattle.script_reader.specs.Said.{unsaid, said_words}
 use Rattle.script_reader.specs.Rows.{row_of, is_of_its_kind, kind_checked, row_said, row_spelled, row_in_words, row_in_text, row_in}
-use Rattle.script_reader.proofs.SaidRanges.{IsSaid, IsCounted, IsOther, count_of, unsaid_in_range, words_in_range, counted_in_range, route_said}
+use Rattle.script_reader.proofs.SaidRanges.{IsSaid, IsCounted, IsOther, IsThird, count_of, unsaid_in_range, words_in_range, counted_in_range, route_said, detour_said}
 
 -- what a line sets is in its range
 abbrev pub SetsInRange : Row → Type 0
@@ -56,10 +56,11 @@ sets_in_range header form.Threads said is counted = counted
 sets_in_range header form.Rounds said is counted = counted.1
 sets_in_range header _ said is counted = tt
 
--- where a form has two centres, the second is another one
+-- where a form has two centres, the second is another one, and where it has three, they differ
 abbrev HasRoute : ℕ → Form → Said → Type 0
 HasRoute n form.ShipOne said = IsOther n said
 HasRoute n form.Ship said = IsOther n said
+HasRoute n form.Relay said = IsThird n said
 HasRoute n form.Tell said = IsOther n said
 HasRoute n form.LinkDrop said = IsOther n said
 HasRoute n form.LinkTwice said = IsOther n said
@@ -70,6 +71,10 @@ HasRoute n _ said = Unit {0}
 -- the two centres of a form
 is_route : (h : Header) (said : Said) → IsSaid (Some h) said → IsOther h.n said → IsRoute h.n said.centre said.other
 is_route h said is route = record { from_there = is.centre; to_there = route.0; apart = route.1 }
+
+-- the three centres of a form
+is_detour : (h : Header) (said : Said) → IsSaid (Some h) said → IsThird h.n said → IsDetour h.n said.centre said.other said.third
+is_detour h said is route = record { from_there = is.centre; origin_there = route.other.0; to_there = route.third; other_origin = route.other.1; apart = route.apart; away = route.away }
 
 does_in_range : (h : Header) (one : Form) (said : Said) → IsSaid (Some h) said → IsCounted (count_of (parts_of one)) unsaid said → HasRoute h.n one said → is_of_its_kind (row_of one said) ≡ true → DoesInRange h (row_of one said)
 unfolding row_of
@@ -101,6 +106,7 @@ does_in_range h form.Down said is counted route kind = is.centre
 does_in_range h form.Up said is counted route kind = is.centre
 does_in_range h form.ShipOne said is counted route kind = (is_route h said is route, counted)
 does_in_range h form.Ship said is counted route kind = is_route h said is route
+does_in_range h form.Relay said is counted route kind = is_detour h said is route
 does_in_range h form.Tell said is counted route kind = is_route h said is route
 does_in_range h form.Prune said is counted route kind = is.centre
 does_in_range h form.LinkDrop said is counted route kind = (is_route h said is route, counted)
@@ -114,6 +120,7 @@ does_in_range h form.End said is counted route kind = tt
 route_in_range : (h : Header) (one : Form) (texts : List (List ℕ)) (said : Said) → length (parts_of one) ≡ length texts → said_words (Some h) (parts_of one) texts unsaid ≡ Ok said → HasRoute h.n one said
 route_in_range h form.ShipOne texts said same e = route_said h word.Ship (Count 1 1000000 ∷ []) texts unsaid said (omega arith) (tt, tt) e
 route_in_range h form.Ship texts said same e = route_said h word.Ship [] texts unsaid said (omega arith) tt e
+route_in_range h form.Relay texts said same e = detour_said h word.Relay texts unsaid said (omega arith) e
 route_in_range h form.Tell texts said same e = route_said h word.Tell [] texts unsaid said (omega arith) tt e
 route_in_range h form.LinkDrop texts said same e = route_said h word.Link (Fixed word.Drop ∷ Count 1 1000000 ∷ []) texts unsaid said (omega arith) (tt, (tt, tt)) e
 route_in_range h form.LinkTwice texts said same e = route_said h word.Link (Fixed word.Twice ∷ Count 1 1000000 ∷ []) texts unsaid said (omega arith) (tt, (tt, tt)) e

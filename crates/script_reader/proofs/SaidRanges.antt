@@ -1,6 +1,6 @@
 -- What words say is in range.
 use Rattle.std.proofs.Common.{◌≡◌, ◌≢◌, ◌≤◌, ℕ, zero, suc, Bool, true, false, List, [], ◌∷◌, length, refl, ap, sym, ◌∙◌, subst, arith, leb-true, le-leb}
-use Rattle.std.specs.Prelude.{◌==◌, ◌&&◌, ℤ, pos, neg_ℤ, nat_le, cond, drop, slice_index, Option, Some, None, Result, Ok, Err, IfSome, MatchOption}
+use Rattle.std.specs.Prelude.{◌==◌, ◌&&◌, ◌||◌, ℤ, pos, neg_ℤ, nat_le, cond, drop, slice_index, Option, Some, None, Result, Ok, Err, IfSome, MatchOption}
 use Rattle.std.specs.Option.{option_or}
 use Rattle.std.specs.List.{AllByRecursion}
 use Rattle.std.proofs.lemmas.Bool.{eqb-false}
@@ -14,11 +14,11 @@ use Rattle.script_reader.specs.declared.fault.Cause.{Cause}
 use Rattle.script_reader.specs.declared.fault.Cause.TheVariants as cause
 use Rattle.script_reader.specs.declared.form.Word.{Word}
 use Rattle.script_reader.specs.declared.form.Part.{Part}
-use Rattle.script_reader.specs.declared.form.Part.TheVariants.{Fixed, Client, Centre, Other, Centres, Stable, Count, Commit, Delta, Object, Key, Name}
+use Rattle.script_reader.specs.declared.form.Part.TheVariants.{Fixed, Client, Centre, Other, Third, Centres, Stable, Count, Commit, Delta, Object, Key, Name}
 use Rattle.script_reader.specs.declared.said.Said.{Said}
 use Rattle.script_reader.specs.Numbers.{is_number, number_of, number_in, delta_in, below_zero, from_zero}
 use Rattle.script_reader.specs.Names.{is_name, sort_marked, object_named}
-use Rattle.script_reader.specs.Said.{unsaid, with_said, with_name, with_object, other_said, said_word, said_words}
+use Rattle.script_reader.specs.Said.{unsaid, with_said, with_name, with_object, other_said, third_said, said_word, said_words}
 use Rattle.script_reader.proofs.NameTests.{name_from_test}
 
 -- ---- numbers, deltas and objects
@@ -78,6 +78,7 @@ SaysSo header (Fixed own) said more = more ≡ said
 SaysSo header Client said more = MatchOption header (more ≡ said) (λ h. (n : ℕ) × (more ≡ record said { client = n }) × IsCount h.clients n)
 SaysSo header Centre said more = MatchOption header (more ≡ said) (λ h. (n : ℕ) × (more ≡ record said { centre = n }) × IsCount h.n n)
 SaysSo header Other said more = MatchOption header (more ≡ said) (λ h. (n : ℕ) × (more ≡ record said { other = n }) × IsCount h.n n × (said.centre ≢ n))
+SaysSo header Third said more = MatchOption header (more ≡ said) (λ h. (n : ℕ) × (more ≡ record said { third = n }) × IsCount h.n n × (said.centre ≢ n) × (said.other ≢ n))
 SaysSo header Centres said more = (n : ℕ) × (more ≡ record said { n = n; k = 1 }) × IsCount MOST_CENTRES n
 SaysSo header Stable said more = (n : ℕ) × (more ≡ record said { k = n }) × IsCount said.n n
 SaysSo header (Count least most) said more = (n : ℕ) × (more ≡ record said { count = n }) × ((least ≤ n) × (n ≤ most))
@@ -110,6 +111,15 @@ other_put said more most (Ok n) within e = go (n == said.centre) refl e
     go true is bad = absurd (cc)
     go false is put = (n, (let same : record said { other = n } ≡ more = cc in sym same), within n refl, λ e. eqb-false n said.centre is (sym e))
 
+third_put : (said more : Said) (most : ℕ) (r : Result ℕ Cause) → ((n : ℕ) → r ≡ Ok n → IsCount most n) → third_said said r ≡ Ok more → (n : ℕ) × (more ≡ record said { third = n }) × IsCount most n × (said.centre ≢ n) × (said.other ≢ n)
+third_put said more most (Err why) within e = absurd (cc)
+third_put said more most (Ok n) within e = go (n == said.centre) refl (n == said.other) refl e
+  where
+    go : (first : Bool) → (n == said.centre) ≡ first → (second : Bool) → (n == said.other) ≡ second → cond (first || second) (Err cause.Range) (Ok (record said { third = n })) ≡ Ok more → (m : ℕ) × (more ≡ record said { third = m }) × IsCount most m × (said.centre ≢ m) × (said.other ≢ m)
+    go true a second b bad = absurd (cc)
+    go false a true b bad = absurd (cc)
+    go false a false b put = (n, (let same : record said { third = n } ≡ more = cc in sym same), within n refl, (λ e. eqb-false n said.centre a (sym e)), λ e. eqb-false n said.other b (sym e))
+
 object_put : (put : ObjectId → Said) (r : Option ObjectId) (more : Said) → ((o : ObjectId) → r ≡ Some o → IsName o.name) → with_object put r ≡ Ok more → (o : ObjectId) × (more ≡ put o) × IsName o.name
 object_put put None more within e = absurd (cc)
 object_put put (Some o) more within e = (o, (let same : put o ≡ more = cc in sym same), within o refl)
@@ -130,6 +140,8 @@ says_so None Centre text said more e = early_same said more text e
 says_so (Some h) Centre text said more e = number_put (λ n. record said { centre = n }) 1 h.n text more e
 says_so None Other text said more e = early_same said more text e
 says_so (Some h) Other text said more e = other_put said more h.n (number_in 1 h.n text) (number_within 1 h.n text) e
+says_so None Third text said more e = early_same said more text e
+says_so (Some h) Third text said more e = third_put said more h.n (number_in 1 h.n text) (number_within 1 h.n text) e
 says_so header Centres text said more e = number_put (λ n. record said { n = n; k = 1 }) 1 MOST_CENTRES text more e
 says_so header Stable text said more e = number_put (λ n. record said { k = n }) 1 said.n text more e
 says_so header (Count least most) text said more e = number_put (λ n. record said { count = n }) least most text more e
@@ -162,6 +174,8 @@ said_more None Centre said more says is = subst (IsSaid None) (sym says) is
 said_more (Some h) Centre said more says is = subst (IsSaid (Some h)) (sym says.1) (record { client = is.client; centre = says.2; n = is.n; k = is.k; number = is.number; delta = is.delta; object = is.object; key = is.key; word = is.word })
 said_more None Other said more says is = subst (IsSaid None) (sym says) is
 said_more (Some h) Other said more says is = subst (IsSaid (Some h)) (sym says.1) (record { client = is.client; centre = is.centre; n = is.n; k = is.k; number = is.number; delta = is.delta; object = is.object; key = is.key; word = is.word })
+said_more None Third said more says is = subst (IsSaid None) (sym says) is
+said_more (Some h) Third said more says is = subst (IsSaid (Some h)) (sym says.1) (record { client = is.client; centre = is.centre; n = is.n; k = is.k; number = is.number; delta = is.delta; object = is.object; key = is.key; word = is.word })
 said_more header Centres said more says is = subst (IsSaid header) (sym says.1) (record { client = is.client; centre = is.centre; n = says.2; k = (omega arith, says.2.0); number = is.number; delta = is.delta; object = is.object; key = is.key; word = is.word })
 said_more header Stable said more says is = subst (IsSaid header) (sym says.1) (record { client = is.client; centre = is.centre; n = is.n; k = says.2; number = is.number; delta = is.delta; object = is.object; key = is.key; word = is.word })
 said_more header (Count least most) said more says is = subst (IsSaid header) (sym says.1) (record { client = is.client; centre = is.centre; n = is.n; k = is.k; number = is.number; delta = is.delta; object = is.object; key = is.key; word = is.word })
@@ -230,6 +244,8 @@ counted_more None Centre parts said mid more says is = counted_same (count_of pa
 counted_more (Some h) Centre parts said mid more says is = counted_same (count_of parts) said mid more (ap (λ (s : Said). s.count) says.1) is
 counted_more None Other parts said mid more says is = counted_same (count_of parts) said mid more (ap (λ (s : Said). s.count) says) is
 counted_more (Some h) Other parts said mid more says is = counted_same (count_of parts) said mid more (ap (λ (s : Said). s.count) says.1) is
+counted_more None Third parts said mid more says is = counted_same (count_of parts) said mid more (ap (λ (s : Said). s.count) says) is
+counted_more (Some h) Third parts said mid more says is = counted_same (count_of parts) said mid more (ap (λ (s : Said). s.count) says.1) is
 counted_more header Centres parts said mid more says is = counted_same (count_of parts) said mid more (ap (λ (s : Said). s.count) says.1) is
 counted_more header Stable parts said mid more says is = counted_same (count_of parts) said mid more (ap (λ (s : Said). s.count) says.1) is
 counted_more header (Count least most) parts said mid more says is = go (count_of parts) is
@@ -291,3 +307,31 @@ route_said h own parts (a ∷ b ∷ c ∷ texts) said more long none e =
 route_said h own parts [] said more long none e = absurd (omega arith)
 route_said h own parts (a ∷ []) said more long none e = absurd (omega arith)
 route_said h own parts (a ∷ b ∷ []) said more long none e = absurd (omega arith)
+
+-- ---- three centres
+
+-- another one of n centres than the one before, and a third one
+pub record IsThird (n : ℕ) (said : Said) : Type 0 where
+  pub other : IsOther n said
+  pub third : IsCount n said.third
+  pub apart : said.centre ≢ said.third
+  pub away : said.other ≢ said.third
+
+third_put_in : (h : Header) (said more : Said) → SaysSo (Some h) Third said more → IsOther h.n said → IsThird h.n more
+third_put_in h said more says other = subst (IsThird h.n) (sym says.1) (record { other = other; third = says.2; apart = says.3; away = says.4 })
+
+-- three centres behind a word
+pub detour_said : (h : Header) (own : Word) (texts : List (List ℕ)) (said more : Said) → length texts ≡ 4 → said_words (Some h) (Fixed own ∷ Centre ∷ Other ∷ Third ∷ []) texts said ≡ Ok more → IsThird h.n more
+detour_said h own (a ∷ b ∷ c ∷ d ∷ texts) said more long e =
+    let first = said_first (Some h) (Fixed own) (Centre ∷ Other ∷ Third ∷ []) a (b ∷ c ∷ d ∷ texts) said more e in
+    let second = said_first (Some h) Centre (Other ∷ Third ∷ []) b (c ∷ d ∷ texts) first.mid more first.later in
+    let third = said_first (Some h) Other (Third ∷ []) c (d ∷ texts) second.mid more second.later in
+    let fourth = said_first (Some h) Third [] d texts third.mid more third.later in
+    subst (IsThird h.n) (let same : fourth.mid ≡ more = fourth_is fourth.mid more texts fourth.later in same) (third_put_in h third.mid fourth.mid fourth.says (other_put_in h second.mid third.mid third.says))
+  where
+    fourth_is : (mid more : Said) (texts : List (List ℕ)) → said_words (Some h) [] texts mid ≡ Ok more → mid ≡ more
+    fourth_is mid more texts e = cc
+detour_said h own [] said more long e = absurd (omega arith)
+detour_said h own (a ∷ []) said more long e = absurd (omega arith)
+detour_said h own (a ∷ b ∷ []) said more long e = absurd (omega arith)
+detour_said h own (a ∷ b ∷ c ∷ []) said more long e = absurd (omega arith)

@@ -9,7 +9,7 @@ use Rattle.script_reader.specs.declared.form.TheConstants.{MOST_COUNTED}
 use Rattle.script_reader.specs.declared.form.Word.{Word}
 use Rattle.script_reader.specs.declared.form.Word.TheVariants as word
 use Rattle.script_reader.specs.declared.form.Part.{Part}
-use Rattle.script_reader.specs.declared.form.Part.TheVariants.{Fixed, Client, Centre, Other, Centres, Stable, Count, Commit, Delta, Object, Key, Name}
+use Rattle.script_reader.specs.declared.form.Part.TheVariants.{Fixed, Client, Centre, Other, Third, Centres, Stable, Count, Commit, Delta, Object, Key, Name}
 use Rattle.script_reader.specs.declared.form.Form.{Form}
 use Rattle.script_reader.specs.declared.form.Form.TheVariants as form
 use Rattle.script_reader.specs.Numbers.{is_digit}
@@ -45,6 +45,7 @@ word_text word.Twice = codes "twice"
 word_text word.Down = codes "down"
 word_text word.Up = codes "up"
 word_text word.Ship = codes "ship"
+word_text word.Relay = codes "relay"
 word_text word.Tell = codes "tell"
 word_text word.Prune = codes "prune"
 word_text word.Link = codes "link"
@@ -84,6 +85,7 @@ parts_of form.Down = Fixed word.Down ∷ Centre ∷ []
 parts_of form.Up = Fixed word.Up ∷ Centre ∷ []
 parts_of form.ShipOne = Fixed word.Ship ∷ Centre ∷ Other ∷ Count 1 MOST_COUNTED ∷ []
 parts_of form.Ship = Fixed word.Ship ∷ Centre ∷ Other ∷ []
+parts_of form.Relay = Fixed word.Relay ∷ Centre ∷ Other ∷ Third ∷ []
 parts_of form.Tell = Fixed word.Tell ∷ Centre ∷ Other ∷ []
 parts_of form.Prune = Fixed word.Prune ∷ Centre ∷ []
 parts_of form.LinkDrop = Fixed word.Link ∷ Centre ∷ Other ∷ Fixed word.Drop ∷ Count 1 MOST_COUNTED ∷ []
@@ -96,7 +98,7 @@ parts_of form.End = Fixed word.End ∷ []
 
 -- all forms
 abbrev pub forms : List Form
-forms = form.Centres ∷ form.Clients ∷ form.Cache ∷ form.Limit ∷ form.Threads ∷ form.Rounds ∷ form.Connect ∷ form.Begin ∷ form.Inc ∷ form.Set ∷ form.Add ∷ form.Del ∷ form.Put ∷ form.Drop ∷ form.Read ∷ form.Commit ∷ form.Abort ∷ form.Push ∷ form.Flush ∷ form.Refresh ∷ form.Again ∷ form.LoseAsk ∷ form.LoseReply ∷ form.AskTwice ∷ form.Down ∷ form.Up ∷ form.ShipOne ∷ form.Ship ∷ form.Tell ∷ form.Prune ∷ form.LinkDrop ∷ form.LinkTwice ∷ form.LinkHold ∷ form.LinkClean ∷ form.Settle ∷ form.Phase ∷ form.End ∷ []
+forms = form.Centres ∷ form.Clients ∷ form.Cache ∷ form.Limit ∷ form.Threads ∷ form.Rounds ∷ form.Connect ∷ form.Begin ∷ form.Inc ∷ form.Set ∷ form.Add ∷ form.Del ∷ form.Put ∷ form.Drop ∷ form.Read ∷ form.Commit ∷ form.Abort ∷ form.Push ∷ form.Flush ∷ form.Refresh ∷ form.Again ∷ form.LoseAsk ∷ form.LoseReply ∷ form.AskTwice ∷ form.Down ∷ form.Up ∷ form.ShipOne ∷ form.Ship ∷ form.Relay ∷ form.Tell ∷ form.Prune ∷ form.LinkDrop ∷ form.LinkTwice ∷ form.LinkHold ∷ form.LinkClean ∷ form.Settle ∷ form.Phase ∷ form.End ∷ []
 
 -- a `c` and digits
 abbrev pub is_client_word : List ℕ → Bool

@@ -12,7 +12,7 @@ use Rattle.script_text.specs.declared.steps.AskFault.TheVariants as fault
 use Rattle.script_text.specs.declared.steps.ClientStep.{ClientStep}
 use Rattle.script_text.specs.declared.steps.ClientStep.TheVariants.{Connect, Begin, Change, Read, Commit, Abort, Push, Flush, Refresh, Again, Arm}
 use Rattle.script_text.specs.declared.steps.OperatorStep.{OperatorStep}
-use Rattle.script_text.specs.declared.steps.OperatorStep.TheVariants.{Down, Up, ShipOne, Ship, Tell, Prune, Link, Settle}
+use Rattle.script_text.specs.declared.steps.OperatorStep.TheVariants.{Down, Up, ShipOne, Ship, Relay, Tell, Prune, Link, Settle}
 use Rattle.script_text.specs.declared.steps.Step.TheVariants.{Client, Operator}
 use Rattle.script_reader.specs.declared.fault.Cause.{Cause}
 use Rattle.script_reader.specs.declared.fault.Cause.TheVariants as cause
@@ -71,6 +71,7 @@ row_of form.Down said = operator_row (Down said.centre)
 row_of form.Up said = operator_row (Up said.centre)
 row_of form.ShipOne said = operator_row (ShipOne said.centre said.other said.count)
 row_of form.Ship said = operator_row (Ship said.centre said.other)
+row_of form.Relay said = operator_row (Relay said.centre said.other said.third)
 row_of form.Tell said = operator_row (Tell said.centre said.other)
 row_of form.Prune said = operator_row (Prune said.centre)
 row_of form.LinkDrop said = link_row said (link.Drop said.count)

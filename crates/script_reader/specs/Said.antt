@@ -1,5 +1,5 @@
 -- What the words of a line say, and why one is refused.
-use Rattle.std.specs.Prelude.{◌==◌, ℕ, pos, List, [], ◌∷◌, drop, Option, Some, None, Result, Ok, Err, codes, if◌then◌else◌}
+use Rattle.std.specs.Prelude.{◌==◌, ◌||◌, ℕ, pos, List, [], ◌∷◌, drop, Option, Some, None, Result, Ok, Err, codes, if◌then◌else◌}
 use Rattle.ids_core.specs.declared.limits.TheConstants.{MOST_CENTRES, MOST_NUMBER}
 use Rattle.ids_core.specs.declared.object.ObjectId.{ObjectId}
 use Rattle.ids_core.specs.declared.object.Sort.TheVariants.{Counter}
@@ -7,7 +7,7 @@ use Rattle.script_text.specs.declared.script.Header.{Header}
 use Rattle.script_reader.specs.declared.fault.Cause.{Cause}
 use Rattle.script_reader.specs.declared.fault.Cause.TheVariants as cause
 use Rattle.script_reader.specs.declared.form.Part.{Part}
-use Rattle.script_reader.specs.declared.form.Part.TheVariants.{Fixed, Client, Centre, Other, Centres, Stable, Count, Commit, Delta, Object, Key, Name}
+use Rattle.script_reader.specs.declared.form.Part.TheVariants.{Fixed, Client, Centre, Other, Third, Centres, Stable, Count, Commit, Delta, Object, Key, Name}
 use Rattle.script_reader.specs.declared.said.Said.{Said}
 use Rattle.script_reader.specs.Numbers.{number_in, delta_in, is_number}
 use Rattle.script_reader.specs.Names.{is_name, object_named}
@@ -18,6 +18,7 @@ unsaid = record {
   client = 1;
   centre = 1;
   other = 0;
+  third = 0;
   n = 1;
   k = 1;
   count = 1;
@@ -52,12 +53,18 @@ abbrev pub other_said : Said → Result ℕ Cause → Result Said Cause
 other_said said (Ok centre) = if centre == said.centre then Err cause.Range else Ok (record said { other = centre })
 other_said said (Err why) = Err why
 
+-- another centre than the two before
+abbrev pub third_said : Said → Result ℕ Cause → Result Said Cause
+third_said said (Ok centre) = if centre == said.centre || centre == said.other then Err cause.Range else Ok (record said { third = centre })
+third_said said (Err why) = Err why
+
 -- what is said when a word stands in the place of a part, behind the words before it
 unfoldable pub said_word : Option Header → Part → List ℕ → Said → Result Said Cause
 said_word header (Fixed own) text said = Ok said
 said_word header Client text said = unless_early said header (drop 1 text) (λ h. with_said (λ client. record said { client = client }) (number_in 1 h.clients (drop 1 text)))
 said_word header Centre text said = unless_early said header text (λ h. with_said (λ centre. record said { centre = centre }) (number_in 1 h.n text))
 said_word header Other text said = unless_early said header text (λ h. other_said said (number_in 1 h.n text))
+said_word header Third text said = unless_early said header text (λ h. third_said said (number_in 1 h.n text))
 said_word header Centres text said = with_said (λ n. record said { n = n; k = 1 }) (number_in 1 MOST_CENTRES text)
 said_word header Stable text said = with_said (λ k. record said { k = k }) (number_in 1 said.n text)
 said_word header (Count least most) text said = with_said (λ count. record said { count = count }) (number_in least most text)

@@ -40,6 +40,7 @@ pub enum Word {
     Down,
     Up,
     Ship,
+    Relay,
     Tell,
     Prune,
     Link,
@@ -61,6 +62,8 @@ pub enum Part {
     Centre,
     /// The number of another centre than the one before.
     Other,
+    /// The number of another centre than the two before.
+    Third,
     /// How many centres there are, from 1 to 8.
     Centres,
     /// How many of the centres make an update stable.
@@ -110,6 +113,7 @@ pub enum Form {
     Up,
     ShipOne,
     Ship,
+    Relay,
     Tell,
     Prune,
     LinkDrop,
@@ -122,7 +126,7 @@ pub enum Form {
 }
 
 /// All forms.
-pub const FORMS: [Form; 37] = [
+pub const FORMS: [Form; 38] = [
     Form::Centres,
     Form::Clients,
     Form::Cache,
@@ -151,6 +155,7 @@ pub const FORMS: [Form; 37] = [
     Form::Up,
     Form::ShipOne,
     Form::Ship,
+    Form::Relay,
     Form::Tell,
     Form::Prune,
     Form::LinkDrop,
@@ -196,6 +201,7 @@ pub fn spelled(word: Word) -> &'static [u8]
         Word::Down => b"down",
         Word::Up => b"up",
         Word::Ship => b"ship",
+        Word::Relay => b"relay",
         Word::Tell => b"tell",
         Word::Prune => b"prune",
         Word::Link => b"link",
@@ -327,6 +333,12 @@ pub fn parts(form: Form) -> &'static [Part]
             },
         ],
         Form::Ship => &[Part::Fixed(Word::Ship), Part::Centre, Part::Other],
+        Form::Relay => &[
+            Part::Fixed(Word::Relay),
+            Part::Centre,
+            Part::Other,
+            Part::Third,
+        ],
         Form::Tell => &[Part::Fixed(Word::Tell), Part::Centre, Part::Other],
         Form::Prune => &[Part::Fixed(Word::Prune), Part::Centre],
         Form::LinkDrop => &[

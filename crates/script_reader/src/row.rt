@@ -160,6 +160,11 @@ pub fn row_of(form: Form, said: &Said) -> Row
             from: said.centre,
             to: said.other,
         }),
+        Form::Relay => operator_row(OperatorStep::Relay {
+            from: said.centre,
+            origin: said.other,
+            to: said.third,
+        }),
         Form::Tell => operator_row(OperatorStep::Tell {
             from: said.centre,
             to: said.other,

@@ -18,6 +18,7 @@ pub struct Said {
     pub client: u32,
     pub centre: u8,
     pub other: u8,
+    pub third: u8,
     pub n: u8,
     pub k: u8,
     pub count: u32,
@@ -38,6 +39,7 @@ impl Said {
             client: 1,
             centre: 1,
             other: 0,
+            third: 0,
             n: 1,
             k: 1,
             count: 1,
@@ -84,6 +86,7 @@ pub fn said_word(header: Option<Header>, part: Part, text: &[u8], said: Said) ->
         Part::Client => client_said(header, text, said),
         Part::Centre => centre_said(header, text, said),
         Part::Other => other_said(header, text, said),
+        Part::Third => third_said(header, text, said),
         Part::Centres => match u8_in(MOST_CENTRES, text) {
             Ok(n) => Ok(Said { n, k: 1, ..said }),
             Err(why) => Err(why),
@@ -172,6 +175,26 @@ fn other_said(header: Option<Header>, text: &[u8], said: Said) -> Result<Said, C
                     Err(Cause::Range)
                 } else {
                     Ok(Said { other, ..said })
+                }
+            }
+            Err(why) => Err(why),
+        },
+        None => early(said, text),
+    }
+}
+
+// The centre of a number, which is another one than the two centres before.
+#[tactic(auto, unfolding(crate::specs::Said::said_word))]
+fn third_said(header: Option<Header>, text: &[u8], said: Said) -> Result<Said, Cause>
+    ensures { result ≡ said_word header Part.Third text.now said }
+{
+    match header {
+        Some(header) => match u8_in(header.n, text) {
+            Ok(third) => {
+                if third == said.centre || third == said.other {
+                    Err(Cause::Range)
+                } else {
+                    Ok(Said { third, ..said })
                 }
             }
             Err(why) => Err(why),

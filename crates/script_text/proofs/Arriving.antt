@@ -3,7 +3,7 @@ use Rattle.std.proofs.Common.{ℕ, ◌+◌, ◌==◌, inl, inr, ⊎_elim, Bool, 
 use Rattle.std.specs.Prelude.{◌⊎◌, not, filter}
 use Rattle.list_core.specs.Members.{In}
 use Rattle.list_core.proofs.Members.{In_left, In_right, In_either, In_take, In_drop, In_from_map, In_from_filter, In_from_flat_map}
-use Rattle.tx_core.specs.declared.tx.Record.{Record}
+use Rattle.dc_talk.specs.declared.sent.Sent.{Sent}
 use Rattle.dc_talk.specs.declared.links.LinkFault.{LinkFault}
 use Rattle.dc_talk.specs.declared.links.LinkFault.TheVariants.{Clean, Drop, Twice, Hold}
 use Rattle.script_text.specs.declared.rounds.TheConstants.{MOST_MAILED}
@@ -69,42 +69,42 @@ module _ {X : Type 0} where
       (In_either (take place all ++ inlet.held) (drop place all) x there)
 
 -- what lies of a part of what waits
-part_lies : (post : Post) (part : List Record) → ((item : Record) → In item part → In item post.waits) → (item : Record) → In item (part ++ post.inlet.held) → In item (lying post)
+part_lies : (post : Post) (part : List Sent) → ((item : Sent) → In item part → In item post.waits) → (item : Sent) → In item (part ++ post.inlet.held) → In item (lying post)
 part_lies post part among item there = ⊎_elim
     (λ waits. In_left post.waits post.inlet.held item (among item waits))
     (λ held. In_right post.waits post.inlet.held item held)
     (In_either part post.inlet.held item there)
 
 -- what a round takes, with what is held, lay there
-taken_lies : (post : Post) (item : Record) → In item (arrivals post.inlet (taken_in_round post)) → In item (lying post)
+taken_lies : (post : Post) (item : Sent) → In item (arrivals post.inlet (taken_in_round post)) → In item (lying post)
 taken_lies post item there = part_lies post (taken_in_round post) (λ item among. In_take MOST_MAILED post.waits item among) item (arrivals_among post.inlet (taken_in_round post) item there)
 
 -- what is due in a round lies on the link
-pub due_lies : (post : Post) (item : Record) → In item (due_in_round post) → In item (lying post)
+pub due_lies : (post : Post) (item : Sent) → In item (due_in_round post) → In item (lying post)
 due_lies post item there = taken_lies post item (In_take (arrived_count post.inlet (taken_in_round post)) (arrivals post.inlet (taken_in_round post)) item there)
 
 -- so does what is due at the close
-pub close_lies : (post : Post) (item : Record) → In item (due_at_close post) → In item (lying post)
+pub close_lies : (post : Post) (item : Sent) → In item (due_at_close post) → In item (lying post)
 close_lies post item there = arrivals_among post.inlet post.waits item there
 
 -- what lies there behind a round lay there before
-pub after_round_lies : (post : Post) (item : Record) → In item (lying (post_after_round post)) → In item (lying post)
+pub after_round_lies : (post : Post) (item : Sent) → In item (lying (post_after_round post)) → In item (lying post)
 after_round_lies post item there = ⊎_elim
     (λ waits. In_left post.waits post.inlet.held item (In_drop MOST_MAILED post.waits item waits))
     (λ held. taken_lies post item (In_drop (arrived_count post.inlet (taken_in_round post)) (arrivals post.inlet (taken_in_round post)) item held))
     (In_either (drop MOST_MAILED post.waits) (inlet_after post.inlet (taken_in_round post)).held item there)
 
 -- behind the close nothing lies there
-pub closed_lies : (post : Post) (item : Record) → In item (lying (post_closed post)) → In item (lying post)
+pub closed_lies : (post : Post) (item : Sent) → In item (lying (post_closed post)) → In item (lying post)
 closed_lies post item there = absurd there
 
 -- more that is put lies there with what did
-pub put_lies : (items : List Record) (post : Post) (item : Record) → In item (lying (post_put items post)) → In item items ⊎ In item (lying post)
+pub put_lies : (items : List Sent) (post : Post) (item : Sent) → In item (lying (post_put items post)) → In item items ⊎ In item (lying post)
 put_lies items post item there = ⊎_elim
     (λ waits. ⊎_elim (λ old. inr (In_left post.waits post.inlet.held item old)) (λ new. inl new) (In_either post.waits items item waits))
     (λ held. inr (In_right post.waits post.inlet.held item held))
     (In_either (post.waits ++ items) post.inlet.held item there)
 
 -- with another fault the same lies there
-pub set_lies : (fault : LinkFault) (post : Post) (item : Record) → In item (lying (post_set fault post)) → In item (lying post)
+pub set_lies : (fault : LinkFault) (post : Post) (item : Sent) → In item (lying (post_set fault post)) → In item (lying post)
 set_lies fault post item there = there

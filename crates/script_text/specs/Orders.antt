@@ -10,9 +10,9 @@ use Rattle.dc_talk.specs.declared.log.Deed.TheVariants.{Asked}
 use Rattle.dc_talk.specs.declared.line.Line.{Line}
 use Rattle.dc_talk.specs.declared.line.Line.TheVariants as line
 use Rattle.script_text.specs.declared.steps.OperatorStep.{OperatorStep}
-use Rattle.script_text.specs.declared.steps.OperatorStep.TheVariants.{Down, Up, ShipOne, Ship, Tell, Prune, Link, Settle}
+use Rattle.script_text.specs.declared.steps.OperatorStep.TheVariants.{Down, Up, ShipOne, Ship, Relay, Tell, Prune, Link, Settle}
 use Rattle.script_text.specs.Deeds.{told}
-use Rattle.script_text.specs.Carrying.{route, ShipsOne, ShipsAll, TellsOne, Settles}
+use Rattle.script_text.specs.Carrying.{route, detour, ShipsOne, ShipsAll, RelaysAll, TellsOne, Settles}
 
 -- an ask of the operator, whose answer no session hears
 abbrev pub Orders : ℕ → Ask → List Deed → Type 0
@@ -35,6 +35,7 @@ OperatorDeeds n (Down centre) deeds = Orders centre Stop deeds
 OperatorDeeds n (Up centre) deeds = Orders centre Start deeds
 OperatorDeeds n (ShipOne from to seq) deeds = ShipsOne (route from to) seq deeds
 OperatorDeeds n (Ship from to) deeds = ShipsAll (route from to) deeds
+OperatorDeeds n (Relay from origin to) deeds = RelaysAll (detour from origin to) deeds
 OperatorDeeds n (Tell from to) deeds = TellsOne (route from to) deeds
 OperatorDeeds n (Prune centre) deeds = PrunesOne centre deeds
 OperatorDeeds n (Link from to fault) deeds = deeds ≡ []

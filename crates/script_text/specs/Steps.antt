@@ -18,7 +18,7 @@ use Rattle.script_text.specs.declared.script.Header.{Header}
 use Rattle.script_text.specs.declared.steps.ClientStep.{ClientStep}
 use Rattle.script_text.specs.declared.steps.ClientStep.TheVariants.{Connect, Begin, Change, Read, Commit, Abort, Push, Flush, Refresh, Again, Arm}
 use Rattle.script_text.specs.declared.steps.OperatorStep.{OperatorStep}
-use Rattle.script_text.specs.declared.steps.OperatorStep.TheVariants.{Down, Up, ShipOne, Ship, Tell, Prune, Link, Settle}
+use Rattle.script_text.specs.declared.steps.OperatorStep.TheVariants.{Down, Up, ShipOne, Ship, Relay, Tell, Prune, Link, Settle}
 use Rattle.script_text.specs.declared.steps.Step.{Step}
 use Rattle.script_text.specs.declared.steps.Step.TheVariants.{Client, Operator}
 
@@ -87,6 +87,15 @@ pub record IsRoute (n from to : ℕ) : Type 0 where
   pub to_there : IsCount n to
   pub apart : from ≢ to
 
+-- three of n centres
+pub record IsDetour (n from origin to : ℕ) : Type 0 where
+  pub from_there : IsCount n from
+  pub origin_there : IsCount n origin
+  pub to_there : IsCount n to
+  pub other_origin : from ≢ origin
+  pub apart : from ≢ to
+  pub away : origin ≢ to
+
 -- a fault of a link acts on each so-many-th item, from each one to each millionth
 abbrev pub IsFault : LinkFault → Type 0
 IsFault Clean = Unit {0}
@@ -100,6 +109,7 @@ IsOperatorStep n (Down centre) = IsCount n centre
 IsOperatorStep n (Up centre) = IsCount n centre
 IsOperatorStep n (ShipOne from to seq) = IsRoute n from to × IsCount MOST_RECORDS seq
 IsOperatorStep n (Ship from to) = IsRoute n from to
+IsOperatorStep n (Relay from origin to) = IsDetour n from origin to
 IsOperatorStep n (Tell from to) = IsRoute n from to
 IsOperatorStep n (Prune centre) = IsCount n centre
 IsOperatorStep n (Link from to fault) = IsRoute n from to × IsFault fault

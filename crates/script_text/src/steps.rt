@@ -54,14 +54,17 @@ pub enum OperatorStep {
     /// Delivers the records that a centre stamped and another one lacks there, at most 1,024 of them, until one is
     /// not taken.
     Ship { from: u8, to: u8 },
+    /// Delivers the records of a third centre, the origin, that a centre has and another one lacks, at most 1,024 of
+    /// them, until one is not taken.
+    Relay { from: u8, origin: u8, to: u8 },
     /// Tells a centre what another one has.
     Tell { from: u8, to: u8 },
-    /// Has the centre fold what may be folded, and let go of its own records that all centres have.
+    /// Has the centre fold what may be folded, and let go of the records that all centres have.
     Prune { centre: u8 },
     /// Sets what the link from one centre to another makes of the items that are taken from it in the phases that
     /// follow, in place of what was set before, and counts its items anew.
     Link { from: u8, to: u8, fault: LinkFault },
-    /// Delivers and tells between all centres until nothing is new to any that is running.
+    /// Delivers, relays and tells between all centres until nothing is new to any that is running.
     Settle,
 }
 

@@ -1,6 +1,6 @@
 // Copies of a book in which one thing is changed: the slow look has to find it.
 use dc_centre::Centre;
-use dc_talk::{Ask, Call, Deed, Fate, Log, Note, Outcome, Say};
+use dc_talk::{Ask, Call, Deed, Fate, Line, Log, Note, Outcome, Records, Say, Sent};
 use hist_lock::{Entry, Trail};
 use ids_core::{Dot, NoMemory};
 use run_book::Book;
@@ -10,10 +10,11 @@ use std::test::Fail;
 use tx_core::{Record, Value};
 use vv_core::Stamp;
 
-/// What is changed in a copy of the book of a script of two centres and one client.
+/// What is changed in a copy of the book of a script of two centres and one client, or with a third centre that has records
+/// by a relay.
 #[derive(Clone, Copy)]
 pub enum Change {
-    /// Nothing but that it has no lines.
+    /// Nothing but that it has no lines other than those of shipments and relays.
     Nothing,
     /// The first answer of centre 1 tells another number.
     Answer,
@@ -37,6 +38,16 @@ pub enum Change {
     Turn,
     /// Each read has the value of a counter that is 77.
     Value,
+    /// Each record that is delivered to this centre has one hop more.
+    More { centre: u8 },
+    /// Each record that is delivered to this centre has one hop less.
+    Fewer { centre: u8 },
+    /// Each relay is answered with no records.
+    Empty,
+    /// Each relay is answered with the hops with which its records were delivered.
+    Kept,
+    /// Each relay is answered with records of the next number.
+    Wrong,
 }
 
 // The receiver of centre 2, where there is one client.
@@ -55,7 +66,7 @@ fn forged(alloc: Global) -> Result<Ask, Fail> {
         deps: pair(0, 0),
         tx,
     };
-    Ok(Ask::Deliver { item })
+    Ok(Ask::Deliver { item, hops: 0 })
 }
 
 // Puts an entry at the end of a trail.
@@ -64,10 +75,64 @@ fn put(trail: &mut Trail<Centre>, caller: u32, ask: Ask, say: Say) -> Result<(),
 }
 
 // The answer of an entry with the change.
-fn say_of(centre: usize, place: usize, say: &Say, change: Change) -> Result<Say, NoMemory> {
+fn say_of(
+    alloc: Global,
+    centre: usize,
+    place: usize,
+    entry: &Entry<Ask, Say>,
+    change: Change,
+) -> Result<Say, NoMemory> {
     match (change, centre, place) {
         (Change::Answer, 1, 0) => Ok(Say::Welcome { through: 1 }),
+        _ => handed(alloc, &entry.ask, &entry.say, change),
+    }
+}
+
+// An answer again, with the change where it is one to a relay.
+fn handed(alloc: Global, ask: &Ask, say: &Say, change: Change) -> Result<Say, NoMemory> {
+    match (ask, say) {
+        (Ask::Relay { .. }, Say::Records { list }) => {
+            let mut copy = Records::new(alloc);
+            for sent in list.as_slice() {
+                if !matches!(change, Change::Empty) {
+                    copy.push(handed_one(sent, change)?)?;
+                }
+            }
+            Ok(Say::Records { list: copy })
+        }
         _ => say.copy(),
+    }
+}
+
+// One of the records of such an answer with the change.
+fn handed_one(sent: &Sent, change: Change) -> Result<Sent, NoMemory> {
+    let mut item = sent.item.copy()?;
+    let mut hops = sent.hops;
+    match change {
+        Change::Kept => hops = hops.saturating_sub(1),
+        Change::Wrong => item.stamp.seq = item.stamp.seq.saturating_add(1),
+        _ => {}
+    }
+    Ok(Sent { item, hops })
+}
+
+// An ask of a centre again, with the change where it is a delivery.
+fn ask_of(centre: u8, ask: &Ask, change: Change) -> Result<Ask, NoMemory> {
+    match ask {
+        Ask::Deliver { item, hops } => Ok(Ask::Deliver {
+            item: item.copy()?,
+            hops: hops_of(centre, *hops, change),
+        }),
+        _ => ask.copy(),
+    }
+}
+
+// The hops of a delivery to a centre with the change.
+fn hops_of(centre: u8, hops: u8, change: Change) -> u8 {
+    match change {
+        Change::More { centre: to } if to == centre => hops.saturating_add(1),
+        Change::Fewer { centre: to } if to == centre => hops.saturating_sub(1),
+        _ => hops,
     }
 }
 
@@ -136,6 +201,7 @@ fn trail_of(
     change: Change,
 ) -> Result<Trail<Centre>, Fail> {
     let mut trail = Trail::new(alloc);
+    let number = u8::try_from(centre).unwrap_or(0);
     for at in 0..entries.len() {
         let place = place_of(centre, at, entries.len(), change);
         if let Some(entry) = entries.get(place) {
@@ -143,8 +209,8 @@ fn trail_of(
                 put(
                     &mut trail,
                     caller_of(centre, entry.caller, change),
-                    entry.ask.copy()?,
-                    say_of(centre, place, &entry.say, change)?,
+                    ask_of(number, &entry.ask, change)?,
+                    say_of(alloc, centre, place, entry, change)?,
                 )?;
             }
         }
@@ -167,18 +233,37 @@ fn copied_outcome(outcome: &Outcome, change: Change) -> Result<Outcome, NoMemory
     }
 }
 
-// What became of an ask again.
-fn copied_fate(fate: &Fate) -> Result<Fate, NoMemory> {
+// What became of an ask again, with the change.
+fn copied_fate(alloc: Global, ask: &Ask, fate: &Fate, change: Change) -> Result<Fate, NoMemory> {
     match fate {
         Fate::AskLost => Ok(Fate::AskLost),
         Fate::ReplyLost(say) => Ok(Fate::ReplyLost(say.copy()?)),
         Fate::Heard(say) => Ok(Fate::Heard(say.copy()?)),
-        Fate::Unheard(say) => Ok(Fate::Unheard(say.copy()?)),
+        Fate::Unheard(say) => Ok(Fate::Unheard(handed(alloc, ask, say, change)?)),
     }
 }
 
-// A deed again, with the change, where it is no line.
-fn copied_deed(deed: &Deed, change: Change) -> Result<Option<Deed>, NoMemory> {
+// A line of a shipment or a relay again.
+fn copied_line(line: &Line) -> Option<Line> {
+    match *line {
+        Line::Ship { from, to, end } => Some(Line::Ship { from, to, end }),
+        Line::Relay {
+            from,
+            origin,
+            to,
+            end,
+        } => Some(Line::Relay {
+            from,
+            origin,
+            to,
+            end,
+        }),
+        _ => None,
+    }
+}
+
+// A deed again, with the change, where it is no other line.
+fn copied_deed(alloc: Global, deed: &Deed, change: Change) -> Result<Option<Deed>, NoMemory> {
     match deed {
         Deed::Did { call, outcome } => Ok(Some(Deed::Did {
             call: *call,
@@ -186,10 +271,13 @@ fn copied_deed(deed: &Deed, change: Change) -> Result<Option<Deed>, NoMemory> {
         })),
         Deed::Asked { centre, ask, fate } => Ok(Some(Deed::Asked {
             centre: *centre,
-            ask: ask.copy()?,
-            fate: copied_fate(fate)?,
+            ask: ask_of(*centre, ask, change)?,
+            fate: copied_fate(alloc, ask, fate, change)?,
         })),
-        Deed::Told(_) => Ok(None),
+        Deed::Told(line) => match copied_line(line) {
+            Some(line) => Ok(Some(Deed::Told(line))),
+            None => Ok(None),
+        },
     }
 }
 
@@ -217,7 +305,7 @@ fn log_of(alloc: Global, log: &Log, change: Change) -> Result<Log, Fail> {
         if !is_lost && !is_left_out(&note.deed, change) {
             let (section, step) = key_of(log.actor(), note, change);
             copy.set(section, step);
-            if let Some(deed) = copied_deed(&note.deed, change)? {
+            if let Some(deed) = copied_deed(alloc, &note.deed, change)? {
                 copy.push(deed)?;
             }
         }

@@ -1,11 +1,12 @@
 // Whether a book fits, looked at slowly: by a new centre for each trail, by what each prune has to fold and let go, by
-// pairs of entries and notes, by where records and vectors come from, by the conduct of each client, and by the rounds of
-// each worker.
+// what each centre hands on, by pairs of entries and notes, by where records and vectors come from, by the conduct of each
+// client, and by the rounds of each worker.
 use crate::conduct::follows;
+use crate::handing::{are_handed_on, hands_on};
 use crate::horizon::{Seat, tells_prunes};
 use crate::links::all_bring;
 use crate::reads::all_read;
-use crate::same::{is_same_ask, is_same_record, is_same_say, records_in, vector_in};
+use crate::same::{has_sent, is_same_ask, is_same_say, records_in};
 use crate::steps::all_take;
 use crate::turns::are_in_turn;
 use crate::workers::{all_work, was_mailed};
@@ -32,6 +33,8 @@ pub enum Verdict {
     Pairs,
     /// The operator carried what no centre had answered before.
     Origins,
+    /// A record was delivered with hops with which no centre handed it on, or was applied with too many.
+    Hops,
     /// A client did what the rule of a session does not allow.
     Conduct,
     /// A worker did what is no round of it.
@@ -66,6 +69,9 @@ pub fn verdict_on(
     }
     if !have_origins(script, logs) {
         return Ok(Verdict::Origins);
+    }
+    if !are_handed_on(script.n, trails) {
+        return Ok(Verdict::Hops);
     }
     if !all_follow(script, logs, in_order) {
         return Ok(Verdict::Conduct);
@@ -149,7 +155,11 @@ fn are_due(alloc: Global, script: &Script, trails: &[Trail<Centre>]) -> Result<b
             n: script.n,
             k: script.k,
         };
-        if !tells_prunes(seat, trail.as_slice()) || !is_due(alloc, script, me, trail.as_slice())? {
+        let entries = trail.as_slice();
+        if !tells_prunes(seat, entries)
+            || !hands_on(seat, entries)
+            || !is_due(alloc, script, me, entries)?
+        {
             return Ok(false);
         }
     }
@@ -279,8 +289,8 @@ fn is_entry(
     }
 }
 
-// Whether all that the operator carried stands in an earlier answer of the centre that it came from, or in one that the
-// sender of that centre got. By the pairs that answer stands in the centre's trail.
+// Whether all that the operator carried stands in an earlier answer that it got, or in one that a sender got. By the pairs
+// that answer stands in a centre's trail.
 fn have_origins(script: &Script, logs: &[Log]) -> bool {
     match logs.first() {
         Some(log) => {
@@ -302,9 +312,10 @@ fn has_origin(notes: &[Note], place: usize, deed: &Deed) -> bool {
         Deed::Did { .. } => false,
         Deed::Told(_) => true,
         Deed::Asked { ask, .. } => match ask {
-            Ask::Deliver { item } => was_sent(notes, place, item),
+            Ask::Deliver { item, hops } => was_sent(notes, place, item, *hops),
             Ask::Learn { from, vector } => was_reported(notes, place, *from, vector),
-            Ask::Send { .. } | Ask::Report | Ask::Prune | Ask::Stop | Ask::Start => true,
+            Ask::Send { .. } | Ask::Relay { .. } | Ask::Report => true,
+            Ask::Prune | Ask::Stop | Ask::Start => true,
             _ => false,
         },
     }
@@ -314,19 +325,19 @@ fn has_origin(notes: &[Note], place: usize, deed: &Deed) -> bool {
 fn is_carried(script: &Script, logs: &[Log], deed: &Deed) -> bool {
     match deed {
         Deed::Asked {
-            ask: Ask::Deliver { item },
+            ask: Ask::Deliver { item, hops },
             ..
-        } => was_mailed(script, logs, item, None),
+        } => was_mailed(script, logs, item, *hops, None),
         _ => false,
     }
 }
 
-// Whether a centre answered before a place of a log with a record that it has stamped.
-fn was_sent(notes: &[Note], place: usize, item: &Record) -> bool {
+// Whether a centre answered before a place of a log with a record that has so many hops.
+fn was_sent(notes: &[Note], place: usize, item: &Record, hops: u8) -> bool {
     for note in notes.iter().take(place) {
-        if let Some(say) = answer_of(&note.deed, item.stamp.centre) {
-            for record in records_in(say) {
-                if is_same_record(record, item) {
+        if let Deed::Asked { fate, .. } = &note.deed {
+            if let Some(say) = answer_in(fate) {
+                if has_sent(records_in(say), item, hops) {
                     return true;
                 }
             }

@@ -1,5 +1,6 @@
 // Whether the answers of a trail are those of a centre that pruned just so far, looked at slowly: by the entries before
-// each prune. A prune folds what was stable at the one before it.
+// each prune. A prune folds what was stable at the one before it, and of each origin it lets go what all centres have.
+use crate::handing::asked_for;
 use dc_talk::{Ask, Say};
 use hist_lock::Entry;
 use ids_core::Dot;
@@ -14,7 +15,7 @@ pub struct Seat {
 }
 
 /// Whether each answer of a centre's trail that tells of its prunes is right: what a prune folds and lets go, and which
-/// fetches and sends are refused for it.
+/// fetches, sends and relays are refused for it.
 pub fn tells_prunes(seat: Seat, trail: &[Entry<Ask, Say>]) -> bool {
     for (place, entry) in trail.iter().enumerate() {
         let before = trail.get(..place).unwrap_or(&[]);
@@ -38,7 +39,7 @@ fn is_right(seat: Seat, before: &[Entry<Ask, Say>], entry: &Entry<Ask, Say>) -> 
         ) => {
             is_mark(seat, before, vector)
                 && *folded == folded_at(seat, before)
-                && *trimmed == all_known_at(seat, before)
+                && *trimmed == all_known_at(seat, before, seat.me)
         }
         (
             Ask::Fetch { at, .. },
@@ -49,16 +50,27 @@ fn is_right(seat: Seat, before: &[Entry<Ask, Say>], entry: &Entry<Ask, Say>) -> 
             },
         ) => first_above(seat, before, at) == Some((*centre, *base, *low)),
         (Ask::Fetch { at, .. }, Say::Object { .. }) => first_above(seat, before, at).is_none(),
-        (Ask::Send { after, .. }, Say::Trimmed { from }) => {
-            after < from && *from == trimmed_at(seat, before)
-        }
-        (Ask::Send { after, .. }, Say::Records { .. }) => trimmed_at(seat, before) <= *after,
-        _ => true,
+        _ => hands_on_behind(seat, before, entry),
     }
 }
 
-// The entry of a vector, and 0 where there is none.
-fn entry_of(vector: &Vector, centre: u8) -> u64 {
+// Whether an ask for records of an origin is refused just where they were let go.
+fn hands_on_behind(seat: Seat, before: &[Entry<Ask, Say>], entry: &Entry<Ask, Say>) -> bool {
+    match asked_for(seat, &entry.ask) {
+        Some(asked) => {
+            let trimmed = trimmed_at(seat, before, asked.origin);
+            match &entry.say {
+                Say::Trimmed { from } => asked.after < *from && *from == trimmed,
+                Say::Records { .. } => trimmed <= asked.after,
+                _ => true,
+            }
+        }
+        None => true,
+    }
+}
+
+/// The entry of a vector, and 0 where there is none.
+pub fn entry_of(vector: &Vector, centre: u8) -> u64 {
     match vector.as_slice().get(usize::from(centre).saturating_sub(1)) {
         Some(entry) => *entry,
         None => 0,
@@ -113,19 +125,19 @@ fn base_at(seat: Seat, entries: &[Entry<Ask, Say>], centre: u8) -> u64 {
     }
 }
 
-// How many own records every centre was known to have at the last prune.
-fn trimmed_at(seat: Seat, entries: &[Entry<Ask, Say>]) -> u64 {
+// How many records of an origin every centre was known to have at the last prune.
+fn trimmed_at(seat: Seat, entries: &[Entry<Ask, Say>], origin: u8) -> u64 {
     match before_prune(entries) {
-        Some(before) => all_known_at(seat, before),
+        Some(before) => all_known_at(seat, before, origin),
         None => 0,
     }
 }
 
-// The transaction that an entry stamped or applied, with its stamp.
-fn taken_in(entry: &Entry<Ask, Say>) -> Option<(Dot, Stamp)> {
+/// The transaction that an entry stamped or applied, with its stamp.
+pub fn taken_in(entry: &Entry<Ask, Say>) -> Option<(Dot, Stamp)> {
     match (&entry.ask, &entry.say) {
         (Ask::Commit { tx }, Say::Stamped { stamp }) => Some((tx.dot, *stamp)),
-        (Ask::Deliver { item }, Say::Applied { .. }) => Some((item.tx.dot, item.stamp)),
+        (Ask::Deliver { item, .. }, Say::Applied { .. }) => Some((item.tx.dot, item.stamp)),
         _ => None,
     }
 }
@@ -188,22 +200,36 @@ fn stable_at(seat: Seat, entries: &[Entry<Ask, Say>], centre: u8) -> u64 {
     0
 }
 
-// How many records of its own every centre is known to have.
-fn all_known_at(seat: Seat, entries: &[Entry<Ask, Say>]) -> u64 {
-    let mut least = own_at(entries, seat.me);
+// How many records of an origin every centre is known to have.
+fn all_known_at(seat: Seat, entries: &[Entry<Ask, Say>], origin: u8) -> u64 {
+    let mut least = own_at(entries, origin);
     for other in 1..=seat.n {
-        least = least.min(known_at(seat, entries, other, seat.me));
+        least = least.min(known_at(seat, entries, other, origin));
     }
     least
 }
 
+// What was stable of each centre at the last prune, in the order of the centres and 0 behind them.
+fn marks_at(seat: Seat, entries: &[Entry<Ask, Say>]) -> [u64; 8] {
+    let mut marks = [0; 8];
+    let mut centre: u8 = 0;
+    for mark in marks.iter_mut() {
+        centre = centre.saturating_add(1);
+        if centre <= seat.n {
+            *mark = mark_at(seat, entries, centre);
+        }
+    }
+    marks
+}
+
 // How many transactions have a stamp up to the mark.
 fn folded_at(seat: Seat, entries: &[Entry<Ask, Say>]) -> u64 {
+    let marks = marks_at(seat, entries);
     let mut count: u64 = 0;
     for (place, entry) in entries.iter().enumerate() {
         if let Some((dot, _stamp)) = taken_in(entry) {
             let before = entries.get(..place).unwrap_or(&[]);
-            if !is_taken(before, &dot) && is_folded(seat, entries, &dot) {
+            if !is_taken(before, &dot) && is_folded(&marks, entries, &dot) {
                 count = count.saturating_add(1);
             }
         }
@@ -224,10 +250,12 @@ fn is_taken(entries: &[Entry<Ask, Say>], dot: &Dot) -> bool {
 }
 
 // Whether a transaction has a stamp up to the mark.
-fn is_folded(seat: Seat, entries: &[Entry<Ask, Say>], dot: &Dot) -> bool {
+fn is_folded(marks: &[u64; 8], entries: &[Entry<Ask, Say>], dot: &Dot) -> bool {
     for entry in entries {
         if let Some((other, stamp)) = taken_in(entry) {
-            if other == *dot && stamp.seq <= mark_at(seat, entries, stamp.centre) {
+            let place = usize::from(stamp.centre).saturating_sub(1);
+            let mark = marks.get(place).copied().unwrap_or(0);
+            if other == *dot && stamp.seq <= mark {
                 return true;
             }
         }

@@ -201,8 +201,8 @@ impl Way {
     // Puts the records of a note's answer.
     fn put_all(&mut self, note: &Note) -> Result<(), NoMemory> {
         if let Some((_, say)) = asked_at(note, self.from) {
-            for record in records_in(say) {
-                self.put.push(record.stamp.seq)?;
+            for sent in records_in(say) {
+                self.put.push(sent.item.stamp.seq)?;
             }
         }
         Ok(())
@@ -288,7 +288,7 @@ fn count_from(notes: &[Note], key: (u32, u32), from: u8) -> usize {
 fn stamped(note: &Note) -> Option<(u8, u64)> {
     match &note.deed {
         Deed::Asked {
-            ask: Ask::Deliver { item },
+            ask: Ask::Deliver { item, .. },
             ..
         } => Some((item.stamp.centre, item.stamp.seq)),
         _ => None,

@@ -1,5 +1,5 @@
 // Whether asks, answers and what they carry are alike, part by part.
-use dc_talk::{Ask, Records, Say};
+use dc_talk::{Ask, Say, Sent};
 use ids_core::{Name, NoMemory};
 use std::alloc::Global;
 use tx_core::{Op, Record, State, Tx, Update, Value};
@@ -49,11 +49,26 @@ pub fn is_same_record(one: &Record, other: &Record) -> bool {
     one.stamp == other.stamp && one.deps == other.deps && is_same_tx(&one.tx, &other.tx)
 }
 
-// Whether two lists of records are alike.
-fn are_same_records(one: &[Record], other: &[Record]) -> bool {
-    for (place, record) in one.iter().enumerate() {
+/// Whether what a centre handed on is this record with so many hops.
+pub fn is_sent(sent: &Sent, item: &Record, hops: u8) -> bool {
+    sent.hops == hops && is_same_record(&sent.item, item)
+}
+
+/// Whether this record with so many hops is among those that a centre handed on.
+pub fn has_sent(list: &[Sent], item: &Record, hops: u8) -> bool {
+    for sent in list {
+        if is_sent(sent, item, hops) {
+            return true;
+        }
+    }
+    false
+}
+
+// Whether two lists of records are alike, with their hops.
+fn are_same_records(one: &[Sent], other: &[Sent]) -> bool {
+    for (place, sent) in one.iter().enumerate() {
         match other.get(place) {
-            Some(also) if is_same_record(record, also) => {}
+            Some(also) if is_sent(also, &sent.item, sent.hops) => {}
             _ => return false,
         }
     }
@@ -83,8 +98,15 @@ fn is_same_order(one: &Ask, other: &Ask) -> bool {
         Ask::Send { after, most } => {
             matches!(other, Ask::Send { after: from, most: also } if after == from && most == also)
         }
-        Ask::Deliver { item } => {
-            matches!(other, Ask::Deliver { item: also } if is_same_record(item, also))
+        Ask::Deliver { item, hops } => {
+            matches!(other, Ask::Deliver { item: also, hops: few } if hops == few && is_same_record(item, also))
+        }
+        Ask::Relay {
+            origin,
+            after,
+            most,
+        } => {
+            matches!(other, Ask::Relay { origin: of, after: from, most: also } if origin == of && after == from && most == also)
         }
         Ask::Learn { from, vector } => {
             matches!(other, Ask::Learn { from: also, vector: news } if from == also && vector == news)
@@ -148,8 +170,8 @@ pub fn vector_in(say: &Say) -> Option<Vector> {
     }
 }
 
-/// The records that an answer has; none where it is no answer with records.
-pub fn records_in(say: &Say) -> &[Record] {
+/// The records that an answer has, with their hops; none where it is no answer with records.
+pub fn records_in(say: &Say) -> &[Sent] {
     match say {
         Say::Records { list } => list.as_slice(),
         _ => &[],

@@ -1,6 +1,7 @@
 // Whether each actor did what the lines of a script say, looked at slowly: step by step, by what each may leave.
+use crate::carrying::is_ordered;
 use dc_talk::{Ask, Call, Change, Deed, Log, Note};
-use script_text::{ClientStep, OperatorStep, Script, Section, Step};
+use script_text::{ClientStep, Script, Section, Step};
 
 /// Whether the operator and each client did just what their lines say, section by section, each in its own order.
 pub fn all_take(script: &Script, logs: &[Log]) -> bool {
@@ -19,7 +20,7 @@ fn takes(script: &Script, actor: u32, notes: &[Note]) -> bool {
     let mut number: u32 = 0;
     for section in script.sections.as_slice() {
         number = number.saturating_add(1);
-        match takes_in(section, number, actor, notes, place) {
+        match takes_in(script.n, section, (number, actor), notes, place) {
             Some(behind) => place = behind,
             None => return false,
         }
@@ -27,21 +28,23 @@ fn takes(script: &Script, actor: u32, notes: &[Note]) -> bool {
     place == notes.len()
 }
 
-// The place behind the notes that an actor's steps of a section leave from a place on, where these are right.
+// The place behind the notes that steps of a section leave from a place on, where these are right: of the section's number
+// and the actor.
 fn takes_in(
+    n: u8,
     section: &Section,
-    number: u32,
-    actor: u32,
+    whose: (u32, u32),
     notes: &[Note],
     from: usize,
 ) -> Option<usize> {
+    let (number, actor) = whose;
     let mut place = from;
     let mut count: u32 = 0;
     for step in section.steps.as_slice() {
         if actor_of(step) == actor {
             count = count.saturating_add(1);
             let behind = behind_step(notes, place, (number, count));
-            if !is_taken(step, notes.get(place..behind).unwrap_or(&[])) {
+            if !is_taken(n, step, notes.get(place..behind).unwrap_or(&[])) {
                 return None;
             }
             place = behind;
@@ -61,7 +64,15 @@ fn behind_step(notes: &[Note], from: usize, key: (u32, u32)) -> usize {
 }
 
 // Whether notes are such as a step leaves.
-fn is_taken(step: &Step, notes: &[Note]) -> bool {
+fn is_taken(n: u8, step: &Step, notes: &[Note]) -> bool {
+    match step {
+        Step::Client { step, .. } => is_taken_by_client(step, notes),
+        Step::Operator { step } => is_ordered(n, step, notes),
+    }
+}
+
+// Whether notes are such as a step of a client leaves.
+fn is_taken_by_client(step: &ClientStep, notes: &[Note]) -> bool {
     for note in notes {
         if !may_leave(step, &note.deed) {
             return false;
@@ -81,15 +92,12 @@ pub fn actor_of(step: &Step) -> u32 {
     }
 }
 
-// Whether a step may leave a deed.
-fn may_leave(step: &Step, deed: &Deed) -> bool {
-    match (step, deed) {
-        (Step::Client { step, .. }, Deed::Did { call, .. }) => calls(step, call),
-        (Step::Client { step, .. }, Deed::Asked { centre, ask, .. }) => asks(step, *centre, ask),
-        (Step::Client { step, .. }, Deed::Told(_)) => !matches!(step, ClientStep::Arm { .. }),
-        (Step::Operator { .. }, Deed::Did { .. }) => false,
-        (Step::Operator { step }, Deed::Asked { centre, ask, .. }) => orders(step, *centre, ask),
-        (Step::Operator { step }, Deed::Told(_)) => !matches!(step, OperatorStep::Link { .. }),
+// Whether a step of a client may leave a deed.
+fn may_leave(step: &ClientStep, deed: &Deed) -> bool {
+    match deed {
+        Deed::Did { call, .. } => calls(step, call),
+        Deed::Asked { centre, ask, .. } => asks(step, *centre, ask),
+        Deed::Told(_) => !matches!(step, ClientStep::Arm { .. }),
     }
 }
 
@@ -139,71 +147,27 @@ fn asks(step: &ClientStep, centre: u8, ask: &Ask) -> bool {
     }
 }
 
-// Whether the operator asks a centre so in a step.
-fn orders(step: &OperatorStep, centre: u8, ask: &Ask) -> bool {
+// Whether the first deed of a client's step may be this one: a call comes before what it needs.
+fn begins(step: &ClientStep, deed: &Deed) -> bool {
     match step {
-        OperatorStep::Down { centre: at } => *at == centre && matches!(ask, Ask::Stop),
-        OperatorStep::Up { centre: at } => *at == centre && matches!(ask, Ask::Start),
-        OperatorStep::Prune { centre: at } => *at == centre && matches!(ask, Ask::Prune),
-        OperatorStep::Tell { from, to } => match ask {
-            Ask::Report => *from == centre,
-            Ask::Learn { from: of, .. } => *to == centre && of == from,
-            _ => false,
-        },
-        OperatorStep::Ship { from, to } => ships(*from, *to, centre, ask),
-        OperatorStep::ShipOne { from, to, seq } => match ask {
-            Ask::Deliver { item } => item.stamp.seq == *seq && ships(*from, *to, centre, ask),
-            _ => ships(*from, *to, centre, ask),
-        },
-        OperatorStep::Settle => {
-            matches!(
-                ask,
-                Ask::Report | Ask::Send { .. } | Ask::Learn { .. } | Ask::Deliver { .. }
-            )
-        }
-        OperatorStep::Link { .. } => false,
+        ClientStep::Begin
+        | ClientStep::Change { .. }
+        | ClientStep::Read { .. }
+        | ClientStep::Commit
+        | ClientStep::Abort => matches!(deed, Deed::Did { .. }),
+        ClientStep::Connect { .. } => matches!(deed, Deed::Asked { .. }),
+        _ => true,
     }
 }
 
-// Whether an ask of a centre ships records from one centre to another.
-fn ships(from: u8, to: u8, centre: u8, ask: &Ask) -> bool {
-    match ask {
-        Ask::Report => centre == to,
-        Ask::Send { .. } => centre == from,
-        Ask::Deliver { item } => centre == to && item.stamp.centre == from,
-        _ => false,
-    }
-}
-
-// Whether the first deed of a step may be this one: a call comes before what it needs.
-fn begins(step: &Step, deed: &Deed) -> bool {
-    match step {
-        Step::Client { step, .. } => match step {
-            ClientStep::Begin
-            | ClientStep::Change { .. }
-            | ClientStep::Read { .. }
-            | ClientStep::Commit
-            | ClientStep::Abort => matches!(deed, Deed::Did { .. }),
-            ClientStep::Connect { .. } => matches!(deed, Deed::Asked { .. }),
-            _ => true,
-        },
-        Step::Operator { .. } => matches!(deed, Deed::Asked { .. }),
-    }
-}
-
-// Whether a step may leave nothing but a line.
-fn may_be_silent(step: &Step) -> bool {
-    match step {
-        Step::Client { step, .. } => matches!(
-            step,
-            ClientStep::Arm { .. }
-                | ClientStep::Push
-                | ClientStep::Flush
-                | ClientStep::Refresh
-                | ClientStep::Again { .. }
-        ),
-        Step::Operator { step } => {
-            matches!(step, OperatorStep::Link { .. } | OperatorStep::Settle)
-        }
-    }
+// Whether a client's step may leave nothing but a line.
+fn may_be_silent(step: &ClientStep) -> bool {
+    matches!(
+        step,
+        ClientStep::Arm { .. }
+            | ClientStep::Push
+            | ClientStep::Flush
+            | ClientStep::Refresh
+            | ClientStep::Again { .. }
+    )
 }

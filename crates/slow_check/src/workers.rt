@@ -1,5 +1,5 @@
 // The notes of workers, looked at slowly: whether they are those of rounds, each in its role.
-use crate::same::{is_same_record, records_in, vector_in};
+use crate::same::{has_sent, records_in, vector_in};
 use dc_talk::{Ask, Deed, Fate, Log, Note, Say};
 use script_text::Script;
 use tx_core::Record;
@@ -87,27 +87,27 @@ fn prunes(centre: u8, note: &Note) -> bool {
     matches!(asked_at(note, centre), Some((Ask::Prune, _))) && note.step % 8 == 0
 }
 
-// Whether a note is the delivery to a centre of a record that another one's sender got for it.
+// Whether a note is the delivery to a centre of a record that another one's sender got for it, with just its hops.
 fn delivers(script: &Script, logs: &[Log], centre: u8, note: &Note) -> bool {
     match asked_at(note, centre) {
-        Some((Ask::Deliver { item }, _)) => {
-            item.stamp.centre != centre && was_mailed(script, logs, item, Some(centre))
+        Some((Ask::Deliver { item, hops }, _)) => {
+            item.stamp.centre != centre && was_mailed(script, logs, item, *hops, Some(centre))
         }
         _ => false,
     }
 }
 
-/// Whether the sender of the centre that stamped a record got it for a centre, or for any.
-pub fn was_mailed(script: &Script, logs: &[Log], item: &Record, to: Option<u8>) -> bool {
+/// Whether the sender of the centre that stamped a record got it with so many hops for a centre, or for any.
+pub fn was_mailed(script: &Script, logs: &[Log], item: &Record, hops: u8, to: Option<u8>) -> bool {
     let (centre, role) = (item.stamp.centre, 1);
     match log_of(script, logs, Worker { centre, role }) {
-        Some(log) => is_mailed_in(log.as_slice(), item, to),
+        Some(log) => is_mailed_in(log.as_slice(), item, hops, to),
         None => false,
     }
 }
 
 // The same by the notes of the sender: the report just before tells for whom it was.
-fn is_mailed_in(notes: &[Note], item: &Record, to: Option<u8>) -> bool {
+fn is_mailed_in(notes: &[Note], item: &Record, hops: u8, to: Option<u8>) -> bool {
     let mut is_aimed = false;
     for note in notes {
         if let Deed::Asked {
@@ -118,19 +118,9 @@ fn is_mailed_in(notes: &[Note], item: &Record, to: Option<u8>) -> bool {
         {
             match ask {
                 Ask::Report => is_aimed = to.is_none() || to == Some(*centre),
-                _ if is_aimed && has_record(records_in(say), item) => return true,
+                _ if is_aimed && has_sent(records_in(say), item, hops) => return true,
                 _ => {}
             }
-        }
-    }
-    false
-}
-
-// Whether a record is among these.
-fn has_record(records: &[Record], item: &Record) -> bool {
-    for record in records {
-        if is_same_record(record, item) {
-            return true;
         }
     }
     false

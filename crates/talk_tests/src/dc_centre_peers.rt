@@ -34,7 +34,7 @@ fn stamps(alloc: Global, centre: &mut Centre) -> Result<bool, Fail> {
     Ok(matches!(&say, Say::Stamped { stamp } if stamp.centre == 2 && stamp.seq == 1))
 }
 
-// Whether a centre answers the delivery of a record of centre 1 so: its number and what it depends on,
+// Whether a centre answers the delivery of a record of centre 1 with four hops so: its number and what it depends on,
 // and the number of its transaction.
 fn applies(
     alloc: Global,
@@ -46,7 +46,7 @@ fn applies(
     let stamp = Stamp { centre: 1, seq };
     let tx = tx_of(alloc, number)?;
     let item = Record { stamp, deps, tx };
-    Ok(answers(alloc, centre, &Ask::Deliver { item }, want)?)
+    Ok(answers(alloc, centre, &Ask::Deliver { item, hops: 4 }, want)?)
 }
 
 // Delivers records of centre 1.
@@ -167,5 +167,82 @@ fn stop_and_start(rt: &impl Abort, alloc: Global, centre: &mut Centre) -> Result
 fn a_stopped_centre_answers_only_switches(rt: HostRuntime) -> Result<(), Fail> {
     let mut centre = Centre::new(rt.alloc(), 2, 2, 1, 10)?;
     stop_and_start(&rt, rt.alloc(), &mut centre)?;
+    Ok(())
+}
+
+// What a centre hands on of the records of an origin behind so many: their numbers, each with its hops.
+fn handed(
+    alloc: Global,
+    centre: &mut Centre,
+    origin: u8,
+    after: u64,
+) -> Result<Vec<(u64, u8)>, NoMemory> {
+    let most = 64;
+    let relay = Ask::Relay {
+        origin,
+        after,
+        most,
+    };
+    let (say, _copy) = centre.step(alloc, &relay)?;
+    let mut numbers = Vec::new(alloc);
+    if let Say::Records { list } = &say {
+        for sent in list.as_slice() {
+            numbers.push((sent.item.stamp.seq, sent.hops))?;
+        }
+    }
+    Ok(numbers)
+}
+
+// Has centre 2 apply two records of centre 1, of which the second is one more stamp of a commit that it stamped itself.
+fn take_two(rt: &impl Abort, alloc: Global, centre: &mut Centre) -> Result<(), Fail> {
+    assert!(rt; stamps(alloc, centre)?);
+    for (seq, number, want) in [(1, 2, ("applied", 1, 0, 0)), (2, 1, ("applied", 0, 0, 0))] {
+        assert!(rt;
+            applies(alloc, centre, (seq, pair(0, 0), number), want)?,
+            "{seq}"
+        );
+    }
+    Ok(())
+}
+
+#[test]
+fn a_relay_has_the_records_of_an_origin_with_their_hops(rt: HostRuntime) -> Result<(), Fail> {
+    let alloc = rt.alloc();
+    let mut centre = Centre::new(alloc, 2, 2, 1, 10)?;
+    take_two(&rt, alloc, &mut centre)?;
+    let first = handed(alloc, &mut centre, 1, 0)?;
+    assert!(rt; first.as_slice() == [(1, 5), (2, 5)].as_slice());
+    let second = handed(alloc, &mut centre, 1, 1)?;
+    assert!(rt; second.as_slice() == [(2, 5)].as_slice());
+    let own = handed(alloc, &mut centre, 2, 0)?;
+    assert!(rt; own.as_slice() == [(1, 0)].as_slice());
+    assert!(rt; handed(alloc, &mut centre, 1, 2)?.is_empty());
+    assert!(rt; handed(alloc, &mut centre, 3, 0)?.is_empty());
+    Ok(())
+}
+
+#[test]
+fn records_are_let_go_by_their_origins(rt: HostRuntime) -> Result<(), Fail> {
+    let alloc = rt.alloc();
+    let mut centre = Centre::new(alloc, 2, 2, 1, 10)?;
+    take_two(&rt, alloc, &mut centre)?;
+    let relay = |origin: u8, after: u64| Ask::Relay {
+        origin,
+        after,
+        most: 64,
+    };
+    let (from, vector) = (1, pair(1, 0));
+    let learn = Ask::Learn { from, vector };
+    for (ask, want) in [
+        (learn, ("learned", 1, 0, 0)),
+        (Ask::Prune, ("base", 0, 0, 0)),
+        (relay(1, 0), ("trimmed", 1, 0, 0)),
+        (relay(1, 1), ("records", 1, 0, 0)),
+        (relay(2, 0), ("records", 1, 0, 0)),
+        (relay(3, 0), ("misfit", 0, 0, 0)),
+        (Ask::Send { after: 0, most: 1 }, ("records", 1, 0, 0)),
+    ] {
+        assert!(rt; answers(alloc, &mut centre, &ask, want)?);
+    }
     Ok(())
 }

@@ -1,12 +1,15 @@
 // Rounds of workers over links on one thread, through a door that answers from a list.
 use dc_mail::{Posts, close_all, receive_all, report_all, send_all};
-use dc_talk::{Ask, LinkFault, ListDoor, Log, Records, Say};
+use dc_talk::{Ask, LinkFault, ListDoor, Log, Records, Say, Sent};
 use ids_core::Dot;
 use samples::{counter, inc_tx, pair};
 use std::alloc::Global;
 use std::test::Fail;
 use tx_core::Record;
 use vv_core::Stamp;
+
+// The hops of each record that is sent here; a receiver hands each on with its own.
+const HOPS: u8 = 2;
 
 // An answer with the first five records of centre 1.
 fn five(alloc: Global) -> Result<Say, Fail> {
@@ -21,7 +24,8 @@ fn five(alloc: Global) -> Result<Say, Fail> {
         );
         let deps = pair(0, 0);
         let tx = inc_tx(alloc, dot, seq, deps, &counter("a")?, &[5])?;
-        list.push(Record { stamp, deps, tx })?;
+        let item = Record { stamp, deps, tx };
+        list.push(Sent { item, hops: HOPS })?;
     }
     Ok(Say::Records { list })
 }
@@ -39,7 +43,7 @@ fn door(alloc: Global) -> Result<ListDoor, Fail> {
 fn delivered(alloc: Global, door: &ListDoor, centre: u8) -> Result<Vec<u64>, Fail> {
     let mut numbers = Vec::new(alloc);
     for (at, entry) in door.entries() {
-        if let Ask::Deliver { item } = &entry.ask {
+        if let Ask::Deliver { item, hops: HOPS } = &entry.ask {
             if *at == centre {
                 numbers.push(item.stamp.seq)?;
             }

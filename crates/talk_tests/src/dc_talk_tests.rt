@@ -5,10 +5,12 @@ ghost use Rattle.ids_core.specs.declared.limits.TheConstants.{MOST_CENTRES};
 use dc_centre::Centre;
 use dc_talk::{Ask, Door, ListDoor, Say, belongs, law_history};
 use hist_lock::Trail;
-use ids_core::NoMemory;
-use samples::{pair, single};
+use ids_core::{Dot, NoMemory};
+use samples::{counter, inc_tx, pair, single};
+use std::alloc::Global;
 use std::test::Fail;
-use vv_core::Vector;
+use tx_core::Record;
+use vv_core::{Stamp, Vector};
 
 // Whether the asks of a client with that vector fit a system of one centre.
 fn are_fit(client: u32, at: Vector) -> bool {
@@ -20,6 +22,39 @@ fn asks_fit_or_do_not(rt: HostRuntime) {
     assert!(rt; are_fit(1, single(0)) && are_fit(1_024, single(0)));
     assert!(rt; !are_fit(0, single(0)) && !are_fit(1_025, single(0)));
     assert!(rt; !are_fit(1, pair(0, 0)));
+}
+
+// Whether a relay of the records of an origin, at most so many, fits a system of two centres.
+fn is_fit_relay(origin: u8, most: u32) -> bool {
+    let after = 0;
+    let relay = Ask::Relay {
+        origin,
+        after,
+        most,
+    };
+    relay.fits(2)
+}
+
+// Whether the delivery of a record with so many hops fits.
+fn is_fit_delivery(alloc: Global, hops: u8) -> Result<bool, Fail> {
+    let dot = Dot {
+        client: 1,
+        number: 1,
+    };
+    let (stamp, deps) = (Stamp { centre: 1, seq: 1 }, pair(0, 0));
+    let tx = inc_tx(alloc, dot, 1, deps, &counter("a")?, &[5])?;
+    let item = Record { stamp, deps, tx };
+    Ok(Ask::Deliver { item, hops }.fits(2))
+}
+
+#[test]
+fn relays_and_deliveries_fit_or_do_not(rt: HostRuntime) -> Result<(), Fail> {
+    assert!(rt; is_fit_relay(1, 1) && is_fit_relay(2, 1_024));
+    assert!(rt; !is_fit_relay(0, 1) && !is_fit_relay(3, 1));
+    assert!(rt; !is_fit_relay(1, 0) && !is_fit_relay(1, 1_025));
+    assert!(rt; is_fit_delivery(rt.alloc(), 0)? && is_fit_delivery(rt.alloc(), 7)?);
+    assert!(rt; !is_fit_delivery(rt.alloc(), 8)?);
+    Ok(())
 }
 
 // Puts the hello of a client, as of a caller, at the end.
@@ -87,5 +122,11 @@ fn a_list_door_answers_from_its_list(rt: HostRuntime) -> Result<(), Fail> {
 fn answers_belong_or_do_not(rt: HostRuntime) {
     assert!(rt; belongs(&Ask::Stop, &Say::Stopped) && belongs(&Ask::Stop, &Say::Down));
     assert!(rt; !belongs(&Ask::Start, &Say::Stopped));
+    let relay = Ask::Relay {
+        origin: 1,
+        after: 0,
+        most: 1,
+    };
+    assert!(rt; belongs(&relay, &Say::Trimmed { from: 1 }) && !belongs(&relay, &Say::Started));
     assert!(rt; belongs(&Ask::Prune, &Say::Down) && !belongs(&Ask::Prune, &Say::Stopped));
 }

@@ -5,7 +5,7 @@ ghost use Rattle.script_text.specs.Steps.{IsOperatorStep};
 
 use crate::printed::tells;
 use client_stub::operate;
-use dc_talk::{ListDoor, Log, Records, Say};
+use dc_talk::{Ask, ListDoor, Log, Records, Say, Sent};
 use ids_core::{Dot, MOST_CENTRES};
 use samples::{counter, inc_tx, pair};
 use script_text::OperatorStep;
@@ -19,7 +19,7 @@ use vv_core::Stamp;
 enum Answer {
     // It has what it is told by, so many records of centre 1 and none of centre 2.
     Has(u64),
-    // The record of centre 1 with this number, alone.
+    // The record of centre 1 with this number, alone, with three hops.
     Sent(u64),
     // No record.
     Nothing,
@@ -83,7 +83,8 @@ fn sent(alloc: Global, seq: u64) -> Result<Say, Fail> {
     let deps = pair(0, 0);
     let tx = inc_tx(alloc, dot, seq, deps, &counter("a")?, &[5])?;
     let mut list = Records::new(alloc);
-    list.push(Record { stamp, deps, tx })?;
+    let item = Record { stamp, deps, tx };
+    list.push(Sent { item, hops: 3 })?;
     Ok(Say::Records { list })
 }
 
@@ -203,6 +204,95 @@ fn a_ship_by_the_answer_to_its_record(rt: HostRuntime) -> Result<(), Fail> {
 }
 
 #[test]
+fn a_relay_by_the_answers_to_its_report_and_to_what_it_asks_for(
+    rt: HostRuntime,
+) -> Result<(), Fail> {
+    let alloc = rt.alloc();
+    let (from, origin, to) = (3, 1, 2);
+    let step = OperatorStep::Relay { from, origin, to };
+    for (answer, want) in [
+        (Answer::Down, "2 from 3 of 1 down 2\n"),
+        (Answer::Misfit, "2 from 3 of 1 misfit\n"),
+    ] {
+        assert!(rt;
+            told(alloc, &step, [answer, Answer::Down, Answer::Down], want)?,
+            "{want}"
+        );
+    }
+    for (answer, want) in [
+        (Answer::Nothing, ""),
+        (Answer::Trimmed, "2 from 3 of 1 trimmed 4\n"),
+        (Answer::Down, "2 from 3 of 1 down 3\n"),
+        (Answer::Misfit, "2 from 3 of 1 misfit\n"),
+    ] {
+        assert!(rt;
+            told(alloc, &step, [Answer::Has(0), answer, Answer::Down], want)?,
+            "{want}"
+        );
+    }
+    Ok(())
+}
+
+#[test]
+fn a_relay_by_the_answer_to_its_record(rt: HostRuntime) -> Result<(), Fail> {
+    let alloc = rt.alloc();
+    let (from, origin, to) = (3, 1, 2);
+    let step = OperatorStep::Relay { from, origin, to };
+    for (answer, want) in [
+        (Answer::Applied, "2 from 3 of 1 applied 1\n"),
+        (Answer::Alias, "2 from 3 of 1 alias 1\n"),
+        (Answer::Old(5), "2 from 3 of 1 old 5\n"),
+        (Answer::Gap(0), "2 from 3 of 1 gap 0\n"),
+        (Answer::Waits, "2 from 3 of 1 waits 3:4 has 2\n"),
+        (Answer::Orphan, "2 from 3 of 1 orphan 5 has 2\n"),
+        (Answer::Down, "2 from 3 of 1 down 2\n"),
+        (Answer::Misfit, "2 from 3 of 1 misfit\n"),
+    ] {
+        assert!(rt;
+            told(
+                alloc,
+                &step,
+                [Answer::Has(0), Answer::Sent(1), answer],
+                want
+            )?,
+            "{want}"
+        );
+    }
+    Ok(())
+}
+
+// A number for an ask at a centre: the centre, behind it what is asked for of the records of centre 1, or what is
+// delivered of it with three hops.
+fn number_of(centre: u8, ask: &Ask) -> (u8, u64, u64) {
+    match ask {
+        Ask::Report => (centre, 0, 0),
+        Ask::Relay {
+            origin: 1,
+            after,
+            most,
+        } => (centre, *after, u64::from(*most)),
+        Ask::Deliver { item, hops: 3 } => (centre, item.stamp.seq, 3),
+        _ => (0, 0, 0),
+    }
+}
+
+#[test]
+fn a_relay_asks_the_one_between_and_keeps_the_hops(rt: HostRuntime) -> Result<(), Fail> {
+    let alloc = rt.alloc();
+    let mut door = door(alloc, [Answer::Has(6), Answer::Sent(7), Answer::Applied])?;
+    let mut log = Log::new(alloc, 1);
+    let (from, origin, to) = (3, 1, 2);
+    let step = OperatorStep::Relay { from, origin, to };
+    operate(&mut door, MOST_CENTRES, &step, &mut log)?;
+    let mut asks = Vec::new(alloc);
+    for (centre, entry) in door.entries() {
+        asks.push(number_of(*centre, &entry.ask))?;
+    }
+    assert!(rt; asks.as_slice() == [(2, 0, 0), (3, 6, 1_024), (2, 7, 3)].as_slice());
+    Ok(())
+}
+
+#[test]
 fn a_tell_by_its_answers(rt: HostRuntime) -> Result<(), Fail> {
     let alloc = rt.alloc();
     let step = OperatorStep::Tell { from: 1, to: 2 };
@@ -256,14 +346,14 @@ fn settled(alloc: Global, answers: [Answer; 3]) -> Result<Option<usize>, Fail> {
     Ok(tells(alloc, &log, 0, "")?.then_some(asks))
 }
 
-// A pass over 56 routes has a report for each delivery and for each tell. The first answers bring a send and a
-// delivery more, and where that is applied a second pass.
+// A pass over 56 routes and 336 detours has a report for each delivery, each relay and each tell. The first answers bring a
+// send and a delivery more, and where that is applied a second pass.
 #[test]
 fn a_settling_ends_with_the_first_pass_without_news(rt: HostRuntime) -> Result<(), Fail> {
     let alloc = rt.alloc();
     let (has, sent) = (Answer::Has(0), Answer::Sent(1));
-    assert!(rt; settled(alloc, [Answer::Down; 3])? == Some(112));
-    assert!(rt; settled(alloc, [has, sent, Answer::Old(1)])? == Some(114));
-    assert!(rt; settled(alloc, [has, sent, Answer::Applied])? == Some(226));
+    assert!(rt; settled(alloc, [Answer::Down; 3])? == Some(448));
+    assert!(rt; settled(alloc, [has, sent, Answer::Old(1)])? == Some(450));
+    assert!(rt; settled(alloc, [has, sent, Answer::Applied])? == Some(898));
     Ok(())
 }

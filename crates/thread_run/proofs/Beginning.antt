@@ -20,7 +20,7 @@ use Rattle.dc_host.proofs.Passes.{zip_long}
 use Rattle.dc_host.proofs.Rows.{are_dealt}
 use Rattle.dc_links.specs.Links.{rows_of as ends_of, AreGivers, AreTakers, AreGiverRows, AreTakerRows, put_between, taken_between}
 use Rattle.mail_link.specs.Ends.{GiverView, TakerView}
-use Rattle.tx_core.specs.declared.tx.Record.{Record}
+use Rattle.dc_talk.specs.declared.sent.Sent.{Sent}
 use Rattle.script_text.specs.declared.steps.Section.{Section}
 use Rattle.script_text.specs.declared.steps.Step.{Step}
 use Rattle.script_text.specs.declared.steps.Step.TheVariants.{Client, Operator}
@@ -143,8 +143,8 @@ module _ (scene : Scene) (old : Table) (b : IsPhaseBegun scene old) where
   crew_is i crew range there =
       let number : crew.centre ≡ i = numbered (λ (c : Crew). c.centre) b.cast.crews.items scene.script.now.n i crew b.cast_is.crews.numbers range there in
       let among : IsCount (length scene.links.now) i = (range.0, omega (arith, range.1, b.links)) in
-      let givers : AreGivers scene.links.now i crew.sender.givers.items = subst (λ (row : List (GiverView Record)). AreGivers scene.links.now i row) (row_there (λ (c : Crew). c.sender.givers) b.cast.crews.items b.parts.givers.items (i - 1) crew b.cast_is.crews.givers_are there) (b.givers.each i among) in
-      let takers : AreTakers scene.links.now i crew.receiver.takers.items = subst (λ (row : List (TakerView Record)). AreTakers scene.links.now i row) (row_there (λ (c : Crew). c.receiver.takers) b.cast.crews.items b.parts.takers.items (i - 1) crew b.cast_is.crews.takers_are there) (b.takers.each i among) in
+      let givers : AreGivers scene.links.now i crew.sender.givers.items = subst (λ (row : List (GiverView Sent)). AreGivers scene.links.now i row) (row_there (λ (c : Crew). c.sender.givers) b.cast.crews.items b.parts.givers.items (i - 1) crew b.cast_is.crews.givers_are there) (b.givers.each i among) in
+      let takers : AreTakers scene.links.now i crew.receiver.takers.items = subst (λ (row : List (TakerView Sent)). AreTakers scene.links.now i row) (row_there (λ (c : Crew). c.receiver.takers) b.cast.crews.items b.parts.takers.items (i - 1) crew b.cast_is.crews.takers_are there) (b.takers.each i among) in
       let inlets : length crew.receiver.inlets.items ≡ scene.script.now.n = sym (ap length (row_there (λ (c : Crew). c.receiver.inlets) b.cast.crews.items b.parts.inlets.items (i - 1) crew b.cast_is.crews.inlets_are there)) ∙ b.lent.rows_are i range in
       record {
         centre = subst (IsCount scene.script.now.n) (sym number) range;

@@ -5,7 +5,7 @@ use Rattle.std.specs.List.{AllZip}
 use Rattle.std.proofs.lemmas.List.{map-append, length-map}
 use Rattle.std.proofs.lemmas.Option.{none-some, same_Some}
 use Rattle.list_core.proofs.Gets.{get_in_front}
-use Rattle.tx_core.specs.declared.tx.Record.{Record}
+use Rattle.dc_talk.specs.declared.sent.Sent.{Sent}
 use Rattle.dc_talk.specs.declared.log.Note.{Note}
 use Rattle.dc_talk.specs.Logs.{entries_made}
 use Rattle.dc_talk.specs.Acting.{Acting}
@@ -94,7 +94,7 @@ acted_then a b c first later was more = record {
       ∙ ap (λ es. a.door.made i ++ es) (sym (made_then a.door.actor i (deeds_of first) (deeds_of later)) ∙ ap (entries_made a.door.actor i) (sym (map-append (λ (note : Note). note.deed) first later)))));
 }
 
-module _ (scene : Scene) (givers : List (List (GiverView Record))) where
+module _ (scene : Scene) (givers : List (List (GiverView Sent))) where
   -- the workers of a centre made their rounds, and then the receiver its closing round
   pub record HasCrewDone (old new : Crew) : Type 0 where
     pub centre : new.centre ≡ old.centre
@@ -141,11 +141,11 @@ abbrev pub operator_acted : (scene : Scene) (old new : Caller) → HasOperated s
 operator_acted scene old new operated = record { mine = operated.plays.mine; same = operated.same; acted = operated.plays.acted }
 
 -- the workers of all centres acted
-pub crews_done : (scene : Scene) (givers : List (List (GiverView Record))) (before played closed : List Crew) → AllZip (HasCrewPlayed scene) before played → AllZip (HasCrewClosed scene givers) played closed → AllZip (HasCrewDone scene givers) before closed
+pub crews_done : (scene : Scene) (givers : List (List (GiverView Sent))) (before played closed : List Crew) → AllZip (HasCrewPlayed scene) before played → AllZip (HasCrewClosed scene givers) played closed → AllZip (HasCrewDone scene givers) before closed
 crews_done scene givers before played closed first later = zip_then (HasCrewPlayed scene) (HasCrewClosed scene givers) (HasCrewDone scene givers) before played closed (crew_done scene givers) first later
 
 -- so did all
-pub all_acted : (scene : Scene) (givers : List (List (GiverView Record))) (operator : Caller) (players : List Player) (crews : List Crew) (operator' : Caller) (players' : List Player) (crews' : List Crew) → HasOperated scene operator operator' → AllZip (HasTakenSteps scene) players players' → AllZip (HasCrewDone scene givers) crews crews' → AllZip HasActed (callers_among operator players crews) (callers_among operator' players' crews')
+pub all_acted : (scene : Scene) (givers : List (List (GiverView Sent))) (operator : Caller) (players : List Player) (crews : List Crew) (operator' : Caller) (players' : List Player) (crews' : List Crew) → HasOperated scene operator operator' → AllZip (HasTakenSteps scene) players players' → AllZip (HasCrewDone scene givers) crews crews' → AllZip HasActed (callers_among operator players crews) (callers_among operator' players' crews')
 all_acted scene givers operator players crews operator' players' crews' operated taken done = (
   operator_acted scene operator operator' operated,
   zip_append HasActed (map (λ (p : Player). p.caller) players) (flat_map crew_callers crews) (map (λ (p : Player). p.caller) players') (flat_map crew_callers crews')

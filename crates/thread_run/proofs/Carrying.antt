@@ -10,13 +10,13 @@ use Rattle.std.proofs.lemmas.Option.{get_or_from_slice_get}
 use Rattle.list_core.specs.Members.{In}
 use Rattle.list_core.proofs.Members.{In_from_filter}
 use Rattle.vv_core.specs.Vectors.{centres}
-use Rattle.tx_core.specs.declared.tx.Record.{Record}
+use Rattle.dc_talk.specs.declared.sent.Sent.{Sent}
 use Rattle.dc_talk.specs.declared.log.Deed.{Deed}
 use Rattle.dc_talk.specs.declared.log.Note.{Note}
 use Rattle.mail_link.specs.Ends.{GiverView}
 use Rattle.script_text.specs.declared.script.Header.{Header}
 use Rattle.script_text.specs.declared.steps.OperatorStep.{OperatorStep}
-use Rattle.script_text.specs.declared.steps.OperatorStep.TheVariants.{Down, Up, ShipOne, Ship, Tell, Prune, Link, Settle}
+use Rattle.script_text.specs.declared.steps.OperatorStep.TheVariants.{Down, Up, ShipOne, Ship, Relay, Tell, Prune, Link, Settle}
 use Rattle.script_text.specs.declared.steps.Step.{Step}
 use Rattle.script_text.specs.declared.steps.Step.TheVariants.{Client, Operator}
 use Rattle.script_text.specs.Steps.{IsCount, IsStepOf}
@@ -42,7 +42,7 @@ other_than : (n j from : ℕ) → In from (others n j) → from ≢ j
 other_than n j from there same = false≢true (sym (ap not (eq-eqb from j same)) ∙ (In_from_filter (λ k. not (k == j)) (centres n) from there).1)
 
 -- what is due alike from the others is delivered alike
-delivers_alike : (n j : ℕ) (due given : ℕ → List Record) (deeds : List Deed) → ((from : ℕ) → IsCount n from → from ≢ j → due from ≡ given from) → ReceiverDeeds n j due deeds → ReceiverDeeds n j given deeds
+delivers_alike : (n j : ℕ) (due given : ℕ → List Sent) (deeds : List Deed) → ((from : ℕ) → IsCount n from → from ≢ j → due from ≡ given from) → ReceiverDeeds n j due deeds → ReceiverDeeds n j given deeds
 delivers_alike n j due given deeds same are = go (others n j) deeds (λ from there. same from (others_within n j from there) (other_than n j from there)) are
   where
     go : (froms : List ℕ) (deeds : List Deed) → ((from : ℕ) → In from froms → due from ≡ given from) → InTurn (λ from deeds. Brings j (due from) deeds) froms deeds → InTurn (λ from deeds. Brings j (given from) deeds) froms deeds
@@ -60,7 +60,7 @@ goes_alike n j step s t later receipt notes same goes = record {
 }
 
 -- the closing round follows the others
-pub receiver_order : (scene : Scene) (givers : List (List (GiverView Record))) (j : ℕ) (old mid new : ReceiverEnd) → scene.section.now.phase ≡ true → (received : HasReceived scene j old mid) (closed : HasClosed scene j givers mid new) → InOrder (ReceiverGoes scene.script.now.n j) scene.number 1 (intakes_of (receiving old)) (receipts_in scene.script.now scene.section.now) (received.plays.plays.mine ++ closed.closes.mine) (intakes_of (receiving new))
+pub receiver_order : (scene : Scene) (givers : List (List (GiverView Sent))) (j : ℕ) (old mid new : ReceiverEnd) → scene.section.now.phase ≡ true → (received : HasReceived scene j old mid) (closed : HasClosed scene j givers mid new) → InOrder (ReceiverGoes scene.script.now.n j) scene.number 1 (intakes_of (receiving old)) (receipts_in scene.script.now scene.section.now) (received.plays.plays.mine ++ closed.closes.mine) (intakes_of (receiving new))
 receiver_order scene givers j old mid new phase received closed =
     let n : ℕ = scene.script.now.n in
     let rounds : ℕ = scene.script.now.rounds in
@@ -73,18 +73,19 @@ receiver_order scene givers j old mid new phase received closed =
 -- ---- links in a phase
 
 -- a step that may stand in a phase sets no link
-sets_none : (step : OperatorStep) (steps : List OperatorStep) (from to : ℕ) (inlet : Inlet Record) → IsTrue (may_order_in_phase step) → linked (step ∷ steps) from to inlet ≡ linked steps from to inlet
+sets_none : (step : OperatorStep) (steps : List OperatorStep) (from to : ℕ) (inlet : Inlet Sent) → IsTrue (may_order_in_phase step) → linked (step ∷ steps) from to inlet ≡ linked steps from to inlet
 sets_none (Down centre) steps from to inlet may = refl
 sets_none (Up centre) steps from to inlet may = refl
 sets_none (ShipOne i j seq) steps from to inlet may = refl
 sets_none (Ship i j) steps from to inlet may = refl
+sets_none (Relay i origin j) steps from to inlet may = refl
 sets_none (Tell i j) steps from to inlet may = refl
 sets_none (Prune centre) steps from to inlet may = refl
 sets_none (Link i j fault) steps from to inlet may = absurd (false≢true may)
 sets_none Settle steps from to inlet may = refl
 
 -- so no link is set in a phase
-pub none_set : (header : Header) (steps : List Step) (from to : ℕ) (inlet : Inlet Record) → All (λ step. IsStepOf header step × IsInPhase step) steps → linked (filter_map operator_step steps) from to inlet ≡ inlet
+pub none_set : (header : Header) (steps : List Step) (from to : ℕ) (inlet : Inlet Sent) → All (λ step. IsStepOf header step × IsInPhase step) steps → linked (filter_map operator_step steps) from to inlet ≡ inlet
 none_set header [] from to inlet all = refl
 none_set header (Client client step ∷ steps) from to inlet all = none_set header steps from to inlet (All-tail (λ step. IsStepOf header step × IsInPhase step) (Client client step) steps all)
 none_set header (Operator step ∷ steps) from to inlet all =

@@ -10,7 +10,7 @@ use Rattle.list_core.proofs.Gets.{In_get, all_get}
 use Rattle.list_core.proofs.Members.{In-All}
 use Rattle.ids_core.specs.declared.limits.TheConstants.{MOST_CENTRES}
 use Rattle.vv_core.specs.Vectors.{centres}
-use Rattle.tx_core.specs.declared.tx.Record.{Record}
+use Rattle.dc_talk.specs.declared.sent.Sent.{Sent}
 use Rattle.host_lock.specs.Hosts.{IsOf}
 use Rattle.dc_host.specs.Centres.{KeptCentre, IsKeptCentre}
 use Rattle.dc_host.specs.HostDoors.{CentreHost, CentrePass, bare}
@@ -100,21 +100,21 @@ module _ (scene : Scene) (old : Table) (run : IsPhaseRun scene old) where
   -- the ends that put are those of the links
   pub giver_rows : AreGiverRows scene.links.now (ends_of run.later.givers.items)
   giver_rows = record {
-    number = length-map run.later.givers.items (λ (row : Vec (GiverView Record)). row.items) ∙ (rows_count (λ (c : Crew). c.sender.givers) run.later.givers.items run.parted.parted.crews.givers_are ∙ sym run.begun.links);
+    number = length-map run.later.givers.items (λ (row : Vec (GiverView Sent)). row.items) ∙ (rows_count (λ (c : Crew). c.sender.givers) run.later.givers.items run.parted.parted.crews.givers_are ∙ sym run.begun.links);
     each = λ i among.
         let w = crew_of scene old run i (among.0, omega (arith, among.1, run.begun.links)) in
         let own : AreGivers scene.links.now i w.later.sender.givers.items = subst (λ k. AreGivers scene.links.now k w.later.sender.givers.items) w.number w.done.sender.is.givers in
-        subst (λ (row : List (GiverView Record)). AreGivers scene.links.now i row) (sym (row_there (λ (c : Crew). c.sender.givers) run.parted.closed run.later.givers.items (i - 1) w.later run.parted.parted.crews.givers_are w.is)) own;
+        subst (λ (row : List (GiverView Sent)). AreGivers scene.links.now i row) (sym (row_there (λ (c : Crew). c.sender.givers) run.parted.closed run.later.givers.items (i - 1) w.later run.parted.parted.crews.givers_are w.is)) own;
   }
 
   -- so are those that take
   pub taker_rows : AreTakerRows scene.links.now (ends_of run.later.takers.items)
   taker_rows = record {
-    number = length-map run.later.takers.items (λ (row : Vec (TakerView Record)). row.items) ∙ (rows_count (λ (c : Crew). c.receiver.takers) run.later.takers.items run.parted.parted.crews.takers_are ∙ sym run.begun.links);
+    number = length-map run.later.takers.items (λ (row : Vec (TakerView Sent)). row.items) ∙ (rows_count (λ (c : Crew). c.receiver.takers) run.later.takers.items run.parted.parted.crews.takers_are ∙ sym run.begun.links);
     each = λ i among.
         let w = crew_of scene old run i (among.0, omega (arith, among.1, run.begun.links)) in
         let own : AreTakers scene.links.now i w.later.receiver.takers.items = subst (λ k. AreTakers scene.links.now k w.later.receiver.takers.items) w.number w.done.closed.is.takers in
-        subst (λ (row : List (TakerView Record)). AreTakers scene.links.now i row) (sym (row_there (λ (c : Crew). c.receiver.takers) run.parted.closed run.later.takers.items (i - 1) w.later run.parted.parted.crews.takers_are w.is)) own;
+        subst (λ (row : List (TakerView Sent)). AreTakers scene.links.now i row) (sym (row_there (λ (c : Crew). c.receiver.takers) run.parted.closed run.later.takers.items (i - 1) w.later run.parted.parted.crews.takers_are w.is)) own;
   }
 
   -- the passes are those of the hosts
@@ -129,10 +129,10 @@ module _ (scene : Scene) (old : Table) (run : IsPhaseRun scene old) where
   inlets_count = rows_count (λ (c : Crew). c.receiver.inlets) run.later.inlets.items run.parted.parted.crews.inlets_are
 
   -- each has one from each centre
-  pub inlets_each : All (λ (row : Vec (Inlet Record)). length row.items ≡ scene.script.now.n) run.later.inlets.items
+  pub inlets_each : All (λ (row : Vec (Inlet Sent)). length row.items ≡ scene.script.now.n) run.later.inlets.items
   inlets_each =
-      subst (λ (rows : List (Vec (Inlet Record))). All (λ row. length row.items ≡ scene.script.now.n) rows) run.parted.parted.crews.inlets_are
-      (All-map (λ (row : Vec (Inlet Record)). length row.items ≡ scene.script.now.n) (λ (c : Crew). c.receiver.inlets) run.parted.closed
+      subst (λ (rows : List (Vec (Inlet Sent))). All (λ row. length row.items ≡ scene.script.now.n) rows) run.parted.parted.crews.inlets_are
+      (All-map (λ (row : Vec (Inlet Sent)). length row.items ≡ scene.script.now.n) (λ (c : Crew). c.receiver.inlets) run.parted.closed
       (all_partners (HasCrewDone scene (put_then scene old run)) (IsCrewOf scene) (λ (c : Crew). length c.receiver.inlets.items ≡ scene.script.now.n) run.begun.cast.crews.items run.parted.closed (λ x y is did. did.closed.is.inlets) (is_cast scene old run.begun).crews (done scene old run)))
 
   -- what came out of the hosts may go before a door

@@ -6,7 +6,7 @@ use Rattle.std.proofs.Math.Seq.{get_or-append_seam}
 use Rattle.std.proofs.lemmas.Bool.{cases_eq, cases_lt, eq-eqb, ne_eqb}
 use Rattle.std.proofs.lemmas.List.{get_or_append_left, map-append, length-map}
 use Rattle.ids_core.specs.declared.limits.TheConstants.{MOST_CENTRES}
-use Rattle.tx_core.specs.declared.tx.Record.{Record}
+use Rattle.dc_talk.specs.declared.sent.Sent.{Sent}
 use Rattle.script_text.specs.Links.{Inlet, clean_inlet}
 use Rattle.script_text.specs.Mail.{Post}
 use Rattle.script_text.specs.Steps.{IsCount}
@@ -28,7 +28,7 @@ module _ (i j : ℕ) (post : Post) (old new : List Post) (set : HasSet i j post 
       go (inr two) (inl one) = λ k. cond (eq-eqb from i one k && ne_eqb to j two k) post (post_at old from to)
       go (inr two) (inr one) = ap (λ test. cond (test && to == j) post (post_at old from to)) (ne_eqb from i one)
 
-module _ (inlets : List (Inlet Record)) (inlet : Inlet Record) where
+module _ (inlets : List (Inlet Sent)) (inlet : Inlet Sent) where
   -- an end among more
   inlet_before : (from : ℕ) → IsCount (length inlets) from → inlet_from (inlets ++ inlet ∷ []) from ≡ inlet_from inlets from
   inlet_before from range = get_or_append_left inlets (inlet ∷ []) clean_inlet (from - 1) (omega (arith, range.0, range.1))
@@ -38,23 +38,23 @@ module _ (inlets : List (Inlet Record)) (inlet : Inlet Record) where
   inlet_behind from is = let place : from - 1 ≡ length inlets = omega (arith, is) in ap (λ p. get_or (inlets ++ inlet ∷ []) p clean_inlet) place ∙ get_or-append_seam inlets inlet [] clean_inlet
 
 -- the row of a centre
-abbrev pub row_at : List (Vec (Inlet Record)) → ℕ → List (Inlet Record)
-row_at rows to = slice_index_or (map (λ (row : Vec (Inlet Record)). row.items) rows) (to - 1) []
+abbrev pub row_at : List (Vec (Inlet Sent)) → ℕ → List (Inlet Sent)
+row_at rows to = slice_index_or (map (λ (row : Vec (Inlet Sent)). row.items) rows) (to - 1) []
 
-module _ (rows : List (Vec (Inlet Record))) (row : Vec (Inlet Record)) where
+module _ (rows : List (Vec (Inlet Sent))) (row : Vec (Inlet Sent)) where
   -- a row among more
   row_before : (to : ℕ) → IsCount (length rows) to → row_at (rows ++ row ∷ []) to ≡ row_at rows to
   row_before to range =
-      ap (λ items. get_or items (to - 1) []) (map-append (λ (row : Vec (Inlet Record)). row.items) rows (row ∷ []))
-      ∙ get_or_append_left (map (λ (row : Vec (Inlet Record)). row.items) rows) (row.items ∷ []) [] (to - 1) (omega (arith, range.0, range.1, length-map rows (λ (row : Vec (Inlet Record)). row.items)))
+      ap (λ items. get_or items (to - 1) []) (map-append (λ (row : Vec (Inlet Sent)). row.items) rows (row ∷ []))
+      ∙ get_or_append_left (map (λ (row : Vec (Inlet Sent)). row.items) rows) (row.items ∷ []) [] (to - 1) (omega (arith, range.0, range.1, length-map rows (λ (row : Vec (Inlet Sent)). row.items)))
 
   -- the last one
   row_behind : (to : ℕ) → to ≡ length rows + 1 → row_at (rows ++ row ∷ []) to ≡ row.items
   row_behind to is =
-      let place : to - 1 ≡ length (map (λ (row : Vec (Inlet Record)). row.items) rows) = omega (arith, is, length-map rows (λ (row : Vec (Inlet Record)). row.items)) in
-      ap (λ items. get_or items (to - 1) []) (map-append (λ (row : Vec (Inlet Record)). row.items) rows (row ∷ []))
-      ∙ (ap (λ p. get_or (map (λ (row : Vec (Inlet Record)). row.items) rows ++ row.items ∷ []) p []) place
-      ∙ get_or-append_seam (map (λ (row : Vec (Inlet Record)). row.items) rows) row.items [] [])
+      let place : to - 1 ≡ length (map (λ (row : Vec (Inlet Sent)). row.items) rows) = omega (arith, is, length-map rows (λ (row : Vec (Inlet Sent)). row.items)) in
+      ap (λ items. get_or items (to - 1) []) (map-append (λ (row : Vec (Inlet Sent)). row.items) rows (row ∷ []))
+      ∙ (ap (λ p. get_or (map (λ (row : Vec (Inlet Sent)). row.items) rows ++ row.items ∷ []) p []) place
+      ∙ get_or-append_seam (map (λ (row : Vec (Inlet Sent)). row.items) rows) row.items [] [])
 
 -- ---- lent
 
@@ -63,7 +63,7 @@ abbrev pub StayPast : ℕ → ℕ → List Post → List Post → Type 0
 StayPast before to old new = (from : ℕ) → IsCentre from → before < from → post_at new from to ≡ post_at old from to
 
 -- one end more was lent
-pub lent_more : (old : List Post) (before to : ℕ) (inlets : List (Inlet Record)) (posts : List Post) (inlet : Inlet Record) (new : List Post) → IsCentre (before + 1) → IsCentre to → AreInletsTo old before to inlets posts × StayPast before to old posts → inlet ≡ (post_at posts (before + 1) to).inlet → HasSet (before + 1) to (record (post_at posts (before + 1) to) { inlet = clean_inlet }) posts new → AreInletsTo old (before + 1) to (inlets ++ inlet ∷ []) new × StayPast (before + 1) to old new
+pub lent_more : (old : List Post) (before to : ℕ) (inlets : List (Inlet Sent)) (posts : List Post) (inlet : Inlet Sent) (new : List Post) → IsCentre (before + 1) → IsCentre to → AreInletsTo old before to inlets posts × StayPast before to old posts → inlet ≡ (post_at posts (before + 1) to).inlet → HasSet (before + 1) to (record (post_at posts (before + 1) to) { inlet = clean_inlet }) posts new → AreInletsTo old (before + 1) to (inlets ++ inlet ∷ []) new × StayPast (before + 1) to old new
 lent_more old before to inlets posts inlet new f t lent is set = (
   record {
     number = omega (arith, length-append inlets (inlet ∷ []), lent.0.number);
@@ -82,19 +82,19 @@ lent_more old before to inlets posts inlet new f t lent is set = (
 )
 
 -- these are the ends of the links from the first n centres to the first so many; those to later ones are as they were
-pub record AreRowsTo (old : List Post) (n before : ℕ) (rows : List (Vec (Inlet Record))) (posts : List Post) : Type 0 where
+pub record AreRowsTo (old : List Post) (n before : ℕ) (rows : List (Vec (Inlet Sent))) (posts : List Post) : Type 0 where
   pub number : length rows ≡ before
   pub rows_are : (to : ℕ) → IsCount before to → length (row_at rows to) ≡ n
   pub each : (from to : ℕ) → IsCount n from → IsCount before to → row_inlet rows from to ≡ (post_at old from to).inlet
   pub later : (i j : ℕ) → IsCentre i → IsCentre j → before < j → post_at posts i j ≡ post_at old i j
 
 -- one row more was lent
-pub rows_lent : (old : List Post) (n before : ℕ) (rows : List (Vec (Inlet Record))) (posts : List Post) (row : Vec (Inlet Record)) (new : List Post) → n ≤ MOST_CENTRES → before < n → AreRowsTo old n before rows posts → AreInletsTo posts n (before + 1) row.items new → AreRowsTo old n (before + 1) (rows ++ row ∷ []) new
+pub rows_lent : (old : List Post) (n before : ℕ) (rows : List (Vec (Inlet Sent))) (posts : List Post) (row : Vec (Inlet Sent)) (new : List Post) → n ≤ MOST_CENTRES → before < n → AreRowsTo old n before rows posts → AreInletsTo posts n (before + 1) row.items new → AreRowsTo old n (before + 1) (rows ++ row ∷ []) new
 rows_lent old n before rows posts row new few lt lent more = record {
   number = omega (arith, length-append rows (row ∷ []), lent.number);
   rows_are = λ to range. ⊎_elim
-      (λ (low : to < before + 1). ap (λ (items : List (Inlet Record)). length items) (row_before rows row to (range.0, omega (arith, low, lent.number))) ∙ lent.rows_are to (range.0, omega (arith, low)))
-      (λ (high : before + 1 ≤ to). ap (λ (items : List (Inlet Record)). length items) (row_behind rows row to (omega (arith, high, range.1, lent.number))) ∙ more.number)
+      (λ (low : to < before + 1). ap (λ (items : List (Inlet Sent)). length items) (row_before rows row to (range.0, omega (arith, low, lent.number))) ∙ lent.rows_are to (range.0, omega (arith, low)))
+      (λ (high : before + 1 ≤ to). ap (λ (items : List (Inlet Sent)). length items) (row_behind rows row to (omega (arith, high, range.1, lent.number))) ∙ more.number)
       (cases_lt to (before + 1));
   each = λ from to g h. ⊎_elim
       (λ (low : to < before + 1). ap (λ items. inlet_from items from) (row_before rows row to (h.0, omega (arith, low, lent.number))) ∙ lent.each from to g (h.0, omega (arith, low)))
@@ -109,13 +109,13 @@ rows_lent old n before rows posts row new few lt lent more = record {
 }
 
 -- all rows
-pub rows_all : (old : List Post) (n : ℕ) (rows : List (Vec (Inlet Record))) (posts : List Post) → AreRowsTo old n n rows posts → AreInlets old n rows
+pub rows_all : (old : List Post) (n : ℕ) (rows : List (Vec (Inlet Sent))) (posts : List Post) → AreRowsTo old n n rows posts → AreInlets old n rows
 rows_all old n rows posts lent = record { number = lent.number; rows_are = lent.rows_are; each = lent.each }
 
 -- ---- given back
 
 -- one end more was given back
-pub given_more : (old : List Post) (to count : ℕ) (inlets : List (Inlet Record)) (posts : List Post) (inlet : Inlet Record) (new : List Post) → count ≡ length inlets + 1 → IsCentre count → IsCentre to → HaveInletsTo old to inlets posts → HasSet count to (record (post_at posts count to) { inlet = inlet }) posts new → HaveInletsTo old to (inlets ++ inlet ∷ []) new
+pub given_more : (old : List Post) (to count : ℕ) (inlets : List (Inlet Sent)) (posts : List Post) (inlet : Inlet Sent) (new : List Post) → count ≡ length inlets + 1 → IsCentre count → IsCentre to → HaveInletsTo old to inlets posts → HasSet count to (record (post_at posts count to) { inlet = inlet }) posts new → HaveInletsTo old to (inlets ++ inlet ∷ []) new
 given_more old to count inlets posts inlet new is f t given set = record {
   each = λ from range. ⊎_elim
       (λ (low : from < count).
@@ -130,11 +130,11 @@ given_more old to count inlets posts inlet new is f t given set = record {
 }
 
 -- the links from the first n centres to the first so many have the ends of these rows
-abbrev pub HaveRows : ℕ → List (Vec (Inlet Record)) → List Post → Type 0
+abbrev pub HaveRows : ℕ → List (Vec (Inlet Sent)) → List Post → Type 0
 HaveRows n rows posts = (from to : ℕ) → IsCount n from → IsCount (length rows) to → (post_at posts from to).inlet ≡ row_inlet rows from to
 
 -- one row more was given back
-pub rows_given : (n to : ℕ) (rows : List (Vec (Inlet Record))) (posts : List Post) (row : Vec (Inlet Record)) (new : List Post) → to ≡ length rows + 1 → length row.items ≡ n → n ≤ MOST_CENTRES → to ≤ MOST_CENTRES → HaveRows n rows posts → HaveInletsTo posts to row.items new → HaveRows n (rows ++ row ∷ []) new
+pub rows_given : (n to : ℕ) (rows : List (Vec (Inlet Sent))) (posts : List Post) (row : Vec (Inlet Sent)) (new : List Post) → to ≡ length rows + 1 → length row.items ≡ n → n ≤ MOST_CENTRES → to ≤ MOST_CENTRES → HaveRows n rows posts → HaveInletsTo posts to row.items new → HaveRows n (rows ++ row ∷ []) new
 rows_given n to rows posts row new is long few within given more from other g h = ⊎_elim
     (λ (low : other < to).
     ap (λ (post : Post). post.inlet) (more.others from other (g.0, omega (arith, g.1, few)) (h.0, omega (arith, low, within)) (λ same. omega (arith, same, low)))
@@ -146,5 +146,5 @@ rows_given n to rows posts row new is long few within given more from other g h 
     (cases_lt other to)
 
 -- all rows
-pub rows_back : (n : ℕ) (rows : List (Vec (Inlet Record))) (posts : List Post) → length rows ≡ n → HaveRows n rows posts → HaveInlets n rows posts
+pub rows_back : (n : ℕ) (rows : List (Vec (Inlet Sent))) (posts : List Post) → length rows ≡ n → HaveRows n rows posts → HaveInlets n rows posts
 rows_back n rows posts long given = record { each = λ from to g h. given from to g (h.0, omega (arith, h.1, long)) }

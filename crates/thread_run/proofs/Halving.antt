@@ -11,7 +11,7 @@ use Rattle.std.proofs.lemmas.Option.{slice_get-map, slice_get-get_or, get_or_fro
 use Rattle.std.proofs.lemmas.Simd.{map-map}
 use Rattle.list_core.proofs.Gets.{get_within, all_get}
 use Rattle.vv_core.specs.Vectors.{centres}
-use Rattle.tx_core.specs.declared.tx.Record.{Record}
+use Rattle.dc_talk.specs.declared.sent.Sent.{Sent}
 use Rattle.mail_link.specs.Ends.{GiverView}
 use Rattle.client_stub.specs.Playing.{StubView}
 use Rattle.script_text.specs.Steps.{IsCount}
@@ -84,7 +84,7 @@ callers_more R (h ∷ halves) (r ∷ receivers) half receiver all =
     ap (λ rest. half_callers h r ++ rest) (callers_more R halves receivers half receiver all.1)
     ∙ sym (append_assoc (half_callers h r) (all_callers halves receivers) (half_callers half receiver))
 
-module _ (scene : Scene) (givers : List (List (GiverView Record))) where
+module _ (scene : Scene) (givers : List (List (GiverView Sent))) where
   -- before the first half
   pub closed_begin : (old : Parts) → HaveClosed scene givers old [] old
   closed_begin old = record {
@@ -132,13 +132,13 @@ crew_at crews n i are range =
     (there.0, there.1, same_Some there.0.centre i centre)
 
 -- the ends of the senders of all crews are rows of the scene's links
-pub giver_rows : (scene : Scene) (crews : List Crew) (givers : List (Vec (GiverView Record))) → IsScene scene → All (IsCrewOf scene) crews → map (λ (crew : Crew). crew.centre) crews ≡ centres scene.script.now.n → givers ≡ map (λ (crew : Crew). crew.sender.givers) crews → AreGiverRows scene.links.now (rows_of givers)
+pub giver_rows : (scene : Scene) (crews : List Crew) (givers : List (Vec (GiverView Sent))) → IsScene scene → All (IsCrewOf scene) crews → map (λ (crew : Crew). crew.centre) crews ≡ centres scene.script.now.n → givers ≡ map (λ (crew : Crew). crew.sender.givers) crews → AreGiverRows scene.links.now (rows_of givers)
 giver_rows scene crews givers is all numbers are =
     let n : ℕ = scene.script.now.n in
     let many : length crews ≡ n = sym (length-map crews (λ (crew : Crew). crew.centre)) ∙ (ap (λ numbers. length numbers) numbers ∙ length-range_with_len 1 n) in
     record {
       number =
-          length-map givers (λ (givers : Vec (GiverView Record)). givers.items)
+          length-map givers (λ (givers : Vec (GiverView Sent)). givers.items)
           ∙ (ap (λ givers. length givers) are
           ∙ (length-map crews (λ (crew : Crew). crew.sender.givers)
           ∙ (many ∙ sym is.links)));
@@ -148,8 +148,8 @@ giver_rows scene crews givers is all numbers are =
           let row : row_of (rows_of givers) i ≡ crew.0.sender.givers.items =
           ap (λ givers. row_of (rows_of givers) i) are
           ∙ get_or_from_slice_get (rows_of (map (λ (crew : Crew). crew.sender.givers) crews)) (i - 1) crew.0.sender.givers.items []
-          (slice_get-map (λ (givers : Vec (GiverView Record)). givers.items) (map (λ (crew : Crew). crew.sender.givers) crews) (i - 1)
-          ∙ ap (option_map (λ (givers : Vec (GiverView Record)). givers.items)) (slice_get-map (λ (crew : Crew). crew.sender.givers) crews (i - 1) ∙ ap (option_map (λ (crew : Crew). crew.sender.givers)) crew.1)) in
+          (slice_get-map (λ (givers : Vec (GiverView Sent)). givers.items) (map (λ (crew : Crew). crew.sender.givers) crews) (i - 1)
+          ∙ ap (option_map (λ (givers : Vec (GiverView Sent)). givers.items)) (slice_get-map (λ (crew : Crew). crew.sender.givers) crews (i - 1) ∙ ap (option_map (λ (crew : Crew). crew.sender.givers)) crew.1)) in
           subst (AreGivers scene.links.now i) (sym row) (subst (λ centre. AreGivers scene.links.now centre crew.0.sender.givers.items) crew.2 fit.sender.givers);
     }
 
@@ -186,7 +186,7 @@ module _ (R : Half → ReceiverEnd → Type 0) where
   received_with g (crew ∷ crews) (receiver ∷ receivers) all = ap (λ rest. g receiver ∷ rest) (received_with g crews receivers all.1)
 
 -- each receiver made its closing round
-closed_with : (scene : Scene) (givers : List (List (GiverView Record))) (crews : List Crew) (receivers : List ReceiverEnd) → AllZip (λ (half : Half) (receiver : ReceiverEnd). HasClosed scene half.centre givers half.receiver receiver) (map half_of crews) receivers → AllZip (HasCrewClosed scene givers) crews (with_receivers crews receivers)
+closed_with : (scene : Scene) (givers : List (List (GiverView Sent))) (crews : List Crew) (receivers : List ReceiverEnd) → AllZip (λ (half : Half) (receiver : ReceiverEnd). HasClosed scene half.centre givers half.receiver receiver) (map half_of crews) receivers → AllZip (HasCrewClosed scene givers) crews (with_receivers crews receivers)
 closed_with scene givers [] receivers all = tt
 closed_with scene givers (crew ∷ crews) [] all = absurd all
 closed_with scene givers (crew ∷ crews) (receiver ∷ receivers) all = (record { centre = refl; sender = refl; receiver = all.0; reporter = refl; pruner = refl }, closed_with scene givers crews receivers all.1)
@@ -210,7 +210,7 @@ all_parted scene n clients old none one two three parts h no_parts operator play
     let workers : flat_map crew_callers closed ≡ all_callers h.halves.items receivers = callers_with crews receivers ∙ ap (λ halves. all_callers halves receivers) (sym halves.halves) in
     record {
       closed = closed;
-      crews = subst (λ (rows : Vec (Vec (GiverView Record))). AllZip (HasCrewClosed scene (rows_of rows.items)) crews closed) (sym givers) (closed_with scene (rows_of h.givers.items) crews receivers zip);
+      crews = subst (λ (rows : Vec (Vec (GiverView Sent))). AllZip (HasCrewClosed scene (rows_of rows.items)) crews closed) (sym givers) (closed_with scene (rows_of h.givers.items) crews receivers zip);
       parted = record {
         callers = record {
           rows_are = all_have (λ (caller : Caller). caller.row) old.operator old.clients.items (flat_map crew_callers closed) (all_callers h.halves.items receivers) none.rows.items one.rows.items two.rows.items three.rows.items no_parts.rows operator.rows players.rows made.more.rows workers ∙ ap (λ rows. rows.items) (sym rows);

@@ -6,7 +6,7 @@ use Rattle.std.proofs.lemmas.List.{length-map}
 use Rattle.std.proofs.lemmas.List.FromFn.{length-range_with_len, length-map-range_with_len, get_or-range_with_len}
 use Rattle.std.proofs.lemmas.Option.{same_Some, slice_get-get_or, get_or_from_slice_get}
 use Rattle.list_core.proofs.Gets.{get_within}
-use Rattle.tx_core.specs.declared.tx.Record.{Record}
+use Rattle.dc_talk.specs.declared.sent.Sent.{Sent}
 use Rattle.dc_talk.specs.Logs.{Logged}
 use Rattle.dc_host.specs.Centres.{CentreTrail, KeptCentre, all_seen}
 use Rattle.dc_host.specs.Hosts.{AreFor, rows_of, new_rows, IsHostOf, AreClosed}
@@ -127,7 +127,7 @@ module _ (scene : Scene) (old : Table) (begun : IsPhaseBegun scene old) where
 
 module _ (scene : Scene) (old : Table) (run : IsPhaseRun scene old) where
   -- the ends of all senders behind the phase
-  abbrev pub put_then : List (List (GiverView Record))
+  abbrev pub put_then : List (List (GiverView Sent))
   put_then = ends_of run.later.givers.items
 
   -- all actors behind the phase, as callers

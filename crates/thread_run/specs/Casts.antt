@@ -3,7 +3,7 @@ use Rattle.std.specs.Prelude.{◌≡◌, ℕ, map, flat_map, length, List, [], �
 use Rattle.std.specs.List.{AllZip, range_with_len}
 use Rattle.std.specs.Global.{Vec}
 use Rattle.vv_core.specs.Vectors.{centres}
-use Rattle.tx_core.specs.declared.tx.Record.{Record}
+use Rattle.dc_talk.specs.declared.sent.Sent.{Sent}
 use Rattle.dc_talk.specs.Logs.{Logged}
 use Rattle.dc_host.specs.HostDoors.{CentrePass}
 use Rattle.mail_link.specs.Ends.{GiverView, TakerView}
@@ -59,7 +59,7 @@ pub record ArePlayersOf (callers : List Caller) (stubs : List StubView) (players
   pub stubs_are : map (λ (p : Player). p.stub) players ≡ stubs
 
 -- the workers of n centres with these callers, ends and faults
-pub record AreCrewsOf (n : ℕ) (callers : List Caller) (givers : List (Vec (GiverView Record))) (takers : List (Vec (TakerView Record))) (inlets : List (Vec (Inlet Record))) (crews : List Crew) : Type 0 where
+pub record AreCrewsOf (n : ℕ) (callers : List Caller) (givers : List (Vec (GiverView Sent))) (takers : List (Vec (TakerView Sent))) (inlets : List (Vec (Inlet Sent))) (crews : List Crew) : Type 0 where
   pub numbers : map (λ (c : Crew). c.centre) crews ≡ centres n
   pub callers_are : flat_map crew_callers crews ≡ callers
   pub givers_are : map (λ (c : Crew). c.sender.givers) crews ≡ givers
@@ -80,7 +80,7 @@ IsCastOf n clients parts cast = AreActorsOf n clients parts cast.operator cast.c
 -- ---- the closing rounds
 
 -- the receiver of a centre made its closing round; the other workers stay
-pub record HasCrewClosed (scene : Scene) (givers : List (List (GiverView Record))) (old new : Crew) : Type 0 where
+pub record HasCrewClosed (scene : Scene) (givers : List (List (GiverView Sent))) (old new : Crew) : Type 0 where
   pub centre : new.centre ≡ old.centre
   pub sender : new.sender ≡ old.sender
   pub receiver : HasClosed scene old.centre givers old.receiver new.receiver
@@ -90,5 +90,5 @@ pub record HasCrewClosed (scene : Scene) (givers : List (List (GiverView Record)
 -- the actors behind the closing rounds of all receivers, and their parts
 pub record HaveParted (scene : Scene) (n clients : ℕ) (old : Cast) (parts : Parts) : Type 0 where
   pub closed : List Crew
-  pub crews : AllZip (HasCrewClosed scene (map (λ (givers : Vec (GiverView Record)). givers.items) parts.givers.items)) old.crews.items closed
+  pub crews : AllZip (HasCrewClosed scene (map (λ (givers : Vec (GiverView Sent)). givers.items) parts.givers.items)) old.crews.items closed
   pub parted : AreActorsOf n clients parts old.operator old.clients.items closed

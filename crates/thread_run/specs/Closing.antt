@@ -1,7 +1,7 @@
 -- The actors of a phase, taken apart around the closing rounds.
 use Rattle.std.specs.Prelude.{◌≡◌, map, List, [], ◌∷◌, ◌++◌}
 use Rattle.std.specs.List.{AllZip}
-use Rattle.tx_core.specs.declared.tx.Record.{Record}
+use Rattle.dc_talk.specs.declared.sent.Sent.{Sent}
 use Rattle.mail_link.specs.Ends.{GiverView}
 use Rattle.script_text.specs.Steps.{IsCount}
 use Rattle.phase_actors.specs.declared.callers.Caller.{Caller}
@@ -42,7 +42,7 @@ pub record HasMore (old : Parts) (callers : List Caller) (receivers : List Recei
   pub inlets : new.inlets.items ≡ old.inlets.items ++ map (λ (r : ReceiverEnd). r.inlets) receivers
 
 -- the receiver of a half made its closing round, and the parts of the half are there
-pub record HasClosedHalf (scene : Scene) (givers : List (List (GiverView Record))) (old : Parts) (half : Half) (new : Parts) : Type 0 where
+pub record HasClosedHalf (scene : Scene) (givers : List (List (GiverView Sent))) (old : Parts) (half : Half) (new : Parts) : Type 0 where
   pub receiver : ReceiverEnd
   pub closed : HasClosed scene half.centre givers half.receiver receiver
   pub more : HasMore old (half_callers half receiver) (receiver ∷ []) new
@@ -54,7 +54,7 @@ all_callers (half ∷ halves) [] = []
 all_callers (half ∷ halves) (receiver ∷ receivers) = half_callers half receiver ++ all_callers halves receivers
 
 -- so of all of them
-pub record HaveClosed (scene : Scene) (givers : List (List (GiverView Record))) (old : Parts) (halves : List Half) (new : Parts) : Type 0 where
+pub record HaveClosed (scene : Scene) (givers : List (List (GiverView Sent))) (old : Parts) (halves : List Half) (new : Parts) : Type 0 where
   pub receivers : List ReceiverEnd
   pub closed : AllZip (λ (half : Half) (receiver : ReceiverEnd). HasClosed scene half.centre givers half.receiver receiver) halves receivers
   pub more : HasMore old (all_callers halves receivers) receivers new

@@ -6,7 +6,7 @@ ghost use Rattle.thread_run.specs.Casts.{crew_callers, IsCastOf, AreCallersOf, A
 use crate::parts::Parts;
 use client_stub::Stub;
 use dc_centre::Centre;
-use dc_talk::Log;
+use dc_talk::{Log, Sent};
 use dc_worker::Inlet;
 use host_lock::Pass;
 use ids_core::NoMemory;
@@ -15,7 +15,6 @@ use phase_actors::{Caller, Player, ReceiverEnd, SenderEnd};
 use phase_play::{Cast, Crew};
 use std::alloc::Global;
 use std::collections::VecDeque;
-use tx_core::Record;
 
 // The callers, each with its passes and its log.
 fn callers_of(
@@ -68,8 +67,8 @@ fn players_of(
 #[derive(Drop)]
 pub(crate) struct Workers {
     callers: Vec<Caller>,
-    givers: Vec<Vec<Giver<Record>>>,
-    takers: Vec<Vec<Taker<Record>>>,
+    givers: Vec<Vec<Giver<Sent>>>,
+    takers: Vec<Vec<Taker<Sent>>>,
     inlets: Vec<Vec<Inlet>>,
 }
 

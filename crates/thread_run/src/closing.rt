@@ -9,6 +9,7 @@ ghost use Rattle.thread_run.specs.Closing.{IsHalfOf, AreHalves, HasClosedHalf, H
 ghost use Rattle.thread_run.specs.Casts.{HaveParted};
 
 use crate::parts::Parts;
+use dc_talk::Sent;
 use ids_core::NoMemory;
 use io_edge::Gate;
 use mail_link::Giver;
@@ -16,7 +17,6 @@ use phase_actors::{Caller, Player, ReceiverEnd, Scene, close_over};
 use phase_play::{Cast, Crew};
 use std::alloc::Global;
 use std::sync::Wait;
-use tx_core::Record;
 
 // The workers of a centre without the ends at which its sender puts.
 #[derive(Drop)]
@@ -32,7 +32,7 @@ pub(crate) struct Half {
 #[derive(Drop)]
 pub(crate) struct Halves {
     pub(crate) halves: Vec<Half>,
-    pub(crate) givers: Vec<Vec<Giver<Record>>>,
+    pub(crate) givers: Vec<Vec<Giver<Sent>>>,
 }
 
 // Takes the ends of the senders off.
@@ -66,7 +66,7 @@ fn close_half<R: Wait, G: Gate>(
     rt: &R,
     scene: Scene<'_>,
     gate: &G,
-    givers: &[Vec<Giver<Record>>],
+    givers: &[Vec<Giver<Sent>>],
     parts: &mut Parts,
     half: Half,
 ) -> Result<(), NoMemory>
@@ -112,7 +112,7 @@ fn close_halves<R: Wait, G: Gate>(
     rt: &R,
     scene: Scene<'_>,
     gate: &G,
-    givers: &[Vec<Giver<Record>>],
+    givers: &[Vec<Giver<Sent>>],
     parts: &mut Parts,
     halves: Vec<Half>,
 ) -> Result<(), NoMemory>

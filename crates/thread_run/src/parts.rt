@@ -4,14 +4,13 @@ ghost use Rattle.thread_run.specs.Casts.{AreNoParts, HasCaller};
 
 use client_stub::Stub;
 use dc_centre::Centre;
-use dc_talk::Log;
+use dc_talk::{Log, Sent};
 use dc_worker::Inlet;
 use host_lock::Pass;
 use ids_core::NoMemory;
 use mail_link::{Giver, Taker};
 use phase_actors::Caller;
 use std::alloc::Global;
-use tx_core::Record;
 
 /// Of each actor in order its passes and its log, of each client its stub, and of each centre the ends at which its
 /// sender puts, those at which its receiver takes, and the faults of the links to it with what they hold.
@@ -20,8 +19,8 @@ pub struct Parts {
     pub rows: Vec<Vec<Pass<Centre>>>,
     pub logs: Vec<Log>,
     pub stubs: Vec<Stub>,
-    pub givers: Vec<Vec<Giver<Record>>>,
-    pub takers: Vec<Vec<Taker<Record>>>,
+    pub givers: Vec<Vec<Giver<Sent>>>,
+    pub takers: Vec<Vec<Taker<Sent>>>,
     pub inlets: Vec<Vec<Inlet>>,
 }
 

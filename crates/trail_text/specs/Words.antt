@@ -2,7 +2,7 @@
 use Rattle.std.specs.Prelude.{ℕ, length, List, ◌++◌, codes, decimal, if◌then◌else◌}
 use Rattle.ids_core.specs.declared.ids.Dot.{Dot}
 use Rattle.dc_talk.specs.declared.ask.Ask.{Ask}
-use Rattle.dc_talk.specs.declared.ask.Ask.TheVariants.{Hello, Refresh, Fetch, Commit, Send, Deliver, Report, Learn, Prune, Stop, Start}
+use Rattle.dc_talk.specs.declared.ask.Ask.TheVariants.{Hello, Refresh, Fetch, Commit, Send, Deliver, Relay, Report, Learn, Prune, Stop, Start}
 use Rattle.dc_talk.specs.declared.say.Say.{Say}
 use Rattle.dc_talk.specs.declared.say.Say.TheVariants.{Misfit, Down, Lacks, Welcome, Snap, Pruned, Object, Known, OutOfOrder, Full, Stamped, Trimmed, Records, Old, Gap, Waits, Orphan, Applied, Vector, Learned, Base, Stopped, Started}
 use Rattle.script_text.specs.Steps.{object_text}
@@ -19,7 +19,8 @@ ask_text (Refresh client here) = codes "refresh"
 ask_text (Fetch object here) = codes "fetch " ++ object_text object
 ask_text (Commit tx) = codes "commit " ++ dot_text tx.dot
 ask_text (Send after most) = codes "send " ++ decimal after
-ask_text (Deliver item) = codes "deliver " ++ stamp_text item.stamp
+ask_text (Deliver item hops) = codes "deliver " ++ stamp_text item.stamp
+ask_text (Relay origin after most) = codes "relay " ++ decimal origin ++ codes " " ++ decimal after
 ask_text Report = codes "report"
 ask_text (Learn from vector) = codes "learn " ++ decimal from
 ask_text Prune = codes "prune"

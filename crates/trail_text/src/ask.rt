@@ -22,9 +22,17 @@ pub fn write_ask(text: &mut Vec<u8>, ask: &Ask) -> Result<(), NoMemory>
             write_dot(text, tx.dot)
         }
         Ask::Send { after, most: _ } => write_named(text, b"send ", *after),
-        Ask::Deliver { item } => {
+        Ask::Deliver { item, hops: _ } => {
             write_named(text, b"deliver ", u64::from(item.stamp.centre))?;
             write_named(text, b":", item.stamp.seq)
+        }
+        Ask::Relay {
+            origin,
+            after,
+            most: _,
+        } => {
+            write_named(text, b"relay ", u64::from(*origin))?;
+            write_named(text, b" ", *after)
         }
         Ask::Report => write_words(text, b"report"),
         Ask::Learn { from, vector: _ } => write_named(text, b"learn ", u64::from(*from)),

@@ -17,7 +17,7 @@ use Rattle.script_text.specs.declared.rounds.Role.TheVariants.{Sender, Receiver,
 use Rattle.script_text.specs.Steps.{IsCount}
 use Rattle.script_text.specs.Deeds.{Progress, StepDeeds, after_all, armed_after, stepped}
 use Rattle.script_text.specs.Mail.{due_in_round, due_at_close}
-use Rattle.tx_core.specs.declared.tx.Record.{Record}
+use Rattle.dc_talk.specs.declared.sent.Sent.{Sent}
 use Rattle.client_stub.specs.Playing.{StubView}
 use Rattle.ids_core.specs.declared.limits.TheConstants.{MOST_CENTRES}
 use Rattle.dc_mail.specs.Posts.{post_at, new_posts}
@@ -217,7 +217,7 @@ order_makes section number step old new t = record {
 -- ---- a worker's round
 
 -- a receiver delivers what is due from the others
-receives_as : (n j : ℕ) (due given : ℕ → List Record) (deeds : List Deed) → ((from : ℕ) → IsCount n from → due from ≡ given from) → ReceiverDeeds n j due deeds → ReceiverDeeds n j given deeds
+receives_as : (n j : ℕ) (due given : ℕ → List Sent) (deeds : List Deed) → ((from : ℕ) → IsCount n from → due from ≡ given from) → ReceiverDeeds n j due deeds → ReceiverDeeds n j given deeds
 receives_as n j due given deeds same are = go (others n j) deeds (λ from there. same from (others_within n j from there)) are
   where
     go : (froms : List ℕ) (deeds : List Deed) → ((from : ℕ) → In from froms → due from ≡ given from) → InTurn (λ from deeds. Brings j (due from) deeds) froms deeds → InTurn (λ from deeds. Brings j (given from) deeds) froms deeds

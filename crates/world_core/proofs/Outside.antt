@@ -7,7 +7,7 @@ use Rattle.std.proofs.lemmas.Option.{none-some, same_Some}
 use Rattle.list_core.specs.Choices.{when}
 use Rattle.list_core.proofs.Gets.{get_In}
 use Rattle.tx_core.specs.declared.tx.Tx.{Tx}
-use Rattle.tx_core.specs.declared.tx.Record.{Record}
+use Rattle.dc_talk.specs.declared.sent.Sent.{Sent}
 use Rattle.dc_talk.specs.declared.ask.Ask.{Ask}
 use Rattle.dc_talk.specs.declared.ask.Ask.TheVariants as ask
 use Rattle.dc_talk.specs.declared.say.Say.{Say}
@@ -28,7 +28,7 @@ use Rattle.run_book.proofs.Happenings.Sending.{sent_before}
 use Rattle.run_book.proofs.Happenings.More.{operator_carries}
 use Rattle.run_table.specs.Tables.{log_at}
 use Rattle.world_core.specs.Worlds.{WorldView}
-use Rattle.world_core.specs.Events.{commit_of, commit_named, records_of, record_named, if_centre, MayAsk}
+use Rattle.world_core.specs.Events.{commit_of, commit_named, records_of, record_named, delivery_of, if_centre, MayAsk}
 use Rattle.world_core.proofs.Naming.{comes}
 
 -- ---- what is named
@@ -67,7 +67,7 @@ is_commit (Asked i (ask.Commit sent) fate) tx is = record { centre = i; fate = f
 is_commit _ tx is = absurd (none-some tx is)
 
 -- an answer that has these records
-says_records : (say : Say) (list : List Record) → records_of say ≡ Some list → say ≡ Records list
+says_records : (say : Say) (list : List Sent) → records_of say ≡ Some list → say ≡ Records list
 says_records (Records sent) list is = ap Records (same_Some sent list is)
 says_records _ list is = absurd (none-some list is)
 
@@ -107,14 +107,14 @@ late_may w client place centre it named all world say =
 -- ---- deliveries
 
 -- the operator may deliver a record of an answer
-pub carry_may : (w : WorldView) (from entry index to : ℕ) (it : Ask) → Some it ≡ option_map ask.Deliver (if_centre w to (record_named w from entry index)) → MayAsk 1 to it w
+pub carry_may : (w : WorldView) (from entry index to : ℕ) (it : Ask) → Some it ≡ option_map delivery_of (if_centre w to (record_named w from entry index)) → MayAsk 1 to it w
 carry_may w from place index to it named all world say =
-    let of = made_of ask.Deliver (if_centre w to (record_named w from place index)) it named in
+    let of = made_of delivery_of (if_centre w to (record_named w from place index)) it named in
     let at = is_there w to (record_named w from place index) of.from of.there in
-    let list = comes (λ (list : List Record). slice_get list index) (option_and_then (λ (entry : Entry). records_of entry.say) (slice_get (trail_at w.centres from) place)) of.from at.is in
+    let list = comes (λ (list : List Sent). slice_get list index) (option_and_then (λ (entry : Entry). records_of entry.say) (slice_get (trail_at w.centres from) place)) of.from at.is in
     let entry = comes (λ (entry : Entry). records_of entry.say) (slice_get (trail_at w.centres from) place) list.from list.there in
     let there : slice_get (trail_in from all) place ≡ Some entry.from = subst (λ es. slice_get es place ≡ Some entry.from) (world.trails from) entry.there in
     let answer : HasAnswer (trail_in from all) (Records list.from) = record { entry = entry.from; there = get_In (trail_in from all) place entry.from there; says = says_records entry.from.say list.from entry.gives } in
-    let sent = sent_before w.script.n w.script.k (setup_of w.script) all world.together from list.from of.from answer (get_In list.from index of.from list.gives) in
+    let sent = sent_before all from list.from of.from answer (get_In list.from index of.from list.gives) in
     subst (λ it. Happens w.script.n (setup_of w.script) all (record { actor = 1; note = marked 0 0 (Asked to it (Unheard say)) })) of.is
     (record { reach = at.range; by = inr (record { carrier = operator_carries w.script.n w.script.clients; allowed = sent }) })

@@ -3,7 +3,7 @@ use Rattle.std.specs.Prelude.{◌≡◌, ℕ, ◌+◌, ◌-◌, ◌==◌, ◌&&�
 use Rattle.std.specs.Option.{option_map, option_and_then}
 use Rattle.list_core.specs.Choices.{when}
 use Rattle.tx_core.specs.declared.tx.Tx.{Tx}
-use Rattle.tx_core.specs.declared.tx.Record.{Record}
+use Rattle.dc_talk.specs.declared.sent.Sent.{Sent}
 use Rattle.dc_talk.specs.declared.ask.Ask.TheVariants.{Commit, Deliver}
 use Rattle.dc_talk.specs.declared.ask.Ask.{Ask}
 use Rattle.dc_talk.specs.declared.say.Say.{Say}
@@ -53,13 +53,17 @@ abbrev pub commit_named : WorldView → ℕ → ℕ → Option Tx
 commit_named w client place = option_and_then (λ note. commit_of note.deed) (slice_get (log_at w.logs (client + 1)).notes place)
 
 -- the records of an answer to a send
-abbrev pub records_of : Say → Option (List Record)
+abbrev pub records_of : Say → Option (List Sent)
 records_of (Records list) = Some list
 records_of _ = None
 
 -- the record at an index of the answer at a place of a centre's trail
-abbrev pub record_named : WorldView → ℕ → ℕ → ℕ → Option Record
+abbrev pub record_named : WorldView → ℕ → ℕ → ℕ → Option Sent
 record_named w from place index = option_and_then (λ list. slice_get list index) (option_and_then (λ entry. records_of entry.say) (slice_get (trail_at w.centres from) place))
+
+-- the delivery of a record with its hops
+abbrev pub delivery_of : Sent → Ask
+delivery_of sent = Deliver sent.item sent.hops
 
 -- what is there, where the centre is one of the world's
 abbrev pub if_centre : {X : Type 0} → WorldView → ℕ → Option X → Option X
@@ -131,7 +135,7 @@ Plays (Client client section step) old new played = Goes (step_named (client_ste
 Plays (Operator section step) old new played = Goes (step_named operator_steps old.script section step) (TakesOrder (record { actor = 1; section = section; step = step })) old new played
 Plays (Round section round centre role) old new played = Goes (work_named old.script section round centre role) (λ does. TakesRound (turn_of old.script section round does) does) old new played
 Plays (Again client note centre) old new played = Goes (if_centre old centre (commit_named old client note)) (λ tx. AsksOnce (client + 1) centre (Commit tx)) old new played
-Plays (Carry from entry index to) old new played = Goes (if_centre old to (record_named old from entry index)) (λ item. AsksOnce 1 to (Deliver item)) old new played
+Plays (Carry from entry index to) old new played = Goes (if_centre old to (record_named old from entry index)) (λ sent. AsksOnce 1 to (delivery_of sent)) old new played
 
 -- an actor may ask so next, and no session hears the answer
 abbrev pub MayAsk : ℕ → ℕ → Ask → WorldView → Type 0

@@ -3,7 +3,7 @@ use Rattle.std.specs.Prelude.{◌≡◌, ◌≤◌, ℕ, zero, suc, ◌+◌, ◌
 use Rattle.list_core.specs.Members.{In}
 use Rattle.std.specs.Option.{option_map}
 use Rattle.vv_core.specs.Vectors.{centres}
-use Rattle.tx_core.specs.declared.tx.Record.{Record}
+use Rattle.dc_talk.specs.declared.sent.Sent.{Sent}
 use Rattle.dc_talk.specs.declared.log.Deed.{Deed}
 use Rattle.dc_talk.specs.declared.log.Note.{Note}
 use Rattle.dc_talk.specs.Logs.{Logged, marked, entries_made}
@@ -52,7 +52,7 @@ log_after turn deeds log = record log { section = turn.section; step = turn.step
 
 -- each record that lies on a link between two of n centres was sent
 abbrev pub IsMailSent : ℕ → List Post → List Happened → Type 0
-IsMailSent n posts all = (from to : ℕ) → IsCount n from → IsCount n to → (item : Record) → In item (lying (post_at posts from to)) → WasSent (trails_in all) item
+IsMailSent n posts all = (from to : ℕ) → IsCount n from → IsCount n to → (item : Sent) → In item (lying (post_at posts from to)) → WasSent (trails_in all) item
 
 -- the world is one in which this happened: the trails and the logs are what is left of it at each centre and of each
 -- actor, each client is as its log says, and what lies on the links was sent

@@ -2,12 +2,12 @@
 ghost use Rattle.std.specs.Prelude.{◌≡◌, ◌+◌, Some, None, IfSome, IfNone, IfOk, slice_get};
 ghost use Rattle.std.specs.List.{filter_map};
 ghost use Rattle.std.specs.Option.{option_map, option_and_then};
-ghost use Rattle.dc_talk.specs.declared.ask.Ask.TheVariants.{Commit, Deliver};
+ghost use Rattle.dc_talk.specs.declared.ask.Ask.TheVariants.{Commit};
 ghost use Rattle.run_book.specs.Moves.{client_step, operator_step, client_steps, operator_steps};
 ghost use Rattle.dc_host.specs.KeptDoors.{trail_at};
 ghost use Rattle.run_table.specs.Tables.{log_at};
 ghost use Rattle.run_table.specs.Works.{work_of};
-ghost use Rattle.world_core.specs.Events.{numbered, step_named, role_of, work_in, work_named, commit_of, commit_named, records_of, record_named, if_centre};
+ghost use Rattle.world_core.specs.Events.{numbered, step_named, role_of, work_in, work_named, commit_of, commit_named, records_of, record_named, delivery_of, if_centre};
 
 use crate::world::World;
 use dc_talk::{Ask, Deed, Log, Note, Say};
@@ -185,11 +185,14 @@ fn commit_again(note: &Note) -> Result<Option<Ask>, NoMemory>
 
 // The delivery of a record of an answer.
 fn record_again(entry: &Entry<Ask, Say>, index: u32) -> Result<Option<Ask>, NoMemory>
-    ensures { IfOk result (λ found. found ≡ option_map Deliver (option_and_then (λ list. slice_get list index) (records_of entry.now.say))) }
+    ensures { IfOk result (λ found. found ≡ option_map delivery_of (option_and_then (λ list. slice_get list index) (records_of entry.now.say))) }
 {
     match &entry.say {
         Say::Records { list } => match list.as_slice().get(index as usize) {
-            Some(item) => Ok(Some(Ask::Deliver { item: item.copy()? })),
+            Some(sent) => Ok(Some(Ask::Deliver {
+                item: sent.item.copy()?,
+                hops: sent.hops,
+            })),
             None => Ok(None),
         },
         _ => Ok(None),
@@ -231,7 +234,7 @@ impl<'a> World<'a> {
         index: u32,
         to: u8,
     ) -> Result<Option<Ask>, NoMemory>
-        ensures { IfOk result (λ found. found ≡ option_map Deliver (if_centre self.now to (record_named self.now from entry index))) }
+        ensures { IfOk result (λ found. found ≡ option_map delivery_of (if_centre self.now to (record_named self.now from entry index))) }
     {
         if to == 0 || to > self.script.n {
             return Ok(None);

@@ -1,4 +1,5 @@
-//! Tests of the system on one thread: examples through one door that owns the centres, and events at random.
+//! Tests of the system on one thread: examples through one door that owns the centres, made scripts with relays, and events
+//! at random.
 #![tactic(auto)]
 
 #[cfg(test)]
@@ -10,7 +11,11 @@ mod examples;
 #[cfg(test)]
 mod kept_door;
 #[cfg(test)]
+mod made;
+#[cfg(test)]
 mod prunes;
+#[cfg(test)]
+mod relays;
 #[cfg(test)]
 mod rounds;
 #[cfg(test)]

@@ -21,9 +21,14 @@ class Line(NamedTuple):
     function: str
     goals: str
 
+    @property
+    def label(self):
+        return f"{self.crate}/{self.name}"
+
 
 class Record:
-    """The log: the runs, each with the commit that it was made on, the date and the crates, and a line a body."""
+    """The log: the runs, each with the commit that it was made on, the date, and the crates and the single bodies that
+    it tried, and a line a body."""
 
     def __init__(self, runs=(), lines=()):
         self.runs = list(runs)
@@ -40,13 +45,16 @@ class Record:
         return cls(runs, [Line(*it.split(" ")) for it in text if it and not it.startswith("#")])
 
     def add_run(self, commit, date, crates, lines, is_whole):
-        """Puts the lines of a run in the place of those that there were of its crates."""
+        """Puts the lines of a run in the place of those that there were of the crates that it tried wholly, and of the
+        other bodies that it tried."""
         if is_whole:
             self.runs, self.lines = [(commit, date, EVERY)], list(lines)
             return
-        self.runs = [it for it in (without(run, crates) for run in self.runs) if it]
-        self.runs.append((commit, date, " ".join(sorted(crates))))
-        self.lines = [it for it in self.lines if it.crate not in crates] + list(lines)
+        single = {it.label for it in lines if it.crate not in crates}
+        self.runs = [it for it in (without(run, crates, single) for run in self.runs) if it]
+        self.runs.append((commit, date, " ".join(sorted(crates) + sorted(single))))
+        kept = [it for it in self.lines if it.crate not in crates and it.label not in single]
+        self.lines = kept + list(lines)
 
     def write(self, file):
         with open(file, "w", encoding="utf-8") as it:
@@ -58,10 +66,12 @@ class Record:
 class LogOfRun:
     """The log of a run, which is written after each crate: a run that is broken off has told of those before."""
 
-    def __init__(self, file, commit, every=None):
-        """Begins with what the log has. The last argument has the crates of a whole run."""
+    def __init__(self, file, commit, whole, every=None):
+        """Begins with what the log has. The crates of which all bodies are tried come third, and last those of a whole
+        run."""
         self.file = file
         self.commit = commit
+        self.whole = set(whole)
         self.every = every
         self.before = Record.read(file)
 
@@ -73,16 +83,16 @@ class LogOfRun:
         record = Record(self.before.runs, self.before.lines)
         is_whole = self.every is not None and set(self.every) <= set(done)
         lines = [line_of(*it) for tried in done.values() for it in tried]
-        record.add_run(self.commit, datetime.date.today().isoformat(), set(done), lines, is_whole)
+        record.add_run(self.commit, datetime.date.today().isoformat(), self.whole & set(done), lines, is_whole)
         record.write(self.file)
 
 
-def without(run, crates):
-    """A run without crates that were tried again later, or None where none is left."""
+def without(run, crates, single):
+    """A run without crates and single bodies that were tried again later, or None where none is left."""
     commit, date, own = run
     if own == EVERY:
         return run
-    left = [it for it in own.split(" ") if it not in crates]
+    left = [it for it in own.split(" ") if it.partition("/")[0] not in crates and it not in single]
     return (commit, date, " ".join(left)) if left else None
 
 

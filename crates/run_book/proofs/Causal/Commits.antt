@@ -16,7 +16,6 @@ use Rattle.tx_core.specs.declared.tx.Record.{Record}
 use Rattle.dc_talk.specs.declared.log.Note.{Note}
 use Rattle.dc_talk.specs.Trails.{applied}
 use Rattle.dc_talk.specs.Rule.{commits_of}
-use Rattle.dc_talk.proofs.Applied.{came_by}
 use Rattle.dc_talk.proofs.Places.{own_at}
 use Rattle.run_book.specs.Setups.{Setup, centre_settings}
 use Rattle.run_book.specs.declared.book.Book.{Book}
@@ -27,7 +26,7 @@ use Rattle.run_book.proofs.Numbered.{Numbered, numbered_In}
 use Rattle.run_book.proofs.Dots.{apart_numbered}
 use Rattle.run_book.proofs.Held.{dot_at, held_after}
 use Rattle.run_book.proofs.Pairing.{IsCommitted, entry_committed}
-use Rattle.run_book.proofs.Causal.Origins.{each_at, whole_each, agreement}
+use Rattle.run_book.proofs.Causal.Origins.{each_at, whole_each, agreement, came_at}
 
 -- what holds of each client at each moment of its log, holds of the whole log
 pub of_whole_log : (b : Book) (setup : Setup) (P : ℕ → List Note → Type 0) → ((a m : ℕ) → IsClient setup a → P (a - 1) (take m (notes_of b a))) → (client : ℕ) → 1 ≤ client → client ≤ setup.clients → P client (notes_of b (client + 1))
@@ -45,8 +44,8 @@ module _ (b : Book) (setup : Setup) (fit : FitsWith b setup) where
       (λ q here.
       ⊎_elim
       (λ stamped. entry_committed b setup fit e stamped.place stamped.entry r.tx low high stamped.there stamped.asks)
-      (λ delivered. absurd (delivered.other (ap (λ (s : Stamp). s.centre) o.1)))
-      (came_by (centre_settings b setup e) (trail_of b e) (fit.histories e low high) q r here))
+      (λ delivered. absurd (delivered.1.other (ap (λ (s : Stamp). s.centre) o.1)))
+      (came_at b setup fit e q low high r here))
       o.0
 
   -- the commits of a client, in its whole log

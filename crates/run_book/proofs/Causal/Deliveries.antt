@@ -12,6 +12,7 @@ use Rattle.vv_core.specs.Vectors.{at, Covers}
 use Rattle.vv_core.proofs.Entrywise.{at-tabulate_le, length-tabulate}
 use Rattle.tx_core.specs.declared.tx.Record.{Record}
 use Rattle.tx_core.specs.Checks.{is_within}
+use Rattle.dc_talk.specs.declared.ask.TheConstants.{MOST_HOPS}
 use Rattle.dc_talk.specs.declared.ask.Ask.TheVariants.{Deliver, Learn}
 use Rattle.dc_talk.specs.declared.say.Say.TheVariants.{Misfit, Orphan}
 use Rattle.dc_talk.specs.Entries.{Entry}
@@ -27,10 +28,11 @@ use Rattle.dc_talk.proofs.Places.{count_few, own_at}
 use Rattle.run_book.specs.Setups.{Setup, centre_settings}
 use Rattle.run_book.specs.declared.book.Book.{Book}
 use Rattle.run_book.specs.Parts.{trail_of, applied_at}
-use Rattle.run_book.specs.Fit.{FitsWith, IsSent, IsReported}
+use Rattle.run_book.specs.Fit.{FitsWith, IsHandedOn, IsReported}
 use Rattle.run_book.specs.Refusals.{IsEntry}
 use Rattle.run_book.proofs.Held.{dot_at}
-use Rattle.run_book.proofs.Causal.Origins.{each_at, whole_each, sent_there, agreement_whole, applied_there}
+use Rattle.run_book.proofs.Causal.Origins.{each_at, whole_each, handed_there, handed_range, agreement_whole, applied_there}
+use Rattle.run_book.proofs.Causal.Hops.{handed_few}
 
 module _ (b : Book) (setup : Setup) (fit : FitsWith b setup) where
   -- ---- what is delivered
@@ -42,30 +44,35 @@ module _ (b : Book) (setup : Setup) (fit : FitsWith b setup) where
     order : IsInOrder (centre_settings b setup item.stamp.centre) (take place (applied b.n (trail_of b item.stamp.centre))) item
 
   -- each record that was sent stands there
-  placed : (item : Record) → IsSent b item → IsPlaced item
-  placed item sent =
+  placed : (item : Record) (hops : ℕ) → IsHandedOn b item hops → IsPlaced item
+  placed item hops sent =
       let A = applied b.n (trail_of b item.stamp.centre) in
-      let each = whole_each b setup fit item.stamp.centre sent.origin.0 sent.origin.1 in
-      let own = own_at (centre_settings b setup item.stamp.centre) item.stamp.centre A each (item.stamp.seq - 1) item (sent_there b setup fit item sent) in
+      let origin = handed_range b setup fit item hops sent in
+      let each = whole_each b setup fit item.stamp.centre origin.0 origin.1 in
+      let own = own_at (centre_settings b setup item.stamp.centre) item.stamp.centre A each (item.stamp.seq - 1) item (handed_there b setup fit item hops sent) in
       let g = In_get A item own.0 in
       record { place = g.0; there = g.1; order = each.holds g.0 item g.1 }
 
   -- what is delivered fits
-  sent_fits : (item : Record) → IsSent b item → is_fit_item b.n item ≡ true
-  sent_fits item sent =
-      let p = placed item sent in
+  pub sent_fits : (item : Record) (hops : ℕ) → IsHandedOn b item hops → is_fit_item b.n item ≡ true
+  sent_fits item hops sent =
+      let p = placed item hops sent in
+      let home = handed_range b setup fit item hops sent in
       let A = applied b.n (trail_of b item.stamp.centre) in
-      let few = count_few (centre_settings b setup item.stamp.centre) A (whole_each b setup fit item.stamp.centre sent.origin.0 sent.origin.1) in
+      let few = count_few (centre_settings b setup item.stamp.centre) A (whole_each b setup fit item.stamp.centre home.0 home.1) in
       fits_item b.n item
       (record { centre = p.order.centre; seq = (omega (arith, p.order.number), p.order.few); width = p.order.width; fit = p.order.fit })
       (modest_from item.deps (λ e. omega (arith, p.order.waited e, count_take e p.place A, few e)))
 
   -- a centre that has what a record depends on has its client's transactions before it
-  sent_next : (i p : ℕ) → 1 ≤ i → i ≤ b.n → (item : Record) → IsSent b item → Covers (vector b.n (applied_at b i p)) item.deps → item.tx.dot.number ≤ guard item.tx.dot.client (applied_at b i p) + 1
-  sent_next i p low high item sent le = ⊎_elim (λ few. omega (arith, few)) (λ many. first (origin.order.made refl).before many) (cases_lt item.tx.dot.number 2)
+  pub sent_next : (i p : ℕ) → 1 ≤ i → i ≤ b.n → (item : Record) (hops : ℕ) → IsHandedOn b item hops → Covers (vector b.n (applied_at b i p)) item.deps → item.tx.dot.number ≤ guard item.tx.dot.client (applied_at b i p) + 1
+  sent_next i p low high item hops sent le = ⊎_elim (λ few. omega (arith, few)) (λ many. first (origin.order.made refl).before many) (cases_lt item.tx.dot.number 2)
     where
       origin : IsPlaced item
-      origin = placed item sent
+      origin = placed item hops sent
+
+      home : (1 ≤ item.stamp.centre) × (item.stamp.centre ≤ b.n)
+      home = handed_range b setup fit item hops sent
 
       A : List Record
       A = applied_at b i p
@@ -82,8 +89,8 @@ module _ (b : Book) (setup : Setup) (fit : FitsWith b setup) where
           there : (r : Record) → In r B → r.tx.dot ≡ dot_at item.tx.dot.client (item.tx.dot.number - 1) → r.stamp.seq ≤ at item.deps r.stamp.centre → item.tx.dot.number ≤ guard item.tx.dot.client (applied_at b i p) + 1
           there r here dot needed =
               let g = In_get B r here in
-              let number = ((whole_each b setup fit item.stamp.centre sent.origin.0 sent.origin.1).holds g.0 r g.1).number in
-              let own = agreement_whole b setup fit item.stamp.centre sent.origin.0 sent.origin.1 r here in
+              let number = ((whole_each b setup fit item.stamp.centre home.0 home.1).holds g.0 r g.1).number in
+              let own = agreement_whole b setup fit item.stamp.centre home.0 home.1 r here in
               let counted = at-tabulate_le b.n r.stamp.centre (λ e. count e A) in
               let ours = applied_there b setup fit i p r.stamp.centre (r.stamp.seq - 1) r low high (omega (arith, number, needed, le.holds r.stamp.centre, counted)) own in
               omega (arith, many, in_guard A r ours.0, ap (λ (d : Dot). guard d.client A) dot, ap (λ (d : Dot). d.number) dot)
@@ -115,8 +122,8 @@ module _ (b : Book) (setup : Setup) (fit : FitsWith b setup) where
     said = (fit.histories i stands.centre.0 stands.centre.1).holds stands.place entry stands.there
 
     -- what is delivered was sent
-    item_sent : (item : Record) → entry.ask ≡ Deliver item → IsSent b item
-    item_sent item asks = fit.delivered i stands.place entry item stands.there asks
+    item_sent : (item : Record) (hops : ℕ) → entry.ask ≡ Deliver item hops → IsHandedOn b item hops
+    item_sent item hops asks = fit.delivered i stands.place entry item hops stands.there asks
 
     -- no answer is an orphan
     pub no_orphan : (number have : ℕ) → entry.say ≡ Orphan number have → ⊥
@@ -124,14 +131,14 @@ module _ (b : Book) (setup : Setup) (fit : FitsWith b setup) where
         let X = take stands.place (trail_of b i) in
         let is : Orphan number have ≡ answer (centre_settings b setup i) X entry.ask = sym says ∙ said in
         let asks = delivery_by (centre_settings b setup i) X entry.ask number have is in
-        let by = orphan_by (centre_settings b setup i) X asks.item number have (subst (λ ask. Orphan number have ≡ answer (centre_settings b setup i) X ask) asks.is is) in
-        omega (arith, by.far, sent_next i stands.place stands.centre.0 stands.centre.1 asks.item (item_sent asks.item asks.is) by.covered)
+        let by = orphan_by (centre_settings b setup i) X asks.item asks.hops number have (subst (λ ask. Orphan number have ≡ answer (centre_settings b setup i) X ask) asks.is is) in
+        omega (arith, by.far, sent_next i stands.place stands.centre.0 stands.centre.1 asks.item asks.hops (item_sent asks.item asks.hops asks.is) by.covered)
 
     -- no delivery is a misfit
-    pub no_misfit_delivery : (item : Record) → entry.ask ≡ Deliver item → entry.say ≡ Misfit → ⊥
-    no_misfit_delivery item asks says =
+    pub no_misfit_delivery : (item : Record) (hops : ℕ) → entry.ask ≡ Deliver item hops → entry.say ≡ Misfit → ⊥
+    no_misfit_delivery item hops asks says =
         let X = take stands.place (trail_of b i) in
-        no_misfit (centre_settings b setup i) X (Deliver item) (sent_fits item (item_sent item asks)) (ap (answer (centre_settings b setup i) X) (sym asks) ∙ (sym said ∙ says))
+        no_misfit (centre_settings b setup i) X (Deliver item hops) (and_from (is_fit_item b.n item) (nat_le hops MOST_HOPS) (sent_fits item hops (item_sent item hops asks)) (handed_few b setup fit item hops (item_sent item hops asks))) (ap (answer (centre_settings b setup i) X) (sym asks) ∙ (sym said ∙ says))
 
     -- no lesson is a misfit
     pub no_misfit_lesson : (from : ℕ) (news : List ℕ) → entry.ask ≡ Learn from news → entry.say ≡ Misfit → ⊥

@@ -31,7 +31,7 @@ use Rattle.dc_talk.specs.Rule.{after, takes, taken, is_linked, can_follow, sent_
 use Rattle.dc_talk.proofs.ClientAnswers.{snap_by, known_by, welcome_by}
 use Rattle.dc_talk.proofs.Counts.{in_guard}
 use Rattle.dc_talk.proofs.Applied.{new_record}
-use Rattle.dc_talk.proofs.Growth.{later_covers, later_guard}
+use Rattle.dc_talk.proofs.Growth.{later_covers, later_guard, applied_push}
 use Rattle.run_book.specs.Setups.{Setup, centre_settings}
 use Rattle.run_book.specs.declared.book.Book.{Book}
 use Rattle.run_book.specs.Parts.{trail_of, notes_of, exchanged, entries_by, IsClient}
@@ -131,7 +131,7 @@ module _ (b : Book) (setup : Setup) (a : ℕ) where
     stamped_there i place entry tx stamp there asks says =
         let A = applied b.n (take place (trail_of b i)) in
         let r = new_record b.n A tx stamp in
-        let grows : applied b.n (take (suc place) (trail_of b i)) ≡ grown b.n A entry.ask entry.say = ap (applied b.n) (take_one_more (trail_of b i) place entry there) ∙ fold_push (λ A (entry : Entry). grown b.n A entry.ask entry.say) [] (take place (trail_of b i)) entry in
+        let grows : applied b.n (take (suc place) (trail_of b i)) ≡ grown b.n A entry.ask entry.say = ap (applied b.n) (take_one_more (trail_of b i) place entry there) ∙ applied_push b.n (take place (trail_of b i)) entry in
         let one : grown b.n A entry.ask entry.say ≡ A ++ r ∷ [] = ap (λ ask. grown b.n A ask entry.say) asks ∙ ap (grown b.n A (CommitAsk tx)) says in
         subst (λ A. tx.dot.number ≤ guard tx.dot.client A) (sym (grows ∙ one)) (in_guard (A ++ r ∷ []) r (In_right A (r ∷ []) r (inl refl)))
 

@@ -1,27 +1,27 @@
 -- Each record that a centre has applied stands in the own list of its origin.
-use Rattle.std.proofs.Common.{◌≡◌, ℕ, suc, ◌-◌, ◌≤◌, ◌<◌, ⊎_elim, take, Some, refl, sym, ap, ◌∙◌, subst, arith}
-use Rattle.std.specs.Prelude.{slice_get, ◌==◌}
+use Rattle.std.proofs.Common.{◌≡◌, ℕ, zero, suc, ◌+◌, ◌-◌, ◌≤◌, ◌<◌, ◌⊎◌, inl, inr, ⊎_elim, take, Some, sym, ap, ◌∙◌, subst, arith}
+use Rattle.std.specs.Prelude.{slice_get}
 use Rattle.std.proofs.lemmas.Option.{same_Some}
 use Rattle.list_core.specs.Members.{In}
 use Rattle.list_core.specs.Moments.{Each}
-use Rattle.list_core.proofs.Members.{In_from_filter}
+use Rattle.list_core.proofs.Members.{In_map, In_from_map}
 use Rattle.list_core.proofs.Gets.{In_get}
 use Rattle.list_core.proofs.Moments.{by_prefixes}
 use Rattle.vv_core.specs.declared.stamp.Stamp.{Stamp}
 use Rattle.tx_core.specs.declared.tx.Record.{Record}
-use Rattle.dc_talk.specs.declared.say.Say.TheVariants.{Records}
 use Rattle.dc_talk.specs.Records.{count}
-use Rattle.dc_talk.specs.Trails.{applied}
-use Rattle.dc_talk.specs.Answers.{answer}
+use Rattle.dc_talk.specs.declared.sent.Sent.{Sent}
+use Rattle.dc_talk.specs.Sents.{with_hops}
+use Rattle.dc_talk.specs.Trails.{carried, applied}
 use Rattle.dc_talk.specs.Laws.{IsCentreHistory, IsInOrder}
-use Rattle.dc_talk.proofs.PeerAnswers.{sent_by}
-use Rattle.dc_talk.proofs.Applied.{WasStamped, WasDelivered, came_by, in_order_at, in_order}
+use Rattle.dc_talk.proofs.PeerAnswers.{handed_by}
+use Rattle.dc_talk.proofs.Applied.{Came, WasStamped, WasDelivered, came_by, in_order_at, in_order}
 use Rattle.dc_talk.proofs.Places.{have_stamp, own_there}
-use Rattle.dc_talk.proofs.Growth.{applied_later}
+use Rattle.dc_talk.proofs.Growth.{carried_later}
 use Rattle.run_book.specs.Setups.{Setup, centre_settings}
 use Rattle.run_book.specs.declared.book.Book.{Book}
 use Rattle.run_book.specs.Parts.{trail_of, applied_at}
-use Rattle.run_book.specs.Fit.{FitsWith, IsSent}
+use Rattle.run_book.specs.Fit.{FitsWith, IsHandedOn}
 use Rattle.run_book.specs.Graphs.{own_list}
 
 module _ (b : Book) (setup : Setup) (fit : FitsWith b setup) where
@@ -37,34 +37,83 @@ module _ (b : Book) (setup : Setup) (fit : FitsWith b setup) where
   pub whole_each : (i : ℕ) → 1 ≤ i → i ≤ b.n → Each (IsInOrder (centre_settings b setup i)) (applied b.n (trail_of b i))
   whole_each i low high = in_order (centre_settings b setup i) (trail_of b i) (history_of i low high)
 
-  -- a record that its origin has applied stands in its own list
-  own_here : (r : Record) → 1 ≤ r.stamp.centre → r.stamp.centre ≤ b.n → In r (applied b.n (trail_of b r.stamp.centre)) → slice_get (own_list b r.stamp.centre) (r.stamp.seq - 1) ≡ Some r
-  own_here r low high here =
-      let each = whole_each r.stamp.centre low high in
-      let g = In_get (applied b.n (trail_of b r.stamp.centre)) r here in
-      let number = (each.holds g.0 r g.1).number in
-      own_there (centre_settings b setup r.stamp.centre) (applied b.n (trail_of b r.stamp.centre)) each r.stamp.seq r (omega (arith, number)) here refl
+  -- ---- with hops
 
-  -- a record that was sent stands in the own list of its origin
-  pub sent_there : (item : Record) → IsSent b item → slice_get (own_list b item.stamp.centre) (item.stamp.seq - 1) ≡ Some item
-  sent_there item sent =
-      let e = item.stamp.centre in
-      let says : Records sent.list ≡ answer (centre_settings b setup e) (take sent.place (trail_of b e)) sent.entry.ask = sym sent.says ∙ (fit.histories e sent.origin.0 sent.origin.1).holds sent.place sent.entry sent.there in
-      let mine = sent_by (centre_settings b setup e) (take sent.place (trail_of b e)) sent.entry.ask sent.list item says sent.has in
-      let here = (In_from_filter (λ (r : Record). r.stamp.centre == e) (applied_at b e sent.place) item mine).0 in
-      own_here item sent.origin.0 sent.origin.1 (applied_later b.n (trail_of b e) sent.place item here)
+  -- centre i has applied the record with these hops, in the end
+  pub record Has (i : ℕ) (item : Record) (hops : ℕ) : Type 0 where
+    pub range : (1 ≤ i) × (i ≤ b.n)
+    pub there : In (with_hops item hops) (carried b.n (trail_of b i))
+
+  -- how a record came that is there in the end
+  came_whole : (i : ℕ) (x : Sent) → 1 ≤ i → i ≤ b.n → In x (carried b.n (trail_of b i)) → Came i (trail_of b i) x
+  came_whole i x low high = by_prefixes (λ X. In x (carried b.n X) → Came i (trail_of b i) x) (trail_of b i) (λ p. came_by (centre_settings b setup i) (trail_of b i) (fit.histories i low high) p x)
+
+  -- a centre that hands a record on has it, with the hops that it hands it on with
+  pub has_handed : (item : Record) (hops : ℕ) → (on : IsHandedOn b item hops) → Has on.centre item hops
+  has_handed item hops on =
+      let j : ℕ = on.centre in
+      let said = sym on.says ∙ (fit.histories j on.range.0 on.range.1).holds on.place on.entry on.there in
+      record { range = on.range; there = carried_later b.n (trail_of b j) on.place (with_hops item hops) (handed_by (centre_settings b setup j) (take on.place (trail_of b j)) on.entry.ask on.list (with_hops item hops) said on.has) }
+
+  -- a record with hops came from a centre that has it with one less
+  pub came_from : (i : ℕ) (item : Record) (hops : ℕ) → Has i item (suc hops) → (j : ℕ) × Has j item hops
+  came_from i item hops h = ⊎_elim
+      (λ stamped. absurd (let none : suc hops ≡ 0 = stamped.0 in omega (arith, none)))
+      (λ brought. step brought.0 brought.1 brought.2)
+      (came_whole i (with_hops item (suc hops)) h.range.0 h.range.1 h.there)
+    where
+      step : (fewer : ℕ) → suc hops ≡ fewer + 1 → WasDelivered i (trail_of b i) item fewer → (j : ℕ) × Has j item hops
+      step fewer one was =
+          let on : IsHandedOn b item fewer = fit.delivered i was.place was.entry item fewer was.there was.asks in
+          let same : fewer ≡ hops = omega (arith, one) in
+          (on.centre, subst (λ k. Has on.centre item k) same (has_handed item fewer on))
+
+  -- a record without hops was stamped here
+  own_of : (i : ℕ) (item : Record) → Has i item 0 → item.stamp.centre ≡ i
+  own_of i item h = ⊎_elim
+      (λ stamped. stamped.1.own)
+      (λ brought. absurd (let one : 0 ≡ brought.0 + 1 = brought.1 in omega (arith, one)))
+      (came_whole i (with_hops item 0) h.range.0 h.range.1 h.there)
+
+  -- a record that its origin has applied stands in its own list
+  own_here : (e : ℕ) (r : Record) → 1 ≤ e → e ≤ b.n → r.stamp.centre ≡ e → In r (applied b.n (trail_of b e)) → slice_get (own_list b r.stamp.centre) (r.stamp.seq - 1) ≡ Some r
+  own_here e r low high own here =
+      let each = whole_each e low high in
+      let g = In_get (applied b.n (trail_of b e)) r here in
+      let number = (each.holds g.0 r g.1).number in
+      subst (λ o. slice_get (own_list b o) (r.stamp.seq - 1) ≡ Some r) (sym own) (own_there (centre_settings b setup e) (applied b.n (trail_of b e)) each r.stamp.seq r (omega (arith, number)) here (λ i. record { centre = own i; seq = r.stamp.seq }))
+
+  -- each record that a centre has stands in the own list of its origin: by induction on hops
+  there_by : (hops i : ℕ) (item : Record) → Has i item hops → slice_get (own_list b item.stamp.centre) (item.stamp.seq - 1) ≡ Some item
+  there_by zero i item h = own_here i item h.range.0 h.range.1 (own_of i item h) (In_map (λ (x : Sent). x.item) (carried b.n (trail_of b i)) (with_hops item 0) h.there)
+  there_by (suc hops) i item h = let c = came_from i item hops h in there_by hops c.0 item c.1
+
+  -- so does one that is handed on, and its origin is one of the centres
+  pub handed_there : (item : Record) (hops : ℕ) → IsHandedOn b item hops → slice_get (own_list b item.stamp.centre) (item.stamp.seq - 1) ≡ Some item
+  handed_there item hops on = there_by hops on.centre item (has_handed item hops on)
+
+  pub handed_range : (item : Record) (hops : ℕ) → IsHandedOn b item hops → (1 ≤ item.stamp.centre) × (item.stamp.centre ≤ b.n)
+  handed_range item hops on =
+      let A = applied b.n (trail_of b on.centre) in
+      let here : In item A = In_map (λ (x : Sent). x.item) (carried b.n (trail_of b on.centre)) (with_hops item hops) (has_handed item hops on).there in
+      let g = In_get A item here in
+      ((whole_each on.centre on.range.0 on.range.1).holds g.0 item g.1).centre
+
+  -- ---- without hops
 
   -- each record that a centre has applied stands in the own list of its origin
   pub agreement : (i p : ℕ) → 1 ≤ i → i ≤ b.n → (r : Record) → In r (applied_at b i p) → slice_get (own_list b r.stamp.centre) (r.stamp.seq - 1) ≡ Some r
-  agreement i p low high r here = ⊎_elim stamped delivered (came_by (centre_settings b setup i) (trail_of b i) (fit.histories i low high) p r here)
-    where
-      stamped : WasStamped i (trail_of b i) r → slice_get (own_list b r.stamp.centre) (r.stamp.seq - 1) ≡ Some r
-      stamped w =
-          let later = applied_later b.n (trail_of b i) p r here in
-          own_here r (subst (λ e. 1 ≤ e) (sym w.own) low) (subst (λ e. e ≤ b.n) (sym w.own) high) (subst (λ e. In r (applied b.n (trail_of b e))) (sym w.own) later)
+  agreement i p low high r here =
+      let m = In_from_map (λ (x : Sent). x.item) (carried b.n (take p (trail_of b i))) r here in
+      let at : Has i m.0.item m.0.hops = record { range = (low, high); there = carried_later b.n (trail_of b i) p m.0 m.1 } in
+      subst (λ (r : Record). slice_get (own_list b r.stamp.centre) (r.stamp.seq - 1) ≡ Some r) (sym m.2) (there_by m.0.hops i m.0.item at)
 
-      delivered : WasDelivered i (trail_of b i) r → slice_get (own_list b r.stamp.centre) (r.stamp.seq - 1) ≡ Some r
-      delivered w = sent_there r (fit.delivered i w.place w.entry r w.there w.asks)
+  -- it was stamped by the centre or delivered to it
+  pub came_at : (i p : ℕ) → 1 ≤ i → i ≤ b.n → (r : Record) → In r (applied_at b i p) → WasStamped i (trail_of b i) r ⊎ ((hops : ℕ) × WasDelivered i (trail_of b i) r hops)
+  came_at i p low high r here =
+      let m = In_from_map (λ (x : Sent). x.item) (carried b.n (take p (trail_of b i))) r here in
+      subst (λ (r : Record). WasStamped i (trail_of b i) r ⊎ ((hops : ℕ) × WasDelivered i (trail_of b i) r hops)) (sym m.2)
+      (⊎_elim (λ stamped. inl stamped.1) (λ brought. inr (brought.0, brought.2)) (came_by (centre_settings b setup i) (trail_of b i) (fit.histories i low high) p m.0 m.1))
 
   -- the same of what a centre has in the end
   pub agreement_whole : (i : ℕ) → 1 ≤ i → i ≤ b.n → (r : Record) → In r (applied b.n (trail_of b i)) → slice_get (own_list b r.stamp.centre) (r.stamp.seq - 1) ≡ Some r

@@ -1,5 +1,5 @@
 -- What centres of a book that fits have folded and let go, and how they answer to those who ask for it.
-use Rattle.std.proofs.Common.{◌≡◌, ℕ, suc, ◌+◌, ◌≤◌, true, false, cond, ⊎_elim, List, [], ◌∷◌, take, refl, sym, ap, ◌∙◌, subst, arith}
+use Rattle.std.proofs.Common.{◌≡◌, ℕ, suc, ◌+◌, ◌≤◌, true, cond, ⊎_elim, List, [], ◌∷◌, take, refl, sym, ap, ◌∙◌, subst, arith}
 use Rattle.std.specs.Prelude.{◌↔◌, ◌==◌, nat_le, map}
 use Rattle.std.proofs.lemmas.Bool.{cases_Bool, and_parts, and_from, leb-true, leb-false, le-leb, ne_eqb}
 use Rattle.list_core.specs.Members.{In}
@@ -15,27 +15,29 @@ use Rattle.vv_core.specs.Vectors.{at, zeros, centres, kth_largest, Covers, IsFir
 use Rattle.vv_core.proofs.Covering.{Covers_trans}
 use Rattle.vv_core.proofs.Entrywise.{at-zeros, at-meet_of}
 use Rattle.dc_talk.specs.declared.ask.TheConstants.{MOST_SENT}
+use Rattle.tx_core.specs.Checks.{is_within}
 use Rattle.dc_talk.specs.declared.ask.Ask.{Ask}
-use Rattle.dc_talk.specs.declared.ask.Ask.TheVariants.{Fetch, Send, Prune}
+use Rattle.dc_talk.specs.declared.ask.Ask.TheVariants.{Fetch, Send, Relay, Prune}
 use Rattle.dc_talk.specs.declared.say.Say.{Say}
 use Rattle.dc_talk.specs.declared.say.Say.TheVariants.{Misfit, Lacks, Pruned, Object, Records, Trimmed}
+use Rattle.dc_talk.specs.declared.sent.Sent.{Sent}
 use Rattle.dc_talk.specs.declared.settings.Settings.{Settings}
 use Rattle.dc_talk.specs.Entries.{Entry}
 use Rattle.dc_talk.specs.Records.{vector}
-use Rattle.dc_talk.specs.Trails.{applied, told, rows, stable, all_known, Horizon, horizon, horizon_after}
+use Rattle.dc_talk.specs.Trails.{carried, applied, told, rows, stable, all_known, Horizon, horizon, horizon_after}
 use Rattle.dc_talk.specs.Objects.{state_at}
-use Rattle.dc_talk.specs.Answers.{fits, lacking, own_after, answer}
+use Rattle.dc_talk.specs.Answers.{fits, lacking, send_answer, part_of, row, answer}
 use Rattle.dc_talk.proofs.Answers.{lack_holds, lack_first, answer_holds, fitting, no_misfit, misfit}
 use Rattle.dc_talk.proofs.Counts.{vector_front}
 use Rattle.dc_talk.proofs.Growth.{applied_front}
-use Rattle.dc_talk.proofs.Horizons.{horizon_more, by_prunes, all_known_below}
+use Rattle.dc_talk.proofs.Horizons.{horizon_more, by_prunes, let_go_either, all_known_below}
 use Rattle.run_book.specs.Setups.{Setup, centre_settings}
 use Rattle.run_book.specs.declared.book.Book.{Book}
 use Rattle.run_book.specs.Parts.{trail_of, applied_at, horizon_at}
 use Rattle.run_book.specs.Fit.{FitsWith}
 use Rattle.run_book.specs.Sound.{IsSound}
 use Rattle.run_book.specs.Known.{IsKnownToAll, WasKnownBy}
-use Rattle.run_book.specs.Refusals.{IsEntry, IsSendAnswer, IsPruneAnswer}
+use Rattle.run_book.specs.Refusals.{IsEntry, IsRelay, IsSendAnswer, IsPruneAnswer}
 use Rattle.run_book.proofs.Causal.CentreVectors.{zeros_are_sound, stable_sound}
 use Rattle.run_book.proofs.Causal.KnownToK.{stable_known}
 use Rattle.run_book.proofs.Causal.Moments.{row_moment, row_reported}
@@ -97,6 +99,15 @@ send_fits n after most is = and_from (nat_le 1 most) (nat_le most MOST_SENT) (le
 fits_send : (n after most : ℕ) → fits n (Send after most) ≡ true → (1 ≤ most) × (most ≤ MOST_SENT)
 fits_send n after most is = let parts = and_parts (nat_le 1 most) (nat_le most MOST_SENT) is in (leb-true 1 most parts.0, leb-true most MOST_SENT parts.1)
 
+relay_fits : (n origin after most : ℕ) → IsRelay n origin most → fits n (Relay origin after most) ≡ true
+relay_fits n origin after most is = and_from (is_within 1 n origin) (is_within 1 MOST_SENT most) (and_from (nat_le 1 origin) (nat_le origin n) (le-leb 1 origin is.range.0) (le-leb origin n is.range.1)) (send_fits n after most is.few)
+
+fits_relay : (n origin after most : ℕ) → fits n (Relay origin after most) ≡ true → IsRelay n origin most
+fits_relay n origin after most is =
+    let parts = and_parts (is_within 1 n origin) (is_within 1 MOST_SENT most) is in
+    let range = and_parts (nat_le 1 origin) (nat_le origin n) parts.0 in
+    record { range = (leb-true 1 origin range.0, leb-true origin n range.1); few = fits_send n after most parts.1 }
+
 -- equal refusals of a fetch have equal parts
 same_refusal : (c d high more low less : ℕ) → Pruned c high low ≡ Pruned d more less → (c ≡ d) × (high ≡ more) × (low ≡ less)
 same_refusal c d high more low less same = (cc, cc, cc)
@@ -125,32 +136,29 @@ module _ (b : Book) (setup : Setup) (fit : FitsWith b setup) where
   -- ---- what is let go
 
   -- what all rows of a centre cover is known to all
-  all_rows : (i q : ℕ) (stamp : Stamp) → 1 ≤ i → i ≤ b.n → stamp.centre ≡ i → 1 ≤ stamp.seq → ((j : ℕ) → 1 ≤ j → j ≤ b.n → stamp.seq ≤ at (cond (j == i) (vector b.n (applied_at b i q)) (told b.n j (take q (trail_of b i)))) stamp.centre) → IsKnownToAll b stamp
-  all_rows i q stamp low high own one covers = record {
+  all_rows : (i q : ℕ) (stamp : Stamp) → 1 ≤ i → i ≤ b.n → 1 ≤ stamp.seq → ((j : ℕ) → 1 ≤ j → j ≤ b.n → stamp.seq ≤ at (cond (j == i) (vector b.n (applied_at b i q)) (told b.n j (take q (trail_of b i)))) stamp.centre) → IsKnownToAll b i stamp
+  all_rows i q stamp low high one covers = record {
     moments = λ j least most. row_moment b setup fit i q j stamp low high least most (j == i) refl (le-leb stamp.seq (at (cond (j == i) (vector b.n (applied_at b i q)) (told b.n j (take q (trail_of b i)))) stamp.centre) (covers j least most));
-    reports = λ j least most other.
-        let apart : (j == i) ≡ false = ne_eqb j i (λ same. other (same ∙ sym own)) in
-        row_reported b setup fit i q j stamp one (subst (λ t. stamp.seq ≤ at (cond t (vector b.n (applied_at b i q)) (told b.n j (take q (trail_of b i)))) stamp.centre) apart (covers j least most));
+    reports = λ j least most other. row_reported b setup fit i q j stamp one (subst (λ t. stamp.seq ≤ at (cond t (vector b.n (applied_at b i q)) (told b.n j (take q (trail_of b i)))) stamp.centre) (ne_eqb j i other) (covers j least most));
   }
 
-  -- what a centre let go of its own, is known to all
-  pub trimmed_known : (i p : ℕ) (stamp : Stamp) → 1 ≤ i → i ≤ b.n → stamp.centre ≡ i → 1 ≤ stamp.seq → stamp.seq ≤ (horizon_at b setup i p).trimmed → IsKnownToAll b stamp
-  trimmed_known i p stamp low high own one = by_prunes (centre_settings b setup i) (trail_of b i) (λ h. stamp.seq ≤ h.trimmed → IsKnownToAll b stamp)
-      (λ few. absurd (omega (arith, one, few)))
-      (λ q h few. all_rows i q stamp low high own one (λ j least most. row q few j least most))
+  -- what a centre let go, is known to all
+  pub trimmed_known : (i p : ℕ) (stamp : Stamp) → 1 ≤ i → i ≤ b.n → 1 ≤ stamp.seq → stamp.seq ≤ at (horizon_at b setup i p).trimmed stamp.centre → IsKnownToAll b i stamp
+  trimmed_known i p stamp low high one = by_prunes (centre_settings b setup i) (trail_of b i) (λ h. stamp.seq ≤ at h.trimmed stamp.centre → IsKnownToAll b i stamp)
+      (λ few. absurd (let none = at-zeros b.n stamp.centre in omega (arith, one, few, none)))
+      (λ q before few. ⊎_elim
+      (λ old. before old)
+      (λ new. all_rows i q stamp low high one (λ j least most. row q new j least most))
+      (let_go_either (centre_settings b setup i) (take q (trail_of b i)) (horizon_at b setup i q) stamp.centre stamp.seq few))
       p
     where
-      s : Settings
-      s = centre_settings b setup i
-
-      row : (q : ℕ) → stamp.seq ≤ at (all_known (centre_settings b setup i) (take q (trail_of b i))) i → (j : ℕ) → 1 ≤ j → j ≤ b.n → stamp.seq ≤ at (cond (j == i) (vector b.n (applied_at b i q)) (told b.n j (take q (trail_of b i)))) stamp.centre
+      row : (q : ℕ) → stamp.seq ≤ at (all_known (centre_settings b setup i) (take q (trail_of b i))) stamp.centre → (j : ℕ) → 1 ≤ j → j ≤ b.n → stamp.seq ≤ at (cond (j == i) (vector b.n (applied_at b i q)) (told b.n j (take q (trail_of b i)))) stamp.centre
       row q few j least most =
           let X = take q (trail_of b i) in
           let rule : ℕ → List ℕ = λ j. cond (j == i) (vector b.n (applied b.n X)) (told b.n j X) in
           let there : In (rule j) (map rule (centres b.n)) = In_map rule (centres b.n) j (In_range 1 b.n j least (omega (arith, most))) in
-          let below = all_known_below s X stamp.centre (rule j) there in
-          let at_own : at (all_known s X) i ≡ at (all_known s X) stamp.centre = ap (λ e. at (all_known s X) e) (sym own) in
-          omega (arith, few, at_own, below)
+          let below = all_known_below (centre_settings b setup i) X stamp.centre (rule j) there in
+          omega (arith, few, below)
 
   -- ---- the answers
 
@@ -181,40 +189,54 @@ module _ (b : Book) (setup : Setup) (fit : FitsWith b setup) where
         Q : Say → Type 0
         Q say = Pruned c high low ≡ say → IsFirstLack here (horizon_at b setup i stands.place).base (record { centre = c; need = high; have = low })
 
-    -- a send is a misfit exactly where it asks for no record or for too many
-    pub send_misfit : (after most : ℕ) → entry.ask ≡ Send after most → (entry.say ≡ Misfit) ↔ ((1 ≤ most) × (most ≤ MOST_SENT) → ⊥)
-    send_misfit after most asks = (
-      λ says is. no_misfit (centre_settings b setup i) X (Send after most) (send_fits b.n after most is) (sym (said_to (Send after most) asks) ∙ says),
-      λ none. said_to (Send after most) asks ∙ misfit (centre_settings b setup i) X (Send after most) (⊎_elim (λ is. absurd (none (fits_send b.n after most is))) (λ not. not) (cases_Bool (fits b.n (Send after most)))),
+    -- an ask is a misfit exactly where it does not fit
+    misfit_where : (ask : Ask) (Fits : Type 0) → (Fits → fits b.n ask ≡ true) → (fits b.n ask ≡ true → Fits) → entry.ask ≡ ask → (entry.say ≡ Misfit) ↔ (Fits → ⊥)
+    misfit_where ask Fits fitting_if if_fitting asks = (
+      λ says is. no_misfit (centre_settings b setup i) X ask (fitting_if is) (sym (said_to ask asks) ∙ says),
+      λ none. said_to ask asks ∙ misfit (centre_settings b setup i) X ask (⊎_elim (λ is. absurd (none (if_fitting is))) (λ not. not) (cases_Bool (fits b.n ask))),
     )
       where
         X : List Entry
         X = take stands.place (trail_of b i)
 
-    -- one that fits is answered with records, or with the number up to which these were let go
-    pub send : (after most : ℕ) → entry.ask ≡ Send after most → (1 ≤ most) × (most ≤ MOST_SENT) → IsSendAnswer (horizon_at b setup i stands.place).trimmed after entry.say
-    send after most asks is = subst P (sym (said_to (Send after most) asks)) (answer_holds P (centre_settings b setup i) X (Send after most) (send_fits b.n after most is) tt
-        (first_of_holds P (when (nat_le (after + 1) trimmed) (Trimmed trimmed) ∷ []) (Records (own_after i (applied b.n X) after most))
-        (when_holds P (nat_le (after + 1) trimmed) (Trimmed trimmed) (λ t. (let lt = leb-true (after + 1) trimmed t in omega (arith, lt), refl)), λ none. (let le = leb-false (after + 1) trimmed (when_none _ _ none) in omega (arith, le)))))
+    -- so is a send where it asks for no record or for too many, and a relay also where it names no centre as origin
+    pub send_misfit : (after most : ℕ) → entry.ask ≡ Send after most → (entry.say ≡ Misfit) ↔ ((1 ≤ most) × (most ≤ MOST_SENT) → ⊥)
+    send_misfit after most = misfit_where (Send after most) ((1 ≤ most) × (most ≤ MOST_SENT)) (send_fits b.n after most) (fits_send b.n after most)
+
+    pub relay_misfit : (origin after most : ℕ) → entry.ask ≡ Relay origin after most → (entry.say ≡ Misfit) ↔ (IsRelay b.n origin most → ⊥)
+    relay_misfit origin after most = misfit_where (Relay origin after most) (IsRelay b.n origin most) (relay_fits b.n origin after most) (fits_relay b.n origin after most)
+
+    -- an ask for the records of an origin that fits is answered with records, or with the number up to which these were
+    -- let go
+    handed : (ask : Ask) (origin after : ℕ) (asked : List Sent) → row (centre_settings b setup i) (take stands.place (trail_of b i)) ask ≡ send_answer (at (horizon_at b setup i stands.place).trimmed origin) asked after → fits b.n ask ≡ true → entry.ask ≡ ask → IsSendAnswer (at (horizon_at b setup i stands.place).trimmed origin) after entry.say
+    handed ask origin after asked is fit asks = subst P (sym (said_to ask asks)) (answer_holds P (centre_settings b setup i) X ask fit tt (subst P (sym is)
+        (first_of_holds P (when (nat_le (after + 1) trimmed) (Trimmed trimmed) ∷ []) (Records asked)
+        (when_holds P (nat_le (after + 1) trimmed) (Trimmed trimmed) (λ t. (let lt = leb-true (after + 1) trimmed t in omega (arith, lt), refl)), λ none. (let le = leb-false (after + 1) trimmed (when_none _ _ none) in omega (arith, le))))))
       where
         X : List Entry
         X = take stands.place (trail_of b i)
 
         trimmed : ℕ
-        trimmed = (horizon_at b setup i stands.place).trimmed
+        trimmed = at (horizon_at b setup i stands.place).trimmed origin
 
         P : Say → Type 0
-        P say = IsSendAnswer (horizon_at b setup i stands.place).trimmed after say
+        P say = IsSendAnswer (at (horizon_at b setup i stands.place).trimmed origin) after say
+
+    pub send : (after most : ℕ) → entry.ask ≡ Send after most → (1 ≤ most) × (most ≤ MOST_SENT) → IsSendAnswer (at (horizon_at b setup i stands.place).trimmed i) after entry.say
+    send after most asks is = handed (Send after most) i after (part_of i (carried b.n (take stands.place (trail_of b i))) after most) refl (send_fits b.n after most is) asks
+
+    pub relay : (origin after most : ℕ) → entry.ask ≡ Relay origin after most → IsRelay b.n origin most → IsSendAnswer (at (horizon_at b setup i stands.place).trimmed origin) after entry.say
+    relay origin after most asks is = handed (Relay origin after most) origin after (part_of origin (carried b.n (take stands.place (trail_of b i))) after most) refl (relay_fits b.n origin after most is) asks
 
     -- the next horizon of the trail is the one after the entry
     next_horizon : horizon_at b setup i (suc stands.place) ≡ horizon_after (centre_settings b setup i) (take stands.place (trail_of b i)) (horizon_at b setup i stands.place) entry.ask entry.say
     next_horizon = ap (horizon (centre_settings b setup i)) (take_one_more (trail_of b i) stands.place entry stands.there) ∙ horizon_more (centre_settings b setup i) (take stands.place (trail_of b i)) entry
 
     -- a prune is answered with how far the centre then has pruned, or by a stopped centre
-    pub prune : entry.ask ≡ Prune → IsPruneAnswer (horizon_at b setup i stands.place) (horizon_at b setup i (stands.place + 1)) entry.say
+    pub prune : entry.ask ≡ Prune → IsPruneAnswer i (horizon_at b setup i stands.place) (horizon_at b setup i (stands.place + 1)) entry.say
     prune asks =
         let after : horizon_after s X h Prune entry.say ≡ horizon_at b setup i (stands.place + 1) = ap (λ ask. horizon_after s X h ask entry.say) (sym asks) ∙ (sym next_horizon ∙ ap (horizon_at b setup i) (sym one)) in
-        subst (λ new. IsPruneAnswer h new entry.say) after (subst P (sym (said_to Prune asks)) (answer_holds P s X Prune refl refl (refl, refl, refl)))
+        subst (λ new. IsPruneAnswer i h new entry.say) after (subst P (sym (said_to Prune asks)) (answer_holds P s X Prune refl refl (refl, refl, refl)))
       where
         s : Settings
         s = centre_settings b setup i
@@ -229,4 +251,4 @@ module _ (b : Book) (setup : Setup) (fit : FitsWith b setup) where
         one = omega arith
 
         P : Say → Type 0
-        P say = IsPruneAnswer (horizon_at b setup i stands.place) (horizon_after (centre_settings b setup i) (take stands.place (trail_of b i)) (horizon_at b setup i stands.place) Prune say) say
+        P say = IsPruneAnswer i (horizon_at b setup i stands.place) (horizon_after (centre_settings b setup i) (take stands.place (trail_of b i)) (horizon_at b setup i stands.place) Prune say) say

@@ -21,7 +21,7 @@ use Rattle.run_book.proofs.Causal.SessionVectors.{session_sound, snap_sound}
 use Rattle.run_book.proofs.Causal.OneList.{front, inside_covered, covered_inside}
 use Rattle.run_book.proofs.Causal.KnownToK.{basis_known}
 use Rattle.run_book.proofs.Causal.Moments.{moment}
-use Rattle.run_book.proofs.Causal.Pruned.{base_held, base_known, horizon_sound, trimmed_known, refused, send_misfit, send, prune}
+use Rattle.run_book.proofs.Causal.Pruned.{base_held, base_known, horizon_sound, trimmed_known, refused, send_misfit, send, relay_misfit, relay, prune}
 use Rattle.run_book.proofs.Causal.Commits.{one_tx, applied_commit}
 use Rattle.run_book.proofs.Causal.SessionStates.{standing}
 use Rattle.run_book.proofs.Causal.Closure.{made, closed_basis, basis_grows, session_held}
@@ -116,6 +116,8 @@ module _ (b : Book) (setup : Setup) (fit : FitsWith b setup) where
     refused = λ i o here centre high low entry stands. refused b setup fit i entry stands o here centre high low;
     sends = λ i after most entry stands. send b setup fit i entry stands after most;
     misfits = λ i after most entry stands. send_misfit b setup fit i entry stands after most;
+    relays = λ i origin after most entry stands. relay b setup fit i entry stands origin after most;
+    relay_misfits = λ i origin after most entry stands. relay_misfit b setup fit i entry stands origin after most;
     prunes = λ i entry stands. prune b setup fit i entry stands;
   }
 

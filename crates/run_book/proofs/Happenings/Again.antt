@@ -4,7 +4,7 @@ use Rattle.std.specs.Prelude.{slice_get, All}
 use Rattle.std.proofs.lemmas.List.Elements.{All-nil, All-cons}
 use Rattle.list_core.proofs.Gets.{get_In}
 use Rattle.tx_core.specs.declared.tx.Tx.{Tx}
-use Rattle.tx_core.specs.declared.tx.Record.{Record}
+use Rattle.dc_talk.specs.declared.sent.Sent.{Sent}
 use Rattle.dc_talk.specs.declared.ask.Ask.{Ask}
 use Rattle.dc_talk.specs.declared.ask.Ask.TheVariants.{Commit, Deliver}
 use Rattle.dc_talk.specs.declared.say.Say.{Say}
@@ -56,22 +56,22 @@ pub record IsRedelivered (trail : List Entry) (to : ℕ) (note : Note) : Type 0 
   pub place : ℕ
   pub entry : Entry
   pub there : slice_get trail place ≡ Some entry
-  pub list : List Record
+  pub list : List Sent
   pub says : entry.say ≡ Records list
   pub index : ℕ
-  pub item : Record
+  pub item : Sent
   pub among : slice_get list index ≡ Some item
   pub say : Say
-  pub delivers : note.deed ≡ Asked to (Deliver item) (Unheard say)
+  pub delivers : note.deed ≡ Asked to (Deliver item.item item.hops) (Unheard say)
 
 -- the operator or a worker may deliver it
 pub redelivered_does : (n k : ℕ) (setup : Setup) (actor : ℕ) (all : List Happened) (from to : ℕ) (note : Note) → AreTogether n k setup all → IsRedelivered (trail_in from all) to note → CarrierDoes actor (trails_in all) (note ∷ [])
 redelivered_does n k setup actor all from to note t r =
-    let sent : WasSent (trails_in all) r.item = sent_before n k setup all t from r.list r.item (record { entry = r.entry; there = get_In (trail_in from all) r.place r.entry r.there; says = r.says }) (get_In r.list r.index r.item r.among) in
+    let sent : WasSent (trails_in all) r.item = sent_before all from r.list r.item (record { entry = r.entry; there = get_In (trail_in from all) r.place r.entry r.there; says = r.says }) (get_In r.list r.index r.item r.among) in
     (subst (CarrierAllows (trails_in all)) (sym r.delivers) sent, tt)
 
 -- the operator's delivery of it happened together with the rest
 pub redelivered_then : (n k : ℕ) (setup : Setup) (all : List Happened) (from to : ℕ) (note : Note) → (1 ≤ to) × (to ≤ n) → IsRedelivered (trail_in from all) to note → AreTogether n k setup all → AreHistories n k setup (all ++ happening 1 (note ∷ [])) → AreTogether n k setup (all ++ happening 1 (note ∷ []))
 redelivered_then n k setup all from to note reach r t histories =
-    carrier_then n k setup 1 all (note ∷ []) (operator_carries n setup.clients) t histories (asks_one n to (Deliver r.item) (Unheard r.say) note r.delivers reach)
+    carrier_then n k setup 1 all (note ∷ []) (operator_carries n setup.clients) t histories (asks_one n to (Deliver r.item.item r.item.hops) (Unheard r.say) note r.delivers reach)
     (redelivered_does n k setup 1 all from to note t r)

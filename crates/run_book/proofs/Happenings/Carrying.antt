@@ -9,9 +9,10 @@ use Rattle.list_core.specs.Members.{In}
 use Rattle.list_core.proofs.Members.{In_left, In_right, In_more, In_map, In_from_map}
 use Rattle.list_core.proofs.Moments.{each_take}
 use Rattle.list_core.proofs.Passing.{In_filter_map, In_from_filter_map}
-use Rattle.tx_core.specs.declared.tx.Record.{Record}
+use Rattle.dc_talk.specs.declared.sent.Sent.{Sent}
+use Rattle.dc_talk.specs.Sents.{with_hops}
 use Rattle.dc_talk.specs.declared.ask.Ask.{Ask}
-use Rattle.dc_talk.specs.declared.ask.Ask.TheVariants.{Hello, Refresh, Fetch, Commit, Send, Deliver, Report, Learn, Prune, Stop, Start}
+use Rattle.dc_talk.specs.declared.ask.Ask.TheVariants.{Hello, Refresh, Fetch, Commit, Send, Deliver, Relay, Report, Learn, Prune, Stop, Start}
 use Rattle.dc_talk.specs.declared.say.Say.{Say}
 use Rattle.dc_talk.specs.declared.say.Say.TheVariants.{Records, Vector}
 use Rattle.dc_talk.specs.declared.log.Deed.{Deed}
@@ -71,14 +72,15 @@ brought_there before all i ask say done has =
 -- ---- what a carrier may do
 
 -- a record that deeds that happened brought was sent by its origin
-pub sent_there : (n k : ℕ) (setup : Setup) (all : List Happened) → AreTogether n k setup all → (before : List Deed) → AreDone before all → (item : Record) → WasBrought before item → WasSent (trails_in all) item
-sent_there n k setup all t before done item is = sent_before n k setup all t is.centre is.list item (brought_there before all is.centre (Send is.after is.most) (Records is.list) done is.answer) is.among
+pub sent_there : (n k : ℕ) (setup : Setup) (all : List Happened) → AreTogether n k setup all → (before : List Deed) → AreDone before all → (item : Sent) → WasBrought before item → WasSent (trails_in all) item
+sent_there n k setup all t before done item is = sent_before all is.centre is.list item (brought_there before all is.centre is.ask (Records is.list) done is.answer) is.among
 
 -- what carries no more than deeds that happened brought, a carrier may do
 pub carries_allowed : (n k : ℕ) (setup : Setup) (all : List Happened) → AreTogether n k setup all → (before : List Deed) → AreDone before all → (deed : Deed) → Carries before deed → CarrierAllows (trails_in all) deed
-carries_allowed n k setup all t before done (Asked i (Deliver item) fate) is = sent_there n k setup all t before done item is
+carries_allowed n k setup all t before done (Asked i (Deliver item hops) fate) is = sent_there n k setup all t before done (with_hops item hops) is
 carries_allowed n k setup all t before done (Asked i (Learn from news) fate) is = brought_there before all from Report (Vector news) done is
 carries_allowed n k setup all t before done (Asked i (Send after most) fate) is = tt
+carries_allowed n k setup all t before done (Asked i (Relay origin after most) fate) is = tt
 carries_allowed n k setup all t before done (Asked i Report fate) is = tt
 carries_allowed n k setup all t before done (Asked i Prune fate) is = tt
 carries_allowed n k setup all t before done (Asked i Stop fate) is = tt

@@ -20,7 +20,7 @@ use Rattle.run_book.specs.declared.book.Book.{Book}
 use Rattle.run_book.specs.Setups.{Setup, settings_among, centre_settings}
 use Rattle.run_book.specs.Parts.{trail_of, idle_log, notes_of, entries_by, exchanged, IsClient}
 use Rattle.run_book.specs.Graphs.{commits_at}
-use Rattle.run_book.specs.Fit.{InForm, IsSent, IsReported, FitsWith}
+use Rattle.run_book.specs.Fit.{InForm, IsHandedOn, IsReported, FitsWith}
 use Rattle.run_book.specs.Happenings.{Happened, notes_by, trail_in, AreTogether, InRange, IsBookOf}
 use Rattle.run_book.proofs.Happenings.Entries.{paired_in}
 use Rattle.run_book.proofs.Happenings.Places.{answered_later, reached_one, follows, noted, entered, actor_range, calls, refreshes, commits, delivered, learned, answer_there, own}
@@ -106,15 +106,16 @@ module _ (b : Book) (n k : ℕ) (setup : Setup) (all : List Happened) (range : I
   }
 
   -- what is delivered was sent
-  sent : (i p : ℕ) (entry : Entry) (item : Record) → slice_get (trail_of b i) p ≡ Some entry → entry.ask ≡ Deliver item → IsSent b item
-  sent i p entry item there delivers =
+  sent : (i p : ℕ) (entry : Entry) (item : Record) (hops : ℕ) → slice_get (trail_of b i) p ≡ Some entry → entry.ask ≡ Deliver item hops → IsHandedOn b item hops
+  sent i p entry item hops there delivers =
       let e = entered n k setup all t i p entry (in_trail b n k setup.clients all is i p entry there).there in
-      let was = delivered n k setup all t e.place e.it i e.made.exchange.fate item e.there (e.made.exchange.is ∙ ap (λ ask. Asked i ask e.made.exchange.fate) delivers) in
-      let o : ℕ = item.stamp.centre in
+      let was = delivered n k setup all t e.place e.it i e.made.exchange.fate item hops e.there (e.made.exchange.is ∙ ap (λ ask. Asked i ask e.made.exchange.fate) delivers) in
+      let o : ℕ = was.centre in
       let at = answer_there n k setup all t o (Records was.list) (answered_later all e.place o (Records was.list) was.answer) in
       let origin : (1 ≤ o) × (o ≤ b.n) = (at.centre.0, omega (arith, at.centre.1, is.n_is)) in
       record {
-        origin = origin;
+        centre = o;
+        range = origin;
         place = at.place;
         entry = at.entry;
         there = subst (λ es. slice_get es at.place ≡ Some at.entry) (sym (trail_is b n k setup.clients all is o origin.0 origin.1)) at.there;

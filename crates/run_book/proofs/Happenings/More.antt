@@ -30,9 +30,10 @@ has_as trail other say same has = record { entry = has.entry; there = subst (λ 
 
 -- what a carrier may ask by some trails it may ask by equal ones
 asks_as : (trails others : ℕ → List Entry) → ((i : ℕ) → trails i ≡ others i) → (a : Ask) → CarrierAsks trails a → CarrierAsks others a
-asks_as trails others same (ask.Deliver item) h = record { list = h.list; answer = has_as (trails item.stamp.centre) (others item.stamp.centre) (Records h.list) (same item.stamp.centre) h.answer; has = h.has }
+asks_as trails others same (ask.Deliver item hops) h = record { centre = h.centre; list = h.list; answer = has_as (trails h.centre) (others h.centre) (Records h.list) (same h.centre) h.answer; has = h.has }
 asks_as trails others same (ask.Learn from news) h = has_as (trails from) (others from) (Vector news) (same from) h
 asks_as trails others same (ask.Send after most) h = tt
+asks_as trails others same (ask.Relay origin after most) h = tt
 asks_as trails others same ask.Report h = tt
 asks_as trails others same ask.Prune h = tt
 asks_as trails others same ask.Stop h = tt

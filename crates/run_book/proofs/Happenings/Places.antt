@@ -10,6 +10,7 @@ use Rattle.list_core.proofs.Members.{In_take}
 use Rattle.list_core.proofs.Passing.{In_filter_map, In_from_filter_map}
 use Rattle.tx_core.specs.declared.tx.Tx.{Tx}
 use Rattle.tx_core.specs.declared.tx.Record.{Record}
+use Rattle.dc_talk.specs.Sents.{with_hops}
 use Rattle.dc_talk.specs.declared.ask.Ask.{Ask}
 use Rattle.dc_talk.specs.declared.ask.Ask.TheVariants.{Refresh, Commit, Deliver, Learn}
 use Rattle.dc_talk.specs.declared.say.Say.{Say}
@@ -128,13 +129,13 @@ module _ (n k : ℕ) (setup : Setup) (all : List Happened) (t : AreTogether n k 
   own_place p h there = In_get (notes_by h.actor all) h.note (In_filter_map (note_by h.actor) all h h.note (get_In all p h there) (own_note h))
 
   -- what is delivered was sent before
-  pub delivered : (p : ℕ) (h : Happened) (i : ℕ) (fate : Fate) (item : Record) → slice_get all p ≡ Some h → h.note.deed ≡ Asked i (Deliver item) fate → WasSent (trails_in (take p all)) item
-  delivered p h i fate item there is =
+  pub delivered : (p : ℕ) (h : Happened) (i : ℕ) (fate : Fate) (item : Record) (hops : ℕ) → slice_get all p ≡ Some h → h.note.deed ≡ Asked i (Deliver item hops) fate → WasSent (trails_in (take p all)) (with_hops item hops)
+  delivered p h i fate item hops there is =
       ⊎_elim
       (λ (c : ByClient n setup (take p all) h).
       let at = own_place p h there in
-      absurd (delivers_none n (h.actor - 1) setup.capacity (notes_by h.actor all) (follows h.actor (client_actor p h c)) at.0 h.note i fate item at.1 is))
-      (λ (c : ByCarrier n setup (take p all) h). helps p h (Asked i (Deliver item) fate) is c)
+      absurd (delivers_none n (h.actor - 1) setup.capacity (notes_by h.actor all) (follows h.actor (client_actor p h c)) at.0 h.note i fate item hops at.1 is))
+      (λ (c : ByCarrier n setup (take p all) h). helps p h (Asked i (Deliver item hops) fate) is c)
       (t.each.holds p h there).by
 
   -- what is learned was reported before

@@ -2,11 +2,11 @@
 use Rattle.std.proofs.Common.{ℕ, ◌⊎◌, ⊎_elim, inl, inr, Bool, true, false, cond, ◌==◌, List, ◌++◌, map}
 use Rattle.std.specs.Prelude.{◌&&◌, not}
 use Rattle.list_core.specs.Members.{In}
-use Rattle.tx_core.specs.declared.tx.Record.{Record}
+use Rattle.dc_talk.specs.declared.sent.Sent.{Sent}
 use Rattle.dc_talk.specs.declared.log.Deed.{Deed}
 use Rattle.dc_talk.specs.Logs.{marked}
 use Rattle.script_text.specs.declared.script.Script.{Script}
-use Rattle.script_text.specs.declared.steps.OperatorStep.TheVariants.{Down, Up, ShipOne, Ship, Tell, Prune, Link, Settle}
+use Rattle.script_text.specs.declared.steps.OperatorStep.TheVariants.{Down, Up, ShipOne, Ship, Relay, Tell, Prune, Link, Settle}
 use Rattle.script_text.specs.declared.rounds.Role.TheVariants.{Sender, Receiver, Reporter, Pruner}
 use Rattle.script_text.specs.Steps.{IsCount}
 use Rattle.script_text.specs.Mail.{Post, post_put, post_after_round, post_closed, post_set, lying}
@@ -22,14 +22,14 @@ use Rattle.run_book.proofs.Happenings.Carrying.{last_done, sent_there}
 
 -- each record that lies on a link between two of n centres was sent
 abbrev pub AreSent : ℕ → (ℕ → ℕ → Post) → List Happened → Type 0
-AreSent n posts all = (from to : ℕ) → IsCount n from → IsCount n to → (item : Record) → In item (lying (posts from to)) → WasSent (trails_in all) item
+AreSent n posts all = (from to : ℕ) → IsCount n from → IsCount n to → (item : Sent) → In item (lying (posts from to)) → WasSent (trails_in all) item
 
 -- on the links of a script nothing lies at first
 pub first_sent : (script : Script) (all : List Happened) → AreSent script.n (first_stage script).posts all
 first_sent script all from to range other item there = absurd there
 
 -- what lies on a link after a move lay there before, or was put there by the deeds
-pub lies_after : (does : Does) (deeds : List Deed) (posts : ℕ → ℕ → Post) (from to : ℕ) (item : Record) → In item (lying (posts_after does deeds posts from to)) → In item (lying (posts from to)) ⊎ In item (mailed to deeds)
+pub lies_after : (does : Does) (deeds : List Deed) (posts : ℕ → ℕ → Post) (from to : ℕ) (item : Sent) → In item (lying (posts_after does deeds posts from to)) → In item (lying (posts from to)) ⊎ In item (mailed to deeds)
 lies_after (operator_does (Link i j fault)) deeds posts from to item there = go (from == i && to == j) there
   where
     go : (test : Bool) → In item (lying (cond test (post_set fault (posts from to)) (posts from to))) → In item (lying (posts from to)) ⊎ In item (mailed to deeds)
@@ -55,6 +55,7 @@ lies_after (operator_does (Down centre)) deeds posts from to item there = inl th
 lies_after (operator_does (Up centre)) deeds posts from to item there = inl there
 lies_after (operator_does (ShipOne i j seq)) deeds posts from to item there = inl there
 lies_after (operator_does (Ship i j)) deeds posts from to item there = inl there
+lies_after (operator_does (Relay i origin j)) deeds posts from to item there = inl there
 lies_after (operator_does (Tell i j)) deeds posts from to item there = inl there
 lies_after (operator_does (Prune centre)) deeds posts from to item there = inl there
 lies_after (operator_does Settle) deeds posts from to item there = inl there
@@ -62,7 +63,7 @@ lies_after (worker_does i Reporter) deeds posts from to item there = inl there
 lies_after (worker_does i Pruner) deeds posts from to item there = inl there
 
 -- so after a move each record that lies on a link was sent, where the deeds brought what they put there
-pub posts_sent : (n k : ℕ) (setup : Setup) (does : Does) (all : List Happened) (actor section step : ℕ) (deeds : List Deed) (posts : ℕ → ℕ → Post) → AreTogether n k setup (all ++ happening actor (map (marked section step) deeds)) → ((to : ℕ) (item : Record) → In item (mailed to deeds) → WasBrought deeds item) → AreSent n posts all → AreSent n (posts_after does deeds posts) (all ++ happening actor (map (marked section step) deeds))
+pub posts_sent : (n k : ℕ) (setup : Setup) (does : Does) (all : List Happened) (actor section step : ℕ) (deeds : List Deed) (posts : ℕ → ℕ → Post) → AreTogether n k setup (all ++ happening actor (map (marked section step) deeds)) → ((to : ℕ) (item : Sent) → In item (mailed to deeds) → WasBrought deeds item) → AreSent n posts all → AreSent n (posts_after does deeds posts) (all ++ happening actor (map (marked section step) deeds))
 posts_sent n k setup does all actor section step deeds posts t brought sent from to range other item there =
     let later : List Happened = happening actor (map (marked section step) deeds) in
     ⊎_elim

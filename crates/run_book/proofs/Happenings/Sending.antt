@@ -1,26 +1,20 @@
 -- What was sent and what was answered stays so as the trails grow, and a record of an answer was sent by its origin.
-use Rattle.std.proofs.Common.{◌≡◌, ℕ, List, [], ◌∷◌, ◌++◌, take, sym, subst, append_assoc, ◌∙◌}
-use Rattle.std.specs.Prelude.{◌==◌, fold}
-use Rattle.std.proofs.lemmas.Bool.{eqb-true}
+use Rattle.std.proofs.Common.{ℕ, List, [], ◌∷◌, ◌++◌, sym, subst, append_assoc}
+use Rattle.std.specs.Prelude.{fold}
 use Rattle.std.proofs.lemmas.List.{append-nil}
 use Rattle.std.proofs.lemmas.List.Elements.{filter_map-append}
 use Rattle.list_core.specs.Members.{In}
-use Rattle.list_core.proofs.Members.{In_left, In_from_filter}
-use Rattle.tx_core.specs.declared.tx.Record.{Record}
+use Rattle.list_core.proofs.Members.{In_left}
+use Rattle.dc_talk.specs.declared.sent.Sent.{Sent}
 use Rattle.dc_talk.specs.declared.say.Say.{Say}
 use Rattle.dc_talk.specs.declared.say.Say.TheVariants.{Records}
 use Rattle.dc_talk.specs.declared.log.Deed.{Deed}
 use Rattle.dc_talk.specs.declared.log.Note.{Note}
 use Rattle.dc_talk.specs.Entries.{Entry}
 use Rattle.dc_talk.specs.Logs.{entries_made}
-use Rattle.dc_talk.specs.Trails.{applied}
-use Rattle.dc_talk.specs.Answers.{answer}
 use Rattle.dc_talk.specs.Clients.{Client}
 use Rattle.dc_talk.specs.Rule.{Allows, after}
-use Rattle.dc_talk.proofs.PeerAnswers.{sent_by}
-use Rattle.run_book.specs.Setups.{Setup, settings_among}
-use Rattle.run_book.specs.Happenings.{Happened, entry_in, trail_in, trails_in, HasAnswer, WasSent, CarrierAllows, ClientDoes, trails_after, CarrierDoes, AreTogether}
-use Rattle.run_book.proofs.Happenings.Places.{answer_there}
+use Rattle.run_book.specs.Happenings.{Happened, entry_in, trail_in, trails_in, HasAnswer, WasSent, CarrierAllows, ClientDoes, trails_after, CarrierDoes}
 
 -- ---- trails that grow
 
@@ -29,23 +23,18 @@ pub answer_still : (trail more : List Entry) (say : Say) → HasAnswer trail say
 answer_still trail more say has = record { entry = has.entry; there = In_left trail more has.entry has.there; says = has.says }
 
 -- what was sent was sent after one more deed
-pub sent_still : (actor : ℕ) (deed : Deed) (item : Record) (trails : ℕ → List Entry) → WasSent trails item → WasSent (trails_after actor deed trails) item
-sent_still actor deed item trails was = record { list = was.list; answer = answer_still (trails item.stamp.centre) (entries_made actor item.stamp.centre (deed ∷ [])) (Records was.list) was.answer; has = was.has }
+pub sent_still : (actor : ℕ) (deed : Deed) (item : Sent) (trails : ℕ → List Entry) → WasSent trails item → WasSent (trails_after actor deed trails) item
+sent_still actor deed item trails was = record { centre = was.centre; list = was.list; answer = answer_still (trails was.centre) (entries_made actor was.centre (deed ∷ [])) (Records was.list) was.answer; has = was.has }
 
 -- and after whatever happened later
-pub sent_later : (all more : List Happened) (item : Record) → WasSent (trails_in all) item → WasSent (trails_in (all ++ more)) item
+pub sent_later : (all more : List Happened) (item : Sent) → WasSent (trails_in all) item → WasSent (trails_in (all ++ more)) item
 sent_later all more item was =
-    let i : ℕ = item.stamp.centre in
-    record { list = was.list; answer = subst (λ es. HasAnswer es (Records was.list)) (sym (filter_map-append (entry_in i) all more)) (answer_still (trail_in i all) (trail_in i more) (Records was.list) was.answer); has = was.has }
+    let i : ℕ = was.centre in
+    record { centre = i; list = was.list; answer = subst (λ es. HasAnswer es (Records was.list)) (sym (filter_map-append (entry_in i) all more)) (answer_still (trail_in i all) (trail_in i more) (Records was.list) was.answer); has = was.has }
 
--- a record of an answer with records was sent by its origin, which is the centre that answered
-pub sent_before : (n k : ℕ) (setup : Setup) (all : List Happened) → AreTogether n k setup all → (from : ℕ) (list : List Record) (item : Record) → HasAnswer (trail_in from all) (Records list) → In item list → WasSent (trails_in all) item
-sent_before n k setup all t from list item has there =
-    let at = answer_there n k setup all t from (Records list) has in
-    let front : List Entry = take at.place (trail_in from all) in
-    let said : Records list ≡ answer (settings_among n k setup from) front at.entry.ask = sym at.says ∙ (t.histories from at.centre.0 at.centre.1).holds at.place at.entry at.there in
-    let own : item.stamp.centre ≡ from = eqb-true item.stamp.centre from (In_from_filter (λ (r : Record). r.stamp.centre == from) (applied n front) item (sent_by (settings_among n k setup from) front at.entry.ask list item said there)).1 in
-    record { list = list; answer = subst (λ i. HasAnswer (trail_in i all) (Records list)) (sym own) has; has = there }
+-- a record of an answer with records was sent by the centre that answered
+pub sent_before : (all : List Happened) (from : ℕ) (list : List Sent) (item : Sent) → HasAnswer (trail_in from all) (Records list) → In item list → WasSent (trails_in all) item
+sent_before all from list item has there = record { centre = from; list = list; answer = has; has = there }
 
 -- ---- one note more of an actor
 

@@ -2,7 +2,7 @@
 use Rattle.std.proofs.Common.{◌≡◌, ℕ, ◌+◌, ◌≤◌, List, [], ◌∷◌, ◌++◌, map, sym, ap, ◌∙◌, subst}
 use Rattle.std.specs.Prelude.{All}
 use Rattle.list_core.specs.Members.{In}
-use Rattle.tx_core.specs.declared.tx.Record.{Record}
+use Rattle.dc_talk.specs.declared.sent.Sent.{Sent}
 use Rattle.dc_talk.specs.declared.log.Deed.{Deed}
 use Rattle.dc_talk.specs.declared.log.Note.{Note}
 use Rattle.dc_talk.specs.Logs.{marked, entries_made}
@@ -105,7 +105,7 @@ module _ (script : Script) (moves : List Move) (all : List Happened) (stage : St
       (receiver_does (worker_of script.clients i Receiver) script.n i section step (λ from. due_at_close (stage.posts from i)) deeds (trails_in all) (λ from other item due. sent from i other range item (close_lies (stage.posts from i) item due)) are) histories
 
   -- after a move that was made each record that lies on a link was sent, where the deeds brought what they put there
-  pub made_sent : (does : Does) (deeds : List Deed) → IsMade does deeds → ((to : ℕ) (item : Record) → In item (mailed to deeds) → WasBrought deeds item) → AreSent script.n stage.posts all → AreSent script.n (stage_after does (map (marked section step) deeds) stage).posts (happened_then does deeds)
+  pub made_sent : (does : Does) (deeds : List Deed) → IsMade does deeds → ((to : ℕ) (item : Sent) → In item (mailed to deeds) → WasBrought deeds item) → AreSent script.n stage.posts all → AreSent script.n (stage_after does (map (marked section step) deeds) stage).posts (happened_then does deeds)
   made_sent does deeds made brought sent =
       let noted : map (λ (note : Note). note.deed) (map (marked section step) deeds) ≡ deeds = deeds_marked section step deeds in
       subst (λ ds. AreSent script.n (posts_after does ds stage.posts) (happened_then does deeds)) (sym noted)

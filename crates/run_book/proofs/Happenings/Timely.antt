@@ -1,18 +1,19 @@
 -- No session hears of more of its own commits than it had made: each record that a centre has by a
 -- moment carries a transaction that its client had committed by then.
 use Rattle.std.proofs.Common.{◌≡◌, ℕ, ◌+◌, ◌-◌, ◌≤◌, ◌⊎◌, inl, inr, ⊎_elim, List, [], ◌∷◌, ◌++◌, length, take, Option, Some, None, refl, sym, ap, ◌∙◌, subst, arith}
-use Rattle.std.specs.Prelude.{slice_get, ◌==◌, filter}
+use Rattle.std.specs.Prelude.{slice_get, filter}
 use Rattle.std.specs.List.{cons_option}
 use Rattle.std.proofs.lemmas.List.{append-nil}
-use Rattle.std.proofs.lemmas.List.Sums.{fold_push}
 use Rattle.list_core.specs.Members.{In}
 use Rattle.list_core.proofs.Gets.{In_get}
-use Rattle.list_core.proofs.Members.{In_more, In_left, In_from_filter, In_from_map}
+use Rattle.list_core.proofs.Members.{In_map, In_more, In_left, In_from_filter, In_from_map}
 use Rattle.list_core.proofs.Moments.{by_moments}
 use Rattle.ids_core.specs.declared.ids.Dot.{Dot}
 use Rattle.vv_core.specs.Vectors.{within}
 use Rattle.tx_core.specs.declared.tx.Tx.{Tx}
 use Rattle.tx_core.specs.declared.tx.Record.{Record}
+use Rattle.dc_talk.specs.declared.sent.Sent.{Sent}
+use Rattle.dc_talk.specs.Sents.{with_hops}
 use Rattle.dc_talk.specs.declared.ask.Ask.{Ask}
 use Rattle.dc_talk.specs.declared.ask.Ask.TheVariants.{Refresh, Commit, Deliver}
 use Rattle.dc_talk.specs.declared.say.Say.{Say}
@@ -23,13 +24,13 @@ use Rattle.dc_talk.specs.declared.log.Deed.TheVariants.{Asked}
 use Rattle.dc_talk.specs.declared.log.Note.{Note}
 use Rattle.dc_talk.specs.Entries.{Entry}
 use Rattle.dc_talk.specs.Records.{inside, mine, deps_of}
-use Rattle.dc_talk.specs.Trails.{grown, applied}
+use Rattle.dc_talk.specs.Trails.{carried, grown, applied}
 use Rattle.dc_talk.specs.Answers.{answer}
 use Rattle.dc_talk.specs.Clients.{Client, new_client}
 use Rattle.dc_talk.specs.Rule.{Allows, Gives, client_after, commits_of}
 use Rattle.dc_talk.proofs.ClientAnswers.{snap_by}
-use Rattle.dc_talk.proofs.PeerAnswers.{sent_by}
-use Rattle.dc_talk.proofs.Growth.{applied_later}
+use Rattle.dc_talk.proofs.PeerAnswers.{handed_by}
+use Rattle.dc_talk.proofs.Growth.{applied_push, carried_later}
 use Rattle.dc_talk.proofs.Dots.{mine_bound}
 use Rattle.run_book.specs.declared.book.Book.{Book}
 use Rattle.run_book.specs.Setups.{Setup, settings_among}
@@ -49,12 +50,12 @@ use Rattle.run_book.proofs.Happenings.Fits.{notes_are}
 -- ---- records
 
 -- how a record joins those of a centre: it was there, it was stamped for a commit, or it was delivered
-grown_in : (n : ℕ) (A : List Record) (ask : Ask) (say : Say) (r : Record) → In r (grown n A ask say) → In r A ⊎ ((ask ≡ Commit r.tx) ⊎ (ask ≡ Deliver r))
+grown_in : (n : ℕ) (A : List Record) (ask : Ask) (say : Say) (r : Record) → In r (grown n A ask say) → In r A ⊎ ((ask ≡ Commit r.tx) ⊎ ((hops : ℕ) × (ask ≡ Deliver r hops)))
 grown_in n A (Commit tx) (Stamped stamp) r i = ⊎_elim
     (λ old. inl old)
     (λ new. inr (inl (ap (λ (r : Record). Commit r.tx) (sym new))))
     (In_more A (record { stamp = stamp; deps = deps_of n A tx; tx = tx }) r i)
-grown_in n A (Deliver item) (Applied fresh) r i = ⊎_elim (λ old. inl old) (λ new. inr (inr (ap Deliver (sym new)))) (In_more A item r i)
+grown_in n A (Deliver item hops) (Applied fresh) r i = ⊎_elim (λ old. inl old) (λ new. inr (inr (hops, ap (λ (r : Record). Deliver r hops) (sym new)))) (In_more A item r i)
 grown_in n A _ _ r i = inl i
 
 -- equal refreshes are of one client
@@ -105,15 +106,14 @@ module _ (n k : ℕ) (setup : Setup) (all : List Happened) (t : AreTogether n k 
         there = subst (λ a. In tx (commits_of n tx.dot.client setup.capacity (notes_by a (take p all)))) (sym who) at_client;
       }
 
-  -- what was sent by then its origin has then
-  sent_there : (p : ℕ) (item : Record) (list : List Record) → HasAnswer (trail_in item.stamp.centre (take p all)) (Records list) → In item list → In item (applied n (trail_in item.stamp.centre (take p all)))
-  sent_there p item list was has =
-      let o : ℕ = item.stamp.centre in
+  -- what a centre sent by then it has then
+  sent_there : (p o : ℕ) (x : Sent) (list : List Sent) → HasAnswer (trail_in o (take p all)) (Records list) → In x list → In x.item (applied n (trail_in o (take p all)))
+  sent_there p o x list was has =
       let trail : List Entry = trail_in o (take p all) in
       let e = In_get trail was.entry was.there in
       let said : Records list ≡ answer (settings_among n k setup o) (take e.0 trail) was.entry.ask = sym was.says ∙ answered_by_then n k setup all t p o e.0 was.entry e.1 in
-      let early : In item (applied n (take e.0 trail)) = (In_from_filter (λ (r : Record). r.stamp.centre == o) (applied n (take e.0 trail)) item (sent_by (settings_among n k setup o) (take e.0 trail) was.entry.ask list item said has)).0 in
-      applied_later n trail e.0 item early
+      let early = handed_by (settings_among n k setup o) (take e.0 trail) was.entry.ask list x said has in
+      In_map (λ (x : Sent). x.item) (carried n trail) x (carried_later n trail e.0 x early)
 
   -- all that the centres have had been committed
   abbrev AreMade : List Happened → Type 0
@@ -130,14 +130,14 @@ module _ (n k : ℕ) (setup : Setup) (all : List Happened) (t : AreTogether n k 
           (λ new. ⊎_elim
           (λ commit. asked_made p h i r.tx m.exchange.fate there (m.exchange.is ∙ ap (λ ask. Asked i ask m.exchange.fate) commit))
           (λ delivers.
-          let was = delivered n k setup all t p h i m.exchange.fate r there (m.exchange.is ∙ ap (λ ask. Asked i ask m.exchange.fate) delivers) in
-          made r.stamp.centre r (sent_there p r was.list was.answer was.has))
+          let was = delivered n k setup all t p h i m.exchange.fate r delivers.0 there (m.exchange.is ∙ ap (λ ask. Asked i ask m.exchange.fate) delivers.1) in
+          made was.centre r (sent_there p was.centre (with_hops r delivers.0) was.list was.answer was.has))
           new)
           (grown_in n (applied n (trail_in i (take p all))) entry.ask entry.say r here)
 
       go : (o : Option Entry) → entry_in i h ≡ o → In r (applied n (trail_in i (take p all) ++ cons_option o [])) → WasMade (take p all) r.tx
       go None is here = made i r (subst (λ es. In r (applied n es)) (append-nil (trail_in i (take p all))) here)
-      go (Some entry) is here = joins entry is (subst (λ A. In r A) (fold_push (λ A (e : Entry). grown n A e.ask e.say) [] (trail_in i (take p all)) entry) here)
+      go (Some entry) is here = joins entry is (subst (λ A. In r A) (applied_push n (trail_in i (take p all)) entry) here)
 
   -- so at each moment
   all_made : (p : ℕ) → AreMade (take p all)

@@ -1,4 +1,4 @@
--- By the time that a centre names the number up to which it let own records go, every centre has them.
+-- By the time that a centre names the number up to which it let an origin's records go, every centre has them.
 use Rattle.std.proofs.Common.{◌≡◌, ℕ, suc, ◌+◌, ◌≤◌, ◌<◌, Bool, true, false, cond, ⊎_elim, List, [], ◌∷◌, ◌++◌, length, take, Some, refl, sym, ap, ◌∙◌, subst, arith}
 use Rattle.std.specs.Prelude.{◌==◌, nat_le, slice_get}
 use Rattle.std.specs.List.{cons_option}
@@ -6,7 +6,6 @@ use Rattle.std.specs.Option.{option_map}
 use Rattle.std.proofs.lemmas.Bool.{eqb-true, leb-true}
 use Rattle.std.proofs.lemmas.Option.{slice_get_within}
 use Rattle.std.proofs.lemmas.List.{length-take}
-use Rattle.std.proofs.lemmas.List.Sums.{fold_push}
 use Rattle.list_core.specs.Choices.{when}
 use Rattle.list_core.proofs.Choices.{first_of_holds, when_holds}
 use Rattle.list_core.proofs.Gets.{In_get, get_in_take}
@@ -17,23 +16,24 @@ use Rattle.vv_core.specs.declared.stamp.Stamp.{Stamp}
 use Rattle.vv_core.specs.Vectors.{at, zeros, centres}
 use Rattle.vv_core.proofs.Entrywise.{at-zeros}
 use Rattle.dc_talk.specs.declared.ask.Ask.{Ask}
-use Rattle.dc_talk.specs.declared.ask.Ask.TheVariants.{Send, Report}
+use Rattle.dc_talk.specs.declared.ask.Ask.TheVariants.{Send, Relay, Report}
 use Rattle.dc_talk.specs.declared.say.Say.{Say}
 use Rattle.dc_talk.specs.declared.say.Say.TheVariants.{Trimmed, Records, Vector}
+use Rattle.dc_talk.specs.declared.sent.Sent.{Sent}
 use Rattle.dc_talk.specs.declared.settings.Settings.{Settings}
 use Rattle.dc_talk.specs.declared.log.Fate.{Fate}
 use Rattle.dc_talk.specs.declared.log.Deed.TheVariants.{Asked}
 use Rattle.dc_talk.specs.Entries.{Entry}
 use Rattle.dc_talk.specs.Logs.{answered, exchanged_in, entry_for}
 use Rattle.dc_talk.specs.Records.{vector}
-use Rattle.dc_talk.specs.Trails.{grown, applied, told, taught_in, all_known, horizon}
-use Rattle.dc_talk.specs.Answers.{own_after, answer}
+use Rattle.dc_talk.specs.Trails.{carried, applied, told, taught_in, all_known, horizon}
+use Rattle.dc_talk.specs.Answers.{send_answer, part_of, row, answer}
 use Rattle.dc_talk.proofs.Answers.{fitting}
-use Rattle.dc_talk.proofs.Growth.{later_covers}
-use Rattle.dc_talk.proofs.Horizons.{by_prunes, all_known_below}
+use Rattle.dc_talk.proofs.Growth.{later_covers, applied_push}
+use Rattle.dc_talk.proofs.Horizons.{by_prunes, let_go_either, all_known_below}
 use Rattle.dc_talk.proofs.PeerAnswers.{vector_by}
 use Rattle.run_book.specs.Setups.{Setup, settings_among}
-use Rattle.run_book.specs.Happenings.{Happened, entry_in, trail_in, HasAnswer, AreTogether, TrimsInTime}
+use Rattle.run_book.specs.Happenings.{Happened, entry_in, trail_in, HasAnswer, AreTogether, AsksFor, TrimsInTime}
 use Rattle.run_book.proofs.Pairing.{exchanges}
 use Rattle.run_book.proofs.Filtered.{from_place, filtered_front, filtered_few}
 use Rattle.run_book.proofs.Happenings.Entries.{made_by, trail_more}
@@ -47,16 +47,25 @@ same_trimmed : (m o : ℕ) → Trimmed m ≡ Trimmed o → m ≡ o
 same_trimmed m o same = cc
 
 -- the number of such an answer is the one of the centre's last prune, and more was asked for
-trimmed_by : (s : Settings) (trail : List Entry) (after most number : ℕ) → Trimmed number ≡ answer s trail (Send after most) → (number ≡ (horizon s trail).trimmed) × (after < number)
-trimmed_by s trail after most number is = first_of_holds (λ say. Trimmed number ≡ say → (number ≡ trimmed) × (after < number)) (when (nat_le (after + 1) trimmed) (Trimmed trimmed) ∷ []) (Records (own_after s.me (applied s.n trail) after most))
+trimmed_of : (s : Settings) (trail : List Entry) (ask : Ask) (origin after number : ℕ) (asked : List Sent) → row s trail ask ≡ send_answer (at (horizon s trail).trimmed origin) asked after → Trimmed number ≡ answer s trail ask → (number ≡ at (horizon s trail).trimmed origin) × (after < number)
+trimmed_of s trail ask origin after number asked row_is is = first_of_holds (λ say. Trimmed number ≡ say → (number ≡ trimmed) × (after < number)) (when (nat_le (after + 1) trimmed) (Trimmed trimmed) ∷ []) (Records asked)
     (when_holds _ _ _ (λ t e. (let same = same_trimmed number trimmed e in (same, omega (arith, same, leb-true (after + 1) trimmed t)))), λ none e. absurd (cc))
-    (fitting s trail (Send after most) (Trimmed number) is (λ e. cc) (λ e. cc)).1
+    ((fitting s trail ask (Trimmed number) is (λ e. cc) (λ e. cc)).1 ∙ row_is)
   where
     trimmed : ℕ
-    trimmed = (horizon s trail).trimmed
+    trimmed = at (horizon s trail).trimmed origin
+
+trimmed_by : (s : Settings) (trail : List Entry) (ask : Ask) (origin after number : ℕ) → AsksFor s.me origin after ask → Trimmed number ≡ answer s trail ask → (number ≡ at (horizon s trail).trimmed origin) × (after < number)
+trimmed_by s trail (Send low most) origin after number asks is =
+    let by = trimmed_of s trail (Send low most) s.me low number (part_of s.me (carried s.n trail) low most) refl is in
+    (by.0 ∙ ap (at (horizon s trail).trimmed) (sym asks.0), let less = by.1 in let same = asks.1 in omega (arith, less, same))
+trimmed_by s trail (Relay from low most) origin after number asks is =
+    let by = trimmed_of s trail (Relay from low most) from low number (part_of from (carried s.n trail) low most) refl is in
+    (by.0 ∙ ap (at (horizon s trail).trimmed) (sym asks.0), let less = by.1 in let same = asks.1 in omega (arith, less, same))
+trimmed_by s trail _ origin after number asks is = absurd asks
 
 -- after the first p that happened among n centres, centre j has what the stamp is of
-abbrev HasBy : ℕ → List Happened → ℕ → ℕ → Stamp → Type 0
+abbrev pub HasBy : ℕ → List Happened → ℕ → ℕ → Stamp → Type 0
 HasBy n all p j stamp = stamp.seq ≤ at (vector n (applied n (trail_in j (take p all)))) stamp.centre
 
 module _ (n k : ℕ) (setup : Setup) (all : List Happened) (t : AreTogether n k setup all) where
@@ -91,9 +100,14 @@ module _ (n k : ℕ) (setup : Setup) (all : List Happened) (t : AreTogether n k 
       later_by r.place p j stamp (omega (arith, within, long)) (subst (λ j. HasBy n all r.place j stamp) l.from (reported_by r.place l.news.0 l.news.1 stamp told_it l.covers))
 
   -- what a centre let go by then, every centre has
-  let_go_by : (p i number j : ℕ) → 1 ≤ j → j ≤ n → number ≤ (horizon (settings_among n k setup i) (trail_in i (take p all))).trimmed → HasBy n all p j (record { centre = i; seq = number })
-  let_go_by p i number j least most = by_prefixes (λ X. number ≤ (horizon s X).trimmed → HasBy n all p j stamp) T
-      (by_prunes s T (λ h. number ≤ h.trimmed → HasBy n all p j stamp) (λ few. omega (arith, few)) (λ q h few. row q few (j == i) refl))
+  pub let_go_by : (p i origin number j : ℕ) → 1 ≤ j → j ≤ n → number ≤ at (horizon (settings_among n k setup i) (trail_in i (take p all))).trimmed origin → HasBy n all p j (record { centre = origin; seq = number })
+  let_go_by p i origin number j least most = by_prefixes (λ X. number ≤ at (horizon s X).trimmed origin → HasBy n all p j stamp) T
+      (by_prunes s T (λ h. number ≤ at h.trimmed origin → HasBy n all p j stamp)
+      (λ few. omega (arith, few, at-zeros n origin))
+      (λ q before few. ⊎_elim
+      (λ old. before old)
+      (λ new. row q new (j == i) refl)
+      (let_go_either s (take q T) (horizon s (take q T)) origin number few)))
     where
       s : Settings
       s = settings_among n k setup i
@@ -102,28 +116,28 @@ module _ (n k : ℕ) (setup : Setup) (all : List Happened) (t : AreTogether n k 
       T = trail_in i (take p all)
 
       stamp : Stamp
-      stamp = record { centre = i; seq = number }
+      stamp = record { centre = origin; seq = number }
 
       rule : ℕ → ℕ → List ℕ
       rule q j = cond (j == i) (vector n (applied n (take q (trail_in i (take p all))))) (told n j (take q (trail_in i (take p all))))
 
-      row : (q : ℕ) → number ≤ at (all_known (settings_among n k setup i) (take q (trail_in i (take p all)))) i → (test : Bool) → (j == i) ≡ test → HasBy n all p j (record { centre = i; seq = number })
-      row q few test is = go test is (omega (arith, few, all_known_below s (take q T) i (rule q j) (In_map (rule q) (centres n) j (In_range 1 n j least (omega (arith, most))))))
+      row : (q : ℕ) → number ≤ at (all_known (settings_among n k setup i) (take q (trail_in i (take p all)))) origin → (test : Bool) → (j == i) ≡ test → HasBy n all p j (record { centre = origin; seq = number })
+      row q few test is = go test is (omega (arith, few, all_known_below s (take q T) origin (rule q j) (In_map (rule q) (centres n) j (In_range 1 n j least (omega (arith, most))))))
         where
-          go : (test : Bool) → (j == i) ≡ test → number ≤ at (cond (j == i) (vector n (applied n (take q (trail_in i (take p all))))) (told n j (take q (trail_in i (take p all))))) i → HasBy n all p j (record { centre = i; seq = number })
+          go : (test : Bool) → (j == i) ≡ test → number ≤ at (cond (j == i) (vector n (applied n (take q (trail_in i (take p all))))) (told n j (take q (trail_in i (take p all))))) origin → HasBy n all p j (record { centre = origin; seq = number })
           go true same le =
-              let own : number ≤ at (vector n (applied n (take q T))) i = subst (λ t. number ≤ at (cond t (vector n (applied n (take q T))) (told n j (take q T))) i) same le in
-              subst (λ j. HasBy n all p j stamp) (sym (eqb-true j i same)) (omega (arith, own, (front_covers n T q).holds i))
+              let own : number ≤ at (vector n (applied n (take q T))) origin = subst (λ t. number ≤ at (cond t (vector n (applied n (take q T))) (told n j (take q T))) origin) same le in
+              subst (λ j. HasBy n all p j stamp) (sym (eqb-true j i same)) (omega (arith, own, (front_covers n T q).holds origin))
           go false other le =
-              let row : number ≤ at (told n j (take q T)) i = subst (λ t. number ≤ at (cond t (vector n (applied n (take q T))) (told n j (take q T))) i) other le in
-              ⊎_elim (λ none. omega (arith, none, at-zeros n i)) (λ taught. taught_by p i q j stamp taught) (told_fold j stamp (take q T) (zeros n) row)
+              let row : number ≤ at (told n j (take q T)) origin = subst (λ t. number ≤ at (cond t (vector n (applied n (take q T))) (told n j (take q T))) origin) other le in
+              ⊎_elim (λ none. omega (arith, none, at-zeros n origin)) (λ taught. taught_by p i q j stamp taught) (told_fold j stamp (take q T) (zeros n) row)
 
   -- so it is at the time of an answer that names the number
-  had_by : (p i after most number j : ℕ) (h : Happened) (fate : Fate) → slice_get all p ≡ Some h → h.note.deed ≡ Asked i (Send after most) fate → answered fate ≡ Some (Trimmed number) → 1 ≤ j → j ≤ n → HasBy n all p j (record { centre = i; seq = number }) × (after < number)
-  had_by p i after most number j h fate there is tells least most_j =
-      let said = answered_deed n k setup all t p h i (Send after most) fate (Trimmed number) there is tells in
-      let by = trimmed_by (settings_among n k setup i) (trail_in i (take p all)) after most number said in
-      (let_go_by p i number j least most_j (omega (arith, by.0)), by.1)
+  had_by : (p i origin after number j : ℕ) (h : Happened) (ask : Ask) (fate : Fate) → slice_get all p ≡ Some h → h.note.deed ≡ Asked i ask fate → AsksFor i origin after ask → answered fate ≡ Some (Trimmed number) → 1 ≤ j → j ≤ n → HasBy n all p j (record { centre = origin; seq = number }) × (after < number)
+  had_by p i origin after number j h ask fate there is asks tells least most =
+      let said = answered_deed n k setup all t p h i ask fate (Trimmed number) there is tells in
+      let by = trimmed_by (settings_among n k setup i) (trail_in i (take p all)) ask origin after number asks said in
+      (let_go_by p i origin number j least most (omega (arith, by.0)), by.1)
 
   -- a report leaves its centre's records
   reported_still : (p j : ℕ) (h : Happened) (v : List ℕ) (fate : Fate) → slice_get all p ≡ Some h → h.note.deed ≡ Asked j Report fate → answered fate ≡ Some (Vector v) → v ≡ vector n (applied n (trail_in j (take (suc p) all)))
@@ -134,16 +148,16 @@ module _ (n k : ℕ) (setup : Setup) (all : List Happened) (t : AreTogether n k 
       let made : entry_in j h ≡ Some (entry_for h.actor pair) = ap (λ deed. option_map (entry_for h.actor) (exchanged_in j deed)) is ∙ ap (option_map (entry_for h.actor)) (exchanges j Report (Vector v) fate tells) in
       let more : trail_in j (take (suc p) all) ≡ X ++ entry_for h.actor pair ∷ [] = ap (trail_in j) (take_one_more all p h there) ∙ (trail_more j (take p all) h ∙ ap (λ o. X ++ cons_option o []) made) in
       vector_by (settings_among n k setup j) X Report v said
-      ∙ ap (vector n) (sym (ap (applied n) more ∙ fold_push (λ A (entry : Entry). grown n A entry.ask entry.say) [] X (entry_for h.actor pair)))
+      ∙ ap (vector n) (sym (ap (applied n) more ∙ applied_push n X (entry_for h.actor pair)))
 
   pub trims_in_time : TrimsInTime n all
   trims_in_time = record {
-    had = λ p i after most number j h fate there is tells least most_j. (had_by p i after most number j h fate there is tells least most_j).0;
-    ships = λ p from to most number first second v fate other there next reports tells sends trims.
+    had = λ p i origin after number j h ask fate there is asks tells least most. (had_by p i origin after number j h ask fate there is asks tells least most).0;
+    asked = λ p from origin to number first second v ask fate other there next reports tells asks_it asks trims.
         let centre = reached_one n k setup all t p first to Report fate there reports in
-        let by = had_by (p + 1) from (at v from) most number to second other next sends trims centre.0 centre.1 in
+        let by = had_by (p + 1) from origin (at v origin) number to second ask other next asks_it asks trims centre.0 centre.1 in
         let one : p + 1 ≡ suc p = omega arith in
-        let now : number ≤ at (vector n (applied n (trail_in to (take (suc p) all)))) from = subst (λ q. number ≤ at (vector n (applied n (trail_in to (take q all)))) from) one by.0 in
-        let same : at v from ≡ at (vector n (applied n (trail_in to (take (suc p) all)))) from = ap (λ v. at v from) (reported_still p to first v fate there reports tells) in
+        let now : number ≤ at (vector n (applied n (trail_in to (take (suc p) all)))) origin = subst (λ q. number ≤ at (vector n (applied n (trail_in to (take q all)))) origin) one by.0 in
+        let same : at v origin ≡ at (vector n (applied n (trail_in to (take (suc p) all)))) origin = ap (λ v. at v origin) (reported_still p to first v fate there reports tells) in
         omega (arith, by.1, now, same);
   }

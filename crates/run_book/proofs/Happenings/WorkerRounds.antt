@@ -5,7 +5,7 @@ use Rattle.list_core.specs.Members.{In}
 use Rattle.list_core.proofs.Members.{In_either, In_from_filter}
 use Rattle.list_core.proofs.Ranges.{In_from_range}
 use Rattle.vv_core.specs.Vectors.{at, centres}
-use Rattle.tx_core.specs.declared.tx.Record.{Record}
+use Rattle.dc_talk.specs.declared.sent.Sent.{Sent}
 use Rattle.dc_talk.specs.declared.ask.Ask.TheVariants.{Send, Deliver, Report, Prune}
 use Rattle.dc_talk.specs.declared.say.Say.{Say}
 use Rattle.dc_talk.specs.declared.say.Say.TheVariants.{Vector}
@@ -45,17 +45,17 @@ module _ (n : ℕ) where
       (low.0, omega (arith, low.1))
 
   -- what follows the report to a sender
-  after_needed_go : (r : Route) (say : Say) (deeds : List Deed) (items : List Record) → IsWithin n r → AfterNeeded r say deeds items → AllGo n deeds
+  after_needed_go : (r : Route) (say : Say) (deeds : List Deed) (items : List Sent) → IsWithin n r → AfterNeeded r say deeds items → AllGo n deeds
   after_needed_go r (Vector vector) deeds items within is = ask_go n r.from (Send (at vector r.from) MOST_MAILED) is.0 [] deeds within.0 is.1 (All-nil (GoesToOneOf n))
   after_needed_go r say deeds items within is = none_go n deeds is.0
 
   -- the asks of a sender over one route
-  mails_go : (r : Route) (deeds : List Deed) (items : List Record) → IsWithin n r → Mails r deeds items → AllGo n deeds
+  mails_go : (r : Route) (deeds : List Deed) (items : List Sent) → IsWithin n r → Mails r deeds items → AllGo n deeds
   mails_go r deeds items within is = ask_go n r.to Report is.say is.later deeds within.1 is.whole (after_needed_go r is.say is.later items within is.follows)
 
   -- those of a sender
   pub sender_go : (i : ℕ) (deeds : List Deed) → IsCount n i → SenderDeeds n i deeds → AllGo n deeds
-  sender_go i deeds range is = turns_go n (λ to deeds. (items : List Record) × Mails (route i to) deeds items) (others n i) deeds (λ to ds there does. mails_go (route i to) ds does.0 (range, others_within i to there) does.1) is
+  sender_go i deeds range is = turns_go n (λ to deeds. (items : List Sent) × Mails (route i to) deeds items) (others n i) deeds (λ to ds there does. mails_go (route i to) ds does.0 (range, others_within i to there) does.1) is
 
   -- those of a reporter
   pub reporter_go : (i : ℕ) (deeds : List Deed) → IsCount n i → ReporterDeeds n i deeds → AllGo n deeds
@@ -70,13 +70,13 @@ module _ (n : ℕ) where
       go false none = none_go n deeds none
 
   -- deliveries
-  brings_go : (j : ℕ) (items : List Record) (deeds : List Deed) → IsCount n j → Brings j items deeds → AllGo n deeds
+  brings_go : (j : ℕ) (items : List Sent) (deeds : List Deed) → IsCount n j → Brings j items deeds → AllGo n deeds
   brings_go j [] deeds range is = none_go n deeds is
   brings_go j (item ∷ items) [] range is = absurd is
-  brings_go j (item ∷ items) (deed ∷ deeds) range is = ask_go n j (Deliver item) is.0.0 deeds (deed ∷ deeds) range (λ i. is.0.1 i ∷ deeds) (brings_go j items deeds range is.1)
+  brings_go j (item ∷ items) (deed ∷ deeds) range is = ask_go n j (Deliver item.item item.hops) is.0.0 deeds (deed ∷ deeds) range (λ i. is.0.1 i ∷ deeds) (brings_go j items deeds range is.1)
 
   -- those of a receiver
-  pub receiver_go : (j : ℕ) (due : ℕ → List Record) (deeds : List Deed) → IsCount n j → ReceiverDeeds n j due deeds → AllGo n deeds
+  pub receiver_go : (j : ℕ) (due : ℕ → List Sent) (deeds : List Deed) → IsCount n j → ReceiverDeeds n j due deeds → AllGo n deeds
   receiver_go j due deeds range is = turns_go n (λ from deeds. Brings j (due from) deeds) (others n j) deeds (λ from ds there does. brings_go j (due from) ds range does) is
 
 -- ---- what a receiver delivers
@@ -84,9 +84,9 @@ module _ (n : ℕ) where
 -- the deed is the delivery of a record that was sent
 pub record DeliversSent (trails : ℕ → List Entry) (deed : Deed) : Type 0 where
   pub centre : ℕ
-  pub item : Record
+  pub item : Sent
   pub fate : Fate
-  pub is : deed ≡ Asked centre (Deliver item) fate
+  pub is : deed ≡ Asked centre (Deliver item.item item.hops) fate
   pub sent : WasSent trails item
 
 -- deliveries of records that were sent, a carrier may do one after another
@@ -101,7 +101,7 @@ deliveries_do actor section step (deed ∷ deeds) trails each =
     )
 
 -- what is brought of records that were sent
-pub brings_sent : (trails : ℕ → List Entry) (j : ℕ) (items : List Record) (deeds : List Deed) → ((item : Record) → In item items → WasSent trails item) → Brings j items deeds → (deed : Deed) → In deed deeds → DeliversSent trails deed
+pub brings_sent : (trails : ℕ → List Entry) (j : ℕ) (items : List Sent) (deeds : List Deed) → ((item : Sent) → In item items → WasSent trails item) → Brings j items deeds → (deed : Deed) → In deed deeds → DeliversSent trails deed
 brings_sent trails j [] deeds sent is deed there = absurd (subst (In deed) is there)
 brings_sent trails j (item ∷ items) [] sent is deed there = absurd there
 brings_sent trails j (item ∷ items) (first ∷ deeds) sent is deed (inl same) = record { centre = j; item = item; fate = Unheard is.0.0; is = same ∙ is.0.1; sent = sent item (inl refl) }
@@ -116,7 +116,7 @@ turns_sent trails Does (x ∷ xs) deeds each (next_turn first later whole does r
     (In_either first later deed (subst (In deed) whole there))
 
 -- a receiver to which records are due that were sent, does as a carrier may
-pub receiver_does : (actor n j section step : ℕ) (due : ℕ → List Record) (deeds : List Deed) (trails : ℕ → List Entry) → ((from : ℕ) → IsCount n from → (item : Record) → In item (due from) → WasSent trails item) → ReceiverDeeds n j due deeds → CarrierDoes actor trails (map (marked section step) deeds)
+pub receiver_does : (actor n j section step : ℕ) (due : ℕ → List Sent) (deeds : List Deed) (trails : ℕ → List Entry) → ((from : ℕ) → IsCount n from → (item : Sent) → In item (due from) → WasSent trails item) → ReceiverDeeds n j due deeds → CarrierDoes actor trails (map (marked section step) deeds)
 receiver_does actor n j section step due deeds trails sent is =
     deliveries_do actor section step deeds trails
     (turns_sent trails (λ from deeds. Brings j (due from) deeds) (others n j) deeds (λ from ds there does. brings_sent trails j (due from) ds (sent from (others_within n j from there)) does) is)

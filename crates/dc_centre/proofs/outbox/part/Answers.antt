@@ -1,5 +1,5 @@
 use Rattle.std.proofs.Common.{ap, sym, ◌∙◌, arith, get_or}
-use Rattle.tx_core.specs.declared.tx.Record.{Record}
+use Rattle.dc_talk.specs.declared.sent.Sent.{Sent}
 use Rattle.dc_centre.proofs.Parts.{part_more}
 use Rattle.dc_centre.proofs.outbox.part.Goals as goal
 
@@ -7,7 +7,7 @@ pub loop-place-preserved : goal.loop-place-preserved
 loop-place-preserved c =
     let xs = c.args.records.now.items in
     let place = c.loop-place.place in
-    let next = c.in_ok-copy.ensures ∙ (c.index.ensures ∙ ap (λ (d : Record). get_or xs place d) (sym c.in_ok-copy.ensures)) in
+    let next = c.in_ok-copy.ensures ∙ (c.index.ensures ∙ ap (λ (d : Sent). get_or xs place d) (sym c.in_ok-copy.ensures)) in
     let low = c.loop-place.auto.place in
     let test = c.loop-place-test.true in
     let least = c.min-count.ensures in

@@ -3,7 +3,7 @@ use Rattle.std.specs.Prelude.{slice_set}
 use Rattle.std.specs.Global.{Vec}
 use Rattle.std.proofs.lemmas.List.{length-map}
 use Rattle.dc_talk.specs.Acting.{acting}
-use Rattle.tx_core.specs.declared.tx.Record.{Record}
+use Rattle.dc_talk.specs.declared.sent.Sent.{Sent}
 use Rattle.mail_link.specs.Ends.{GiverView}
 use Rattle.dc_links.specs.Links.{column_of, rows_of, put_between}
 use Rattle.dc_links.specs.Rounds.{inward, DrainsFrom}
@@ -40,7 +40,7 @@ returns-clause-drains g c =
     let to : c.from.result ≡ c.args.to = search rules in
     let lt : c.args.from - 1 < length takers = search rules in
     let within : c.args.from - 1 < length inlets = search rules in
-    let many = length-map rows (λ (row : Vec (GiverView Record)). row.items) in
+    let many = length-map rows (λ (row : Vec (GiverView Sent)). row.items) in
     let high : c.args.from - 1 < length rows = omega (arith, many, c.requires.givers.number, c.requires.row.0, c.requires.row.1) in
     let is : taker ≡ get_or takers (c.args.from - 1) taker = search rules in
     let there : inlet ≡ get_or inlets (c.args.from - 1) inlet = search rules in

@@ -1,6 +1,6 @@
 use Rattle.std.proofs.Common.{rules, arith, ◌≡◌, ◌<◌, length, get_or, ap, sym, ◌∙◌}
 use Rattle.std.proofs.lemmas.List.{length-map}
-use Rattle.tx_core.specs.declared.tx.Record.{Record}
+use Rattle.dc_talk.specs.declared.sent.Sent.{Sent}
 use Rattle.mail_link.specs.Ends.{GiverView}
 use Rattle.dc_links.proofs.Closing.{next_is, next_left, next_taker, closes_more}
 use Rattle.dc_links.proofs.rows.close_row.Goals as goal
@@ -19,7 +19,7 @@ receivers-preserved g c =
     let lt : k < length rows = search rules in
     let is : c.index_mut.result.now ≡ get_or rows k c.index_mut.result.now = search rules in
     let wide : k < length row = search rules in
-    let many = sym (length-map givers (λ (giver : GiverView Record). giver.link)) ∙ ap length c.requires.givers in
+    let many = sym (length-map givers (λ (giver : GiverView Sent). giver.link)) ∙ ap length c.requires.givers in
     let low : k < length givers = omega (arith, many, wide) in
     record {
       links = next_left row c.receivers.links.items k c.receivers.invariant.links c.remove-link.new.self.items c.remove-link.ensures.items;

@@ -1,7 +1,7 @@
 use Rattle.std.proofs.Common.{rules, ◌<◌, length, sym, ◌∙◌}
 use Rattle.std.specs.Global.{Vec}
 use Rattle.std.proofs.lemmas.List.{length-map}
-use Rattle.tx_core.specs.declared.tx.Record.{Record}
+use Rattle.dc_talk.specs.declared.sent.Sent.{Sent}
 use Rattle.mail_link.specs.Ends.{TakerView}
 use Rattle.dc_links.specs.Links.{rows_of}
 use Rattle.dc_links.proofs.Closing.{next_is, next_left, row_number, row_takers, row_givers, rows_close, row_low}
@@ -12,7 +12,7 @@ close_row-requires-clause-number g c =
     let rows = c.args.rows.items in let k = c.senders._before in
     let lt : k < length rows = search rules in
     let is = next_is rows c.senders.links.items k c.senders.invariant.links c.remove-row.result c.remove-row.ensures.value in
-    sym (length-map c.senders.all.items (λ (row : Vec (TakerView Record)). row.items)) ∙ row_number rows c.args.givers.items (rows_of c.args.takers.items) (rows_of c.senders.all.items) k c.requires.square c.requires.takers c.remove-row.result lt is c.senders.invariant.closes
+    sym (length-map c.senders.all.items (λ (row : Vec (TakerView Sent)). row.items)) ∙ row_number rows c.args.givers.items (rows_of c.args.takers.items) (rows_of c.senders.all.items) k c.requires.square c.requires.takers c.remove-row.result lt is c.senders.invariant.closes
 
 pub close_row-requires-clause-givers : goal.close_row-requires-clause-givers
 close_row-requires-clause-givers g c =

@@ -1,15 +1,19 @@
 use Rattle.std.proofs.Common.{[]}
-use Rattle.script_text.proofs.Provenance.{carries_more, carries_then, sends_carry, ships_carry, tells_carry, settles_carry}
+use Rattle.dc_talk.specs.declared.ask.Ask.TheVariants.{Send}
+use Rattle.script_text.proofs.Provenance.{carries_more, carries_then, sends_carry, ships_carry, relays_carry, tells_carry, settles_carry}
 use Rattle.dc_worker.proofs.Bringing.{brings_carry}
 use Rattle.dc_worker.proofs.Mailing.{mails_carry}
 use Rattle.dc_worker.proofs.RoundDeeds.{sender_carries, reporter_carries, pruner_carries}
 use Rattle.dc_worker.proofs.laws.law_carried.Goals as goal
 
 pub returns-clause-sends : goal.returns-clause-sends
-returns-clause-sends c = sends_carry []
+returns-clause-sends c = λ r last after most deeds end is. sends_carry [] r last (Send after most) deeds end (λ say. tt) is
 
 pub returns-clause-ships : goal.returns-clause-ships
 returns-clause-ships c = ships_carry
+
+pub returns-clause-relays : goal.returns-clause-relays
+returns-clause-relays c = relays_carry
 
 pub returns-clause-tells : goal.returns-clause-tells
 returns-clause-tells c = tells_carry

@@ -1,6 +1,6 @@
 use Rattle.std.proofs.Common.{rules, refl, ◌∙◌}
 use Rattle.dc_talk.specs.Acting.{acting, IsCutShort}
-use Rattle.dc_worker.specs.Rounds.{Does}
+use Rattle.dc_worker.specs.Rounds.{Does, routes_from}
 use Rattle.dc_worker.proofs.Work.{cut_then}
 use Rattle.dc_worker.proofs.Turns.{turns_none, over_more}
 use Rattle.dc_worker.proofs.rounds.over_all_routes.Goals as goal
@@ -23,5 +23,5 @@ centres-preserved g c = record {
       let a = acting (g.D.Door.shown c.args.door.now) c.args.log.now in
       let b = acting (g.D.Door.shown c.centres.door) c.centres.log in
       let e = acting (g.D.Door.shown c.over_routes_from.new.door) c.over_routes_from.new.log in
-      over_more c.args.round c.args.n c.centres.before _ a b e refl c.centres.invariant.does c.in_ok-over_routes_from.ensures.does;
+      over_more (Does c.args.round) (routes_from c.args.n) c.centres.before _ a b e refl c.centres.invariant.does c.in_ok-over_routes_from.ensures.does;
 }

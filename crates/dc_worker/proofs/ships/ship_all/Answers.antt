@@ -1,9 +1,10 @@
 use Rattle.std.proofs.Common.{None}
 use Rattle.dc_talk.specs.Acting.{acting, IsCutShort}
-use Rattle.script_text.specs.Carrying.{route, Delivers, Ships}
+use Rattle.script_text.specs.Carrying.{route, own_need, Delivers, Ships}
+use Rattle.script_text.proofs.Provenance.{ships_carry}
 use Rattle.dc_worker.specs.Work.{AddsSuch, CarriesSuch}
 use Rattle.dc_worker.proofs.Work.{cut_then, ok_turn, err_turn}
-use Rattle.dc_worker.proofs.Sending.{ships_items, ships_ended}
+use Rattle.dc_worker.proofs.Sending.{supplies_items, supplies_ended}
 use Rattle.dc_worker.proofs.ships.ship_all.Goals as goal
 
 pub returns-in-Items-clause-ships : goal.returns-in-Items-clause-ships
@@ -15,7 +16,7 @@ returns-in-Items-clause-ships g c =
     ok_turn c.deliver_all.result
     (λ end. AddsSuch (λ deeds. Delivers c.args.to c.in-Items.items None deeds end) b e)
     (λ end. CarriesSuch (λ deeds. Ships r deeds end) a e)
-    (λ end delivered. ships_items a b e r c.in_ok-items.field-0 c.in-Items.items end c.in_ok-items.ensures.sends c.in-Items.is delivered)
+    (λ end delivered. supplies_items a b e r (own_need r) c.in_ok-items.field-0 c.in-Items.items end (ships_carry r) c.in_ok-items.ensures.sends c.in-Items.is delivered)
     c.deliver_all.ensures.delivers
 
 pub returns-in-Items-clause-short : goal.returns-in-Items-clause-short
@@ -29,4 +30,5 @@ pub returns-in-Ended-clause-ships : goal.returns-in-Ended-clause-ships
 returns-in-Ended-clause-ships g c =
     let a = acting (g.D.Door.shown c.args.door.now) c.args.log.now in
     let b = acting (g.D.Door.shown c.send_for.new.door) c.send_for.new.log in
-    ships_ended a b (route c.args.from c.args.to) c.in_ok-items.field-0 c.in-Ended.end c.in_ok-items.ensures.sends c.in-Ended.is
+    let r = route c.args.from c.args.to in
+    supplies_ended a b r (own_need r) c.in_ok-items.field-0 c.in-Ended.end (ships_carry r) c.in_ok-items.ensures.sends c.in-Ended.is

@@ -17,7 +17,7 @@ returns-in-Items-clause-ships g c =
     ok_turn c.deliver_all.result
     (λ end. AddsSuch (λ deeds. Delivers c.args.to c.in-Items.items (Some (Absent c.args.seq)) deeds end) b e)
     (λ end. CarriesSuch (λ deeds. Sends r (Some (Absent c.args.seq)) (Send (c.args.seq - 1) 1) deeds end) a e)
-    (λ end delivered. sends_items a b e r (Some (Absent c.args.seq)) (c.args.seq - 1) 1 c.in_ok-say.say c.in-Items.items end c.in_ok-say.ensures.asks c.in-Items.ensures delivered)
+    (λ end delivered. sends_items a b e r (Some (Absent c.args.seq)) (Send (c.args.seq - 1) 1) c.in_ok-say.say c.in-Items.items end (λ say. tt) c.in_ok-say.ensures.asks c.in-Items.ensures delivered)
     c.deliver_all.ensures.delivers
 
 pub returns-in-Items-clause-short : goal.returns-in-Items-clause-short
@@ -31,4 +31,4 @@ pub returns-in-Ended-clause-ships : goal.returns-in-Ended-clause-ships
 returns-in-Ended-clause-ships g c =
     let a = acting (g.D.Door.shown c.args.door.now) c.args.log.now in
     let b = acting (g.D.Door.shown c.ask_unheard.new.door) c.ask_unheard.new.log in
-    sends_ended a b (route c.args.from c.args.to) (Some (Absent c.args.seq)) (c.args.seq - 1) 1 c.in_ok-say.say c.in-Ended.end c.in_ok-say.ensures.asks (sym c.in-Ended.is ∙ c.sent_of.ensures)
+    sends_ended a b (route c.args.from c.args.to) (Some (Absent c.args.seq)) (Send (c.args.seq - 1) 1) c.in_ok-say.say c.in-Ended.end (λ say. tt) c.in_ok-say.ensures.asks (sym c.in-Ended.is ∙ c.handed_of.ensures)

@@ -20,7 +20,7 @@ pub returns-clause-orphan : goal.returns-clause-orphan
 returns-clause-orphan c setup i number have entry fit stands = no_orphan c.args.book.now setup fit i entry stands number have
 
 pub returns-clause-deliver : goal.returns-clause-deliver
-returns-clause-deliver c setup i entry item fit stands = no_misfit_delivery c.args.book.now setup fit i entry stands item
+returns-clause-deliver c setup i entry item hops fit stands = no_misfit_delivery c.args.book.now setup fit i entry stands item hops
 
 pub returns-clause-learn : goal.returns-clause-learn
 returns-clause-learn c setup i from entry news fit stands = no_misfit_lesson c.args.book.now setup fit i entry stands from news

@@ -1,8 +1,11 @@
-use Rattle.std.proofs.Common.{◌≡◌, true, List, [], ◌∷◌, ◌++◌, sym, ap, ◌∙◌, subst, arith}
+use Rattle.std.proofs.Common.{◌≡◌, ◌+◌, true, List, [], ◌∷◌, ◌++◌, sym, ap, ◌∙◌, subst, arith}
 use Rattle.tx_core.specs.declared.tx.Record.{Record}
 use Rattle.dc_talk.specs.declared.ask.Ask.TheVariants.{Deliver}
 use Rattle.dc_talk.specs.declared.say.Say.TheVariants.{Applied}
+use Rattle.dc_talk.specs.Sents.{with_hops}
 use Rattle.dc_talk.specs.Answers.{is_fit_item}
+use Rattle.dc_talk.proofs.PeerAnswers.{item_fits}
+use Rattle.dc_centre.specs.Outboxes.{put_by}
 use Rattle.dc_centre.specs.Applied.{IsApplied}
 use Rattle.dc_centre.specs.Centre.{CentreView, Goes}
 use Rattle.dc_centre.proofs.Going.{delivered_next, centre_received, goes_delivered}
@@ -26,7 +29,8 @@ invariant_of-self-2 c =
 pub returns-clause-goes : goal.returns-clause-goes
 returns-clause-goes c =
     let s = c.self.inside in
-    let old : CentreView = record { settings = c.self.inside.settings; applied = c.self.inside.applied; told = c.self.inside.told; mark = c.self.inside.mark; trimmed = c.self.inside.trimmed; outbox = c.self.inside.outbox.items; down = c.self.inside.stopped } in
+    let old : CentreView = record { settings = c.self.inside.settings; applied = c.self.inside.applied; told = c.self.inside.told; mark = c.self.inside.mark; trimmed = c.self.inside.trimmed; outbox = c.self.inside.outbox.rows; down = c.self.inside.stopped } in
+    let fit : is_fit_item s.settings.n c.args.item.now ≡ true = ap (λ (h : CentreView). is_fit_item h.settings.n c.args.item.now) c.self.view_is ∙ c.requires.fit in
     let grows : (A : List Record) → IsApplied s.settings.n s.applied A → IsApplied s.settings.n c.take.new.self (A ++ c.args.item.now ∷ []) = λ A h. subst (λ n. IsApplied n c.take.new.self (A ++ c.args.item.now ∷ [])) c.self.invariant.width (c.in_ok-fresh.ensures.grown A (subst (λ n. IsApplied n s.applied A) (sym c.self.invariant.width) h)) in
-    subst (λ (c' : CentreView). Goes c' (record old { applied = c.take.new.self }) (Deliver c.args.item.now) (Applied c.in_ok-fresh.fresh)) c.self.view_is
-    (goes_delivered old c.take.new.self c.args.item.now c.in_ok-fresh.fresh grows c.take.ensures.point c.if-item-self.false)
+    subst (λ (c' : CentreView). Goes c' (record old { applied = c.take.new.self; outbox = c.put.new.self.rows }) (Deliver c.args.item.now c.args.hops) (Applied c.in_ok-fresh.fresh)) c.self.view_is
+    (goes_delivered old c.take.new.self c.put.new.self.rows c.args.item.now c.args.hops c.in_ok-fresh.fresh c.self.invariant (item_fits s.settings.n c.args.item.now fit).centre grows c.take.ensures.point (c.put.ensures ∙ (λ i. put_by (c.reserve.ensures.rows i) (with_hops (c.in_ok-copy.ensures i) (c.args.hops + 1)))))

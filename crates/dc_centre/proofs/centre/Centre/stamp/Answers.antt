@@ -6,12 +6,14 @@ use Rattle.tx_core.specs.declared.tx.Record.{Record}
 use Rattle.dc_talk.specs.declared.ask.Ask.TheVariants.{Commit}
 use Rattle.dc_talk.specs.declared.say.Say.TheVariants.{Stamped}
 use Rattle.dc_talk.specs.Records.{joined}
+use Rattle.dc_talk.specs.Sents.{with_hops}
+use Rattle.dc_centre.specs.Outboxes.{put_by}
 use Rattle.dc_centre.specs.Applied.{IsApplied}
 use Rattle.dc_centre.specs.Centre.{CentreView, Goes}
 use Rattle.dc_centre.proofs.Going.{centre_stamped, goes_stamped}
 use Rattle.dc_centre.proofs.centre.Centre.stamp.Goals as goal
 
-module _ (c : goal.After-push_back_reserved) where
+module _ (c : goal.After-put) where
   -- the stamp that is given is the next one
   stamp_is : ◌≡◌ {A = Stamp} (record { centre = c.self.inside.settings.me; seq = c.stamped.result + 1 }) (record { centre = c.self.inside.settings.me; seq = at c.self.inside.applied.counts c.self.inside.settings.me + 1 })
   stamp_is =
@@ -20,7 +22,7 @@ module _ (c : goal.After-push_back_reserved) where
 
   -- the centre before
   abbrev old : CentreView
-  old = record { settings = c.self.inside.settings; applied = c.self.inside.applied; told = c.self.inside.told; mark = c.self.inside.mark; trimmed = c.self.inside.trimmed; outbox = c.self.inside.outbox.items; down = c.self.inside.stopped }
+  old = record { settings = c.self.inside.settings; applied = c.self.inside.applied; told = c.self.inside.told; mark = c.self.inside.mark; trimmed = c.self.inside.trimmed; outbox = c.self.inside.outbox.rows; down = c.self.inside.stopped }
 
   grows : (A : List Record) → IsApplied old.settings.n old.applied A → IsApplied old.settings.n c.take.new.self (A ++ record { stamp = record { centre = c.self.inside.settings.me; seq = c.stamped.result + 1 }; deps = c.deps_of.result; tx = c.in_ok-copy.field-0 } ∷ [])
   grows A h = subst (λ n. IsApplied n c.take.new.self (A ++ record { stamp = record { centre = c.self.inside.settings.me; seq = c.stamped.result + 1 }; deps = c.deps_of.result; tx = c.in_ok-copy.field-0 } ∷ [])) c.self.invariant.width (c.in_ok-take.ensures.grown A (subst (λ n. IsApplied n old.applied A) (sym c.self.invariant.width) h))
@@ -35,10 +37,10 @@ pub returns-clause-goes : goal.returns-clause-goes
 returns-clause-goes c =
     let s = c.self.inside in
     let r : Record = record { stamp = record { centre = s.settings.me; seq = c.stamped.result + 1 }; deps = c.deps_of.result; tx = c.in_ok-copy.field-0 } in
-    let new : CentreView = record (old c) { applied = c.take.new.self; outbox = c.push_back_reserved.new.self.items } in
+    let new : CentreView = record (old c) { applied = c.take.new.self; outbox = c.put.new.self.rows } in
     let next : c.args.tx.now.dot.number ≡ number_of s.applied.lasts c.args.tx.now.dot.client + 1 = subst (λ (h : CentreView). c.args.tx.now.dot.number ≡ number_of h.applied.lasts c.args.tx.now.dot.client + 1) (sym c.self.view_is) c.requires.next in
     let deps : c.deps_of.result ≡ joined s.settings.n c.args.tx.now.snap (stamp_of s.applied.lasts c.args.tx.now.dot.client) = c.deps_of.ensures.entries ∙ ap (λ (n : ℕ). joined n c.args.tx.now.snap (stamp_of s.applied.lasts c.args.tx.now.dot.client)) c.self.invariant.width in
     let made : r ≡ record { stamp = record { centre = s.settings.me; seq = at s.applied.counts s.settings.me + 1 }; deps = joined s.settings.n c.args.tx.now.snap (stamp_of s.applied.lasts c.args.tx.now.dot.client); tx = c.args.tx.now } = λ i. record { stamp = stamp_is c i; deps = deps i; tx = c.in_ok-copy.ensures i } in
     subst (λ (h : CentreView). Goes h new (Commit c.args.tx.now) (Stamped (record { centre = s.settings.me; seq = c.stamped.result + 1 }))) c.self.view_is
     (subst (λ (given : Stamp). Goes (old c) new (Commit c.args.tx.now) (Stamped given)) (sym (stamp_is c))
-    (goes_stamped (old c) c.take.new.self c.push_back_reserved.new.self.items c.args.tx.now r c.self.invariant next made (grows c) c.take.ensures.point (c.push_back_reserved.ensures.items ∙ ap (λ (l : List Record). l ++ r ∷ []) c.in_ok-reserve.ensures.items)))
+    (goes_stamped (old c) c.take.new.self c.put.new.self.rows c.args.tx.now r c.self.invariant next made (grows c) c.take.ensures.point (c.put.ensures ∙ ap (λ rows. put_by rows (with_hops r 0)) c.reserve.ensures.rows)))

@@ -1,6 +1,7 @@
-// Scripts that look random, with phases in which clients, the operator and the workers go on side by side.
+// Scripts that look random, with phases in which clients, the operator and the workers go on side by side. Where there are
+// three centres and more, records are relayed past some that are stopped.
+use crate::dice::Dice;
 use ids_core::NoMemory;
-use slow_check::Dice;
 use std::alloc::Global;
 
 // How many centres and clients a script has.
@@ -107,7 +108,24 @@ fn push_look(
     Ok(())
 }
 
-// The operator ships or tells, has a centre prune, or stops one for a step of a client.
+// The next centre, and the first behind the last.
+fn behind(frame: Frame, centre: u64) -> u64 {
+    (centre % frame.centres.max(1)).saturating_add(1)
+}
+
+// Three different centres, where there are as many: one, the next one and the one behind that, or the other way round.
+fn three(dice: &mut Dice, frame: Frame) -> (u64, u64, u64) {
+    let first = number(dice, frame.centres);
+    let second = behind(frame, first);
+    let third = behind(frame, second);
+    if dice.roll(2) == 0 {
+        (first, second, third)
+    } else {
+        (third, second, first)
+    }
+}
+
+// The operator ships, relays or tells, has a centre prune, or stops one for a step of a client or for a relay past it.
 fn push_order(
     alloc: Global,
     dice: &mut Dice,
@@ -115,8 +133,11 @@ fn push_order(
     client: u64,
     text: &mut String,
 ) -> Result<(), NoMemory> {
+    if frame.centres > 2 && dice.roll(2) == 0 {
+        return push_relay(alloc, dice, frame, client, text);
+    }
     let centre = number(dice, frame.centres);
-    let other = (centre % frame.centres.max(1)).saturating_add(1);
+    let other = behind(frame, centre);
     let seq = number(dice, 3);
     let line = match dice.roll(6) {
         0 => format!(in alloc; "ship {centre} {other}\n")?,
@@ -126,6 +147,31 @@ fn push_order(
         _ => format!(in alloc; "prune {centre}\n")?,
     };
     text.push_str(line.as_str())?;
+    Ok(())
+}
+
+// The operator relays records over a centre, whether their origin is stopped or one of the others is, or none. Mostly they
+// are shipped to that centre before.
+fn push_relay(
+    alloc: Global,
+    dice: &mut Dice,
+    frame: Frame,
+    client: u64,
+    text: &mut String,
+) -> Result<(), NoMemory> {
+    let (origin, from, to) = three(dice, frame);
+    if dice.roll(3) > 0 {
+        text.push_str(format!(in alloc; "ship {origin} {from}\n")?.as_str())?;
+    }
+    let relay = format!(in alloc; "relay {from} {origin} {to}\n")?;
+    let line = relay.as_str();
+    let lines = match dice.roll(5) {
+        0 | 1 => format!(in alloc; "{line}")?,
+        2 => format!(in alloc; "down {origin}\n{line}c{client} push\nup {origin}\n")?,
+        3 => format!(in alloc; "down {from}\n{line}up {from}\n{line}")?,
+        _ => format!(in alloc; "down {to}\n{line}c{client} refresh\nup {to}\n")?,
+    };
+    text.push_str(lines.as_str())?;
     Ok(())
 }
 
@@ -153,14 +199,14 @@ fn push_links(
 ) -> Result<(), NoMemory> {
     for _ in 0..number(dice, 3) {
         let from = number(dice, frame.centres);
-        let to = (from % frame.centres.max(1)).saturating_add(1);
+        let to = behind(frame, from);
         let every = number(dice, 3);
         let fault = word(dice, &["drop", "twice", "hold"]);
         text.push_str(format!(in alloc; "link {from} {to} {fault} {every}\n")?.as_str())?;
     }
     if dice.roll(4) == 0 {
         let from = number(dice, frame.centres);
-        let to = (from % frame.centres.max(1)).saturating_add(1);
+        let to = behind(frame, from);
         text.push_str(format!(in alloc; "link {from} {to} clean\n")?.as_str())?;
     }
     Ok(())
@@ -193,7 +239,56 @@ fn push_head(
     Ok(())
 }
 
-// What all clients see behind the last phase, once all centres have all.
+// A centre is lost for good, mostly with a commit that came last. What the next one has of its records goes on from each to
+// the one behind it, and then all running ones are settled. The clients move to two of them.
+fn push_loss(
+    alloc: Global,
+    dice: &mut Dice,
+    frame: Frame,
+    text: &mut String,
+) -> Result<(), NoMemory> {
+    let lost = number(dice, frame.centres);
+    let heir = behind(frame, lost);
+    if dice.roll(4) > 0 {
+        text.push_str(format!(in alloc; "c1 abort\nc1 connect {lost}\nc1 begin\n")?.as_str())?;
+        push_change(alloc, dice, 1, text)?;
+        text.push_str("c1 commit\nc1 flush\n")?;
+    }
+    text.push_str(format!(in alloc; "ship {lost} {heir}\ndown {lost}\n")?.as_str())?;
+    push_chain(alloc, dice, frame, lost, text)?;
+    text.push_str("settle\n")?;
+    for before in 0..frame.clients {
+        let client = before.saturating_add(1);
+        let centre = if dice.roll(2) == 0 {
+            heir
+        } else {
+            behind(frame, heir)
+        };
+        text.push_str(format!(in alloc; "c{client} connect {centre}\n")?.as_str())?;
+    }
+    Ok(())
+}
+
+// Relays of a centre's records from the one behind it to the next one, and so on, of which a few are left out.
+fn push_chain(
+    alloc: Global,
+    dice: &mut Dice,
+    frame: Frame,
+    lost: u64,
+    text: &mut String,
+) -> Result<(), NoMemory> {
+    let mut from = behind(frame, lost);
+    for _ in 2..frame.centres {
+        let to = behind(frame, from);
+        if dice.roll(8) > 0 {
+            text.push_str(format!(in alloc; "relay {from} {lost} {to}\n")?.as_str())?;
+        }
+        from = to;
+    }
+    Ok(())
+}
+
+// What all clients see behind the last phase, once all running centres have all.
 fn push_end(alloc: Global, frame: Frame, text: &mut String) -> Result<(), NoMemory> {
     text.push_str("settle\n")?;
     for before in 0..frame.clients {
@@ -206,11 +301,12 @@ fn push_end(alloc: Global, frame: Frame, text: &mut String) -> Result<(), NoMemo
     Ok(())
 }
 
-/// The script of a seed: two phases with lines before and between them.
-pub fn script_of(alloc: Global, seed: u64) -> Result<String, NoMemory> {
+/// The script of a seed with so many centres: two phases with lines before and between them. Where there are three centres
+/// and more, one is lost behind the last phase.
+pub fn script_of(alloc: Global, seed: u64, centres: u64) -> Result<String, NoMemory> {
     let mut dice = Dice::new(seed);
     let frame = Frame {
-        centres: number(&mut dice, 2).saturating_add(1),
+        centres,
         clients: number(&mut dice, 4),
     };
     let mut text = String::new(alloc);
@@ -223,6 +319,9 @@ pub fn script_of(alloc: Global, seed: u64) -> Result<String, NoMemory> {
             push_block(alloc, &mut dice, frame, &mut text)?;
         }
         text.push_str("end\n")?;
+    }
+    if centres > 2 {
+        push_loss(alloc, &mut dice, frame, &mut text)?;
     }
     push_end(alloc, frame, &mut text)?;
     Ok(text)

@@ -1,0 +1,4 @@
+pub mod Answers
+pub mod Reached
+pub mod Lacking
+pub mod Settled
