@@ -9,7 +9,7 @@ ghost use Rattle.tx_core.specs.declared.op.Op.TheVariants.{Inc};
 use crate::counter::counter;
 use crate::fault::Fault;
 use dc_centre::Centre;
-use dc_talk::{Ask, Say};
+use dc_talk::{Ask, Say, SharedRecord};
 use ids_core::{Dot, NoMemory, ObjectId};
 use std::alloc::Global;
 use tx_core::{Op, Record, Tx, Update, Updates, Value};
@@ -54,7 +54,7 @@ fn after_deliveries(alloc: Global, count: u32) -> Result<i128, Fault> {
     for seq in 1..u64::from(count) + 1 {
         let stamp = Stamp { centre: 1, seq };
         let tx = add_one(alloc, seq, &object)?;
-        let item = Record { stamp, deps, tx };
+        let item = SharedRecord::new(alloc, Record { stamp, deps, tx })?;
         centre.step(alloc, &Ask::Deliver { item, hops: 0 })?;
     }
     Ok(fetched(alloc, &mut centre, &object, u64::from(count))?)

@@ -8,7 +8,7 @@ ghost use Rattle.tx_core.specs.Checks.{IsFit};
 ghost use Rattle.dc_centre.specs.Centre.{Goes, row_over, stable_over};
 
 use crate::centre::Centre;
-use dc_talk::{Say, Sent};
+use dc_talk::{Say, Sent, SharedRecord};
 use ids_core::{NoMemory, ObjectId};
 use std::alloc::Global;
 use tx_core::{Record, Tx};
@@ -108,11 +108,11 @@ impl Centre {
             tx: tx.copy()?,
         };
         let sent = Sent {
-            item: record,
+            item: SharedRecord::new(self.outbox.allocator(), record)?,
             hops: 0,
         };
         self.outbox.reserve(self.settings.me)?;
-        self.applied.take(&sent.item)?;
+        self.applied.take(sent.item.as_record())?;
         self.outbox.put(sent);
         Ok(stamp)
     }

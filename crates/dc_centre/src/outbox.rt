@@ -76,7 +76,8 @@ impl Outbox {
         requires room { 1 ≤ room_of self.old.room sent.item.stamp.centre }
         ensures { self.new.rows ≡ put_by self.old.rows sent }
     {
-        self.rows[usize::from(sent.item.stamp.centre - 1)].push_back_reserved(sent);
+        let origin = sent.item.as_record().stamp.centre;
+        self.rows[usize::from(origin - 1)].push_back_reserved(sent);
     }
 
     // Lets the first so many records of the origin at a place go.

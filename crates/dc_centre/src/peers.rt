@@ -8,10 +8,9 @@ ghost use Rattle.dc_centre.specs.Centre.{Goes, row_over, part_over};
 ghost use Rattle.vv_core.specs.Vectors.{at};
 
 use crate::centre::Centre;
-use dc_talk::{Records, Say, Sent};
+use dc_talk::{Records, Say, Sent, SharedRecord};
 use ids_core::NoMemory;
 use std::alloc::Global;
-use tx_core::Record;
 use vv_core::{Lack, Vector};
 
 impl Centre {
@@ -60,7 +59,7 @@ impl Centre {
     }
 
     /// The answer to a delivery that fits, in two copies.
-    pub(crate) fn deliver(&mut self, item: &Record, hops: u8) -> Result<(Say, Say), NoMemory>
+    pub(crate) fn deliver(&mut self, item: &SharedRecord, hops: u8) -> Result<(Say, Say), NoMemory>
         requires fit { is_fit_item self.old.settings.n item.now ≡ true }
         requires few { hops ≤ MOST_HOPS }
         ensures answer { IfOk result (λ says. says.0 ≡ row_over self.old (Deliver item.now hops)) }
@@ -68,18 +67,19 @@ impl Centre {
         ensures goes { IfOk result (λ says. Goes self.old self.new (Deliver item.now hops) says.0) }
         ensures err { OnErr result (self.new ≡ self.old) }
     {
-        let have = self.applied.count(item.stamp.centre);
-        if item.stamp.seq <= have {
+        let record = item.as_record();
+        let have = self.applied.count(record.stamp.centre);
+        if record.stamp.seq <= have {
             return Ok((Say::Old { have }, Say::Old { have }));
         }
-        if item.stamp.seq - have > 1 || item.stamp.centre == self.settings.me {
+        if record.stamp.seq - have > 1 || record.stamp.centre == self.settings.me {
             return Ok((Say::Gap { have }, Say::Gap { have }));
         }
-        if let Some(lack) = Vector::first_lack(&self.applied.vector(), &item.deps) {
+        if let Some(lack) = Vector::first_lack(&self.applied.vector(), &record.deps) {
             return Ok((waits(lack), waits(lack)));
         }
-        let number = item.tx.dot.number;
-        let have = self.applied.through(item.tx.dot.client);
+        let number = record.tx.dot.number;
+        let have = self.applied.through(record.tx.dot.client);
         if number.saturating_sub(have) > 1 {
             return Ok((Say::Orphan { number, have }, Say::Orphan { number, have }));
         }
@@ -87,8 +87,8 @@ impl Centre {
             item: item.copy()?,
             hops: hops + 1,
         };
-        self.outbox.reserve(item.stamp.centre)?;
-        let fresh = self.applied.take(item)?;
+        self.outbox.reserve(record.stamp.centre)?;
+        let fresh = self.applied.take(record)?;
         self.outbox.put(sent);
         Ok((Say::Applied { fresh }, Say::Applied { fresh }))
     }

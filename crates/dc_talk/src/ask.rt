@@ -4,6 +4,7 @@ ghost use Rattle.ids_core.specs.declared.limits.TheConstants.{MOST_CENTRES};
 ghost use Rattle.tx_core.specs.Checks.{is_within};
 ghost use Rattle.dc_talk.specs.Answers.{are_modest, is_fit_item};
 
+use crate::sent::SharedRecord;
 use ids_core::{MOST_CLIENTS, MOST_RECORDS, NoMemory, ObjectId};
 use std::alloc::AllocError;
 use tx_core::{Record, Tx};
@@ -29,7 +30,7 @@ pub enum Ask {
     /// The centre's own records, at most so many, from the one after the first `after`.
     Send { after: u64, most: u32 },
     /// A record that another centre stamped, with the hops that it has at the centre that handed it on.
-    Deliver { item: Record, hops: u8 },
+    Deliver { item: SharedRecord, hops: u8 },
     /// Records of any origin, at most so many, from the one numbered `after + 1` on.
     Relay { origin: u8, after: u64, most: u32 },
     /// How many records of each centre are here.
@@ -115,7 +116,7 @@ impl Ask {
             Ask::Fetch { object: _, at } => at.width() == n,
             Ask::Commit { tx } => tx.check(n).is_ok(),
             Ask::Send { after: _, most } => (1..=MOST_SENT).contains(most),
-            Ask::Deliver { item, hops } => is_fit_item(item, n) && *hops <= MOST_HOPS,
+            Ask::Deliver { item, hops } => is_fit_item(item.as_record(), n) && *hops <= MOST_HOPS,
             Ask::Relay {
                 origin,
                 after: _,

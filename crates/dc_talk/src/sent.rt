@@ -2,12 +2,65 @@
 ghost use Rattle.std.specs.Prelude.{◌≡◌, IfOk};
 
 use ids_core::NoMemory;
+use std::alloc::{AllocError, Global};
+use std::marker::Model;
+use std::sync::Arc;
 use tx_core::Record;
+
+/// A record that copies share, seen as the record. Nothing changes it.
+#[derive(Drop)]
+pub struct SharedRecord {
+    item: Arc<Record>,
+}
+
+impl Model for SharedRecord {
+    ghost use Rattle.std.specs.Arc.{arc_value};
+    ghost use Rattle.tx_core.specs.declared.tx.Record.{Record};
+
+    ghost Value = { Record };
+
+    ghost view = { λ r. arc_value r.item };
+}
+
+impl SharedRecord {
+    /// Has copies share a record.
+    pub fn new(alloc: Global, item: Record) -> Result<SharedRecord, NoMemory>
+        ensures { IfOk result (λ shared. shared ≡ item) }
+    {
+        Ok(SharedRecord {
+            item: Arc::new(alloc, item)?,
+        })
+    }
+
+    /// The record.
+    pub fn as_record(&self) -> &Record
+        ensures { result.now ≡ self.now }
+    {
+        &self.item
+    }
+
+    /// The same record again. It takes no memory.
+    pub fn copy(&self) -> Result<SharedRecord, AllocError>
+        ensures { IfOk result (λ copy. copy ≡ self.now) }
+    {
+        Ok(SharedRecord {
+            item: Arc::try_clone(&self.item)?,
+        })
+    }
+}
+
+impl Clone for SharedRecord {
+    ghost is_clone = { λ old new. new ≡ old };
+
+    fn clone(&self) -> Result<SharedRecord, AllocError> {
+        self.copy()
+    }
+}
 
 /// A record with its hops, the number of deliveries that brought it to the centre that hands it on.
 #[derive(Clone, Drop)]
 pub struct Sent {
-    pub item: Record,
+    pub item: SharedRecord,
     pub hops: u8,
 }
 

@@ -6,7 +6,7 @@ ghost use Rattle.dc_host.specs.Hosts.{new_row};
 
 use dc_centre::Centre;
 use dc_host::{HostDoor, Hosts, KeptDoor, centres_of};
-use dc_talk::{Ask, Door, Say};
+use dc_talk::{Ask, Door, Say, SharedRecord};
 use host_lock::Pass;
 use ids_core::Dot;
 use io_edge::FreeGate;
@@ -26,7 +26,7 @@ fn delivery(alloc: Global) -> Result<Ask, Fail> {
     let tx = inc_tx(alloc, dot, 2, pair(0, 0), &counter("a")?, &[5])?;
     let stamp = Stamp { centre: 1, seq: 1 };
     let deps = pair(0, 0);
-    let item = Record { stamp, deps, tx };
+    let item = SharedRecord::new(alloc, Record { stamp, deps, tx })?;
     Ok(Ask::Deliver { item, hops: 0 })
 }
 

@@ -2,7 +2,7 @@
 ghost use Rattle.std.specs.Prelude.{◌≡◌, IfSome, IfOk};
 ghost use Rattle.dc_worker.specs.Inlets.{HasCount};
 
-use dc_talk::{Ask, LinkFault, ListDoor, Log, Records, Say, Sent};
+use dc_talk::{Ask, LinkFault, ListDoor, Log, Records, Say, Sent, SharedRecord};
 use dc_worker::{
     Inlet, bring, bring_rest, drain_round, mail_for, prune_round, report_round, send_round,
     take_round,
@@ -30,7 +30,7 @@ fn record(alloc: Global, seq: u64) -> Result<Sent, Fail> {
     );
     let deps = pair(0, 0);
     let tx = inc_tx(alloc, dot, seq, deps, &counter("a")?, &[5])?;
-    let item = Record { stamp, deps, tx };
+    let item = SharedRecord::new(alloc, Record { stamp, deps, tx })?;
     Ok(Sent { item, hops: HOPS })
 }
 
@@ -69,7 +69,7 @@ fn number_of(ask: &Ask) -> u64 {
     match ask {
         Ask::Report => 101,
         Ask::Send { after: 0, most } => 1000 + u64::from(*most),
-        Ask::Deliver { item, hops: HOPS } => item.stamp.seq,
+        Ask::Deliver { item, hops: HOPS } => item.as_record().stamp.seq,
         Ask::Learn { .. } => 102,
         Ask::Prune => 103,
         _ => 104,

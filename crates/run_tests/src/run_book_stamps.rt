@@ -1,7 +1,9 @@
 // Books of several centres, made by hand: a client's commit was stamped more than once, since an answer
 // was lost and a copy came late.
 use dc_centre::Centre;
-use dc_talk::{Ask, Call, Change, Deed, Fate, Log, Outcome, Records, Refusal, Say, Sent};
+use dc_talk::{
+    Ask, Call, Change, Deed, Fate, Log, Outcome, Records, Refusal, Say, Sent, SharedRecord,
+};
 use hist_lock::Trail;
 use ids_core::{Dot, NoMemory, ObjectId};
 use run_book::{
@@ -183,9 +185,9 @@ fn carry(
     from: u8,
     to: u8,
 ) -> Result<(), NoMemory> {
-    let item = hand.record(alloc, object, from)?;
+    let item = SharedRecord::new(alloc, hand.record(alloc, object, from)?)?;
     let sent = Sent {
-        item: hand.record(alloc, object, from)?,
+        item: item.copy()?,
         hops: 0,
     };
     let list = Records::from_vec(vec![in alloc; sent]?);

@@ -127,7 +127,7 @@ fn behind_delivered(notes: &[Note], from: usize, to: u8, list: &[Sent]) -> Optio
     let mut place = from;
     for sent in list {
         match asked_at(notes.get(place)?, to) {
-            Some((Ask::Deliver { item, hops }, say)) if is_sent(sent, item, *hops) => {
+            Some((Ask::Deliver { item, hops }, say)) if is_sent(sent, item.as_record(), *hops) => {
                 place = place.saturating_add(1);
                 if !matches!(say, Say::Applied { .. } | Say::Old { .. }) {
                     return Some(place);
@@ -224,7 +224,7 @@ fn told_of(end: &ShipEnd) -> (&'static str, u64, u64, u64) {
 // The same of the end that an answer to an ask of a centre makes. No records make one where just one was asked for.
 fn told_by(one: Option<u64>, centre: u8, ask: &Ask, say: &Say) -> (&'static str, u64, u64, u64) {
     let seq = match ask {
-        Ask::Deliver { item, .. } => item.stamp.seq,
+        Ask::Deliver { item, .. } => item.as_record().stamp.seq,
         _ => 0,
     };
     match say {

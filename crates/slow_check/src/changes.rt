@@ -1,6 +1,6 @@
 // Copies of a book in which one thing is changed: the slow look has to find it.
 use dc_centre::Centre;
-use dc_talk::{Ask, Call, Deed, Fate, Line, Log, Note, Outcome, Records, Say, Sent};
+use dc_talk::{Ask, Call, Deed, Fate, Line, Log, Note, Outcome, Records, Say, Sent, SharedRecord};
 use hist_lock::{Entry, Trail};
 use ids_core::{Dot, NoMemory};
 use run_book::Book;
@@ -66,6 +66,7 @@ fn forged(alloc: Global) -> Result<Ask, Fail> {
         deps: pair(0, 0),
         tx,
     };
+    let item = SharedRecord::new(alloc, item)?;
     Ok(Ask::Deliver { item, hops: 0 })
 }
 
@@ -95,7 +96,7 @@ fn handed(alloc: Global, ask: &Ask, say: &Say, change: Change) -> Result<Say, No
             let mut copy = Records::new(alloc);
             for sent in list.as_slice() {
                 if !matches!(change, Change::Empty) {
-                    copy.push(handed_one(sent, change)?)?;
+                    copy.push(handed_one(alloc, sent, change)?)?;
                 }
             }
             Ok(Say::Records { list: copy })
@@ -105,14 +106,15 @@ fn handed(alloc: Global, ask: &Ask, say: &Say, change: Change) -> Result<Say, No
 }
 
 // One of the records of such an answer with the change.
-fn handed_one(sent: &Sent, change: Change) -> Result<Sent, NoMemory> {
-    let mut item = sent.item.copy()?;
+fn handed_one(alloc: Global, sent: &Sent, change: Change) -> Result<Sent, NoMemory> {
+    let mut record = sent.item.as_record().copy()?;
     let mut hops = sent.hops;
     match change {
         Change::Kept => hops = hops.saturating_sub(1),
-        Change::Wrong => item.stamp.seq = item.stamp.seq.saturating_add(1),
+        Change::Wrong => record.stamp.seq = record.stamp.seq.saturating_add(1),
         _ => {}
     }
+    let item = SharedRecord::new(alloc, record)?;
     Ok(Sent { item, hops })
 }
 

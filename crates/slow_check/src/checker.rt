@@ -312,7 +312,7 @@ fn has_origin(notes: &[Note], place: usize, deed: &Deed) -> bool {
         Deed::Did { .. } => false,
         Deed::Told(_) => true,
         Deed::Asked { ask, .. } => match ask {
-            Ask::Deliver { item, hops } => was_sent(notes, place, item, *hops),
+            Ask::Deliver { item, hops } => was_sent(notes, place, item.as_record(), *hops),
             Ask::Learn { from, vector } => was_reported(notes, place, *from, vector),
             Ask::Send { .. } | Ask::Relay { .. } | Ask::Report => true,
             Ask::Prune | Ask::Stop | Ask::Start => true,
@@ -327,7 +327,7 @@ fn is_carried(script: &Script, logs: &[Log], deed: &Deed) -> bool {
         Deed::Asked {
             ask: Ask::Deliver { item, hops },
             ..
-        } => was_mailed(script, logs, item, *hops, None),
+        } => was_mailed(script, logs, item.as_record(), *hops, None),
         _ => false,
     }
 }

@@ -83,10 +83,10 @@ fn is_asked(entry: &Entry<Ask, Say>, asked: Asked) -> bool {
 fn is_of(seat: Seat, before: &[Entry<Ask, Say>], entry: &Entry<Ask, Say>, sent: &Sent) -> bool {
     match (&entry.ask, &entry.say) {
         (Ask::Commit { tx }, Say::Stamped { stamp }) => {
-            sent.hops == 0 && is_stamped(seat, before, tx, *stamp, &sent.item)
+            sent.hops == 0 && is_stamped(seat, before, tx, *stamp, sent.item.as_record())
         }
         (Ask::Deliver { item, hops }, Say::Applied { .. }) => {
-            is_sent(sent, item, hops.saturating_add(1))
+            is_sent(sent, item.as_record(), hops.saturating_add(1))
         }
         _ => false,
     }
@@ -157,9 +157,9 @@ pub fn are_handed_on(n: u8, trails: &[Trail<Centre>]) -> bool {
 fn is_handed_on(n: u8, trails: &[Trail<Centre>], entry: &Entry<Ask, Say>) -> bool {
     match (&entry.ask, &entry.say) {
         (Ask::Deliver { item, hops }, Say::Applied { .. }) => {
-            hops.saturating_add(1) < n && was_handed_on(trails, item, *hops)
+            hops.saturating_add(1) < n && was_handed_on(trails, item.as_record(), *hops)
         }
-        (Ask::Deliver { item, hops }, _) => was_handed_on(trails, item, *hops),
+        (Ask::Deliver { item, hops }, _) => was_handed_on(trails, item.as_record(), *hops),
         _ => true,
     }
 }

@@ -137,7 +137,10 @@ fn trimmed_at(seat: Seat, entries: &[Entry<Ask, Say>], origin: u8) -> u64 {
 pub fn taken_in(entry: &Entry<Ask, Say>) -> Option<(Dot, Stamp)> {
     match (&entry.ask, &entry.say) {
         (Ask::Commit { tx }, Say::Stamped { stamp }) => Some((tx.dot, *stamp)),
-        (Ask::Deliver { item, .. }, Say::Applied { .. }) => Some((item.tx.dot, item.stamp)),
+        (Ask::Deliver { item, .. }, Say::Applied { .. }) => {
+            let record = item.as_record();
+            Some((record.tx.dot, record.stamp))
+        }
         _ => None,
     }
 }

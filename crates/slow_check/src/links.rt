@@ -202,7 +202,7 @@ impl Way {
     fn put_all(&mut self, note: &Note) -> Result<(), NoMemory> {
         if let Some((_, say)) = asked_at(note, self.from) {
             for sent in records_in(say) {
-                self.put.push(sent.item.stamp.seq)?;
+                self.put.push(sent.item.as_record().stamp.seq)?;
             }
         }
         Ok(())
@@ -290,7 +290,10 @@ fn stamped(note: &Note) -> Option<(u8, u64)> {
         Deed::Asked {
             ask: Ask::Deliver { item, .. },
             ..
-        } => Some((item.stamp.centre, item.stamp.seq)),
+        } => {
+            let stamp = item.as_record().stamp;
+            Some((stamp.centre, stamp.seq))
+        }
         _ => None,
     }
 }

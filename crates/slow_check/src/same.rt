@@ -51,7 +51,7 @@ pub fn is_same_record(one: &Record, other: &Record) -> bool {
 
 /// Whether what a centre handed on is this record with so many hops.
 pub fn is_sent(sent: &Sent, item: &Record, hops: u8) -> bool {
-    sent.hops == hops && is_same_record(&sent.item, item)
+    sent.hops == hops && is_same_record(sent.item.as_record(), item)
 }
 
 /// Whether this record with so many hops is among those that a centre handed on.
@@ -68,7 +68,7 @@ pub fn has_sent(list: &[Sent], item: &Record, hops: u8) -> bool {
 fn are_same_records(one: &[Sent], other: &[Sent]) -> bool {
     for (place, sent) in one.iter().enumerate() {
         match other.get(place) {
-            Some(also) if is_sent(also, &sent.item, sent.hops) => {}
+            Some(also) if is_sent(also, sent.item.as_record(), sent.hops) => {}
             _ => return false,
         }
     }
@@ -99,7 +99,7 @@ fn is_same_order(one: &Ask, other: &Ask) -> bool {
             matches!(other, Ask::Send { after: from, most: also } if after == from && most == also)
         }
         Ask::Deliver { item, hops } => {
-            matches!(other, Ask::Deliver { item: also, hops: few } if hops == few && is_same_record(item, also))
+            matches!(other, Ask::Deliver { item: also, hops: few } if hops == few && is_same_record(item.as_record(), also.as_record()))
         }
         Ask::Relay {
             origin,

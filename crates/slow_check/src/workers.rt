@@ -91,7 +91,8 @@ fn prunes(centre: u8, note: &Note) -> bool {
 fn delivers(script: &Script, logs: &[Log], centre: u8, note: &Note) -> bool {
     match asked_at(note, centre) {
         Some((Ask::Deliver { item, hops }, _)) => {
-            item.stamp.centre != centre && was_mailed(script, logs, item, *hops, Some(centre))
+            let record = item.as_record();
+            record.stamp.centre != centre && was_mailed(script, logs, record, *hops, Some(centre))
         }
         _ => false,
     }

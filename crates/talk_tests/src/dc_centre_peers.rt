@@ -1,7 +1,7 @@
 // What centres answer one another, and what they refuse.
 use crate::told::{is_mailed, number_said};
 use dc_centre::Centre;
-use dc_talk::{Ask, Say};
+use dc_talk::{Ask, Say, SharedRecord};
 use ids_core::{Dot, NoMemory};
 use samples::{counter, inc_tx, pair};
 use std::alloc::Global;
@@ -45,7 +45,7 @@ fn applies(
     let (seq, deps, number) = record;
     let stamp = Stamp { centre: 1, seq };
     let tx = tx_of(alloc, number)?;
-    let item = Record { stamp, deps, tx };
+    let item = SharedRecord::new(alloc, Record { stamp, deps, tx })?;
     Ok(answers(alloc, centre, &Ask::Deliver { item, hops: 4 }, want)?)
 }
 
@@ -187,7 +187,7 @@ fn handed(
     let mut numbers = Vec::new(alloc);
     if let Say::Records { list } = &say {
         for sent in list.as_slice() {
-            numbers.push((sent.item.stamp.seq, sent.hops))?;
+            numbers.push((sent.item.as_record().stamp.seq, sent.hops))?;
         }
     }
     Ok(numbers)

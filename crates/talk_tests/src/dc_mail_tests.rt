@@ -1,6 +1,6 @@
 // Rounds of workers over links on one thread, through a door that answers from a list.
 use dc_mail::{Posts, close_all, receive_all, report_all, send_all};
-use dc_talk::{Ask, LinkFault, ListDoor, Log, Records, Say, Sent};
+use dc_talk::{Ask, LinkFault, ListDoor, Log, Records, Say, Sent, SharedRecord};
 use ids_core::Dot;
 use samples::{counter, inc_tx, pair};
 use std::alloc::Global;
@@ -24,7 +24,7 @@ fn five(alloc: Global) -> Result<Say, Fail> {
         );
         let deps = pair(0, 0);
         let tx = inc_tx(alloc, dot, seq, deps, &counter("a")?, &[5])?;
-        let item = Record { stamp, deps, tx };
+        let item = SharedRecord::new(alloc, Record { stamp, deps, tx })?;
         list.push(Sent { item, hops: HOPS })?;
     }
     Ok(Say::Records { list })
@@ -45,7 +45,7 @@ fn delivered(alloc: Global, door: &ListDoor, centre: u8) -> Result<Vec<u64>, Fai
     for (at, entry) in door.entries() {
         if let Ask::Deliver { item, hops: HOPS } = &entry.ask {
             if *at == centre {
-                numbers.push(item.stamp.seq)?;
+                numbers.push(item.as_record().stamp.seq)?;
             }
         }
     }

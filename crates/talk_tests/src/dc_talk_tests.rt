@@ -3,7 +3,7 @@ ghost use Rattle.std.specs.Prelude.{◌≤◌};
 ghost use Rattle.ids_core.specs.declared.limits.TheConstants.{MOST_CENTRES};
 
 use dc_centre::Centre;
-use dc_talk::{Ask, Door, ListDoor, Say, belongs, law_history};
+use dc_talk::{Ask, Door, ListDoor, Say, SharedRecord, belongs, law_history};
 use hist_lock::Trail;
 use ids_core::{Dot, NoMemory};
 use samples::{counter, inc_tx, pair, single};
@@ -43,7 +43,7 @@ fn is_fit_delivery(alloc: Global, hops: u8) -> Result<bool, Fail> {
     };
     let (stamp, deps) = (Stamp { centre: 1, seq: 1 }, pair(0, 0));
     let tx = inc_tx(alloc, dot, 1, deps, &counter("a")?, &[5])?;
-    let item = Record { stamp, deps, tx };
+    let item = SharedRecord::new(alloc, Record { stamp, deps, tx })?;
     Ok(Ask::Deliver { item, hops }.fits(2))
 }
 

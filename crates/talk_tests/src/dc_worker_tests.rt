@@ -5,7 +5,7 @@ ghost use Rattle.script_text.specs.Steps.{IsOperatorStep};
 
 use crate::printed::tells;
 use client_stub::operate;
-use dc_talk::{Ask, ListDoor, Log, Records, Say, Sent};
+use dc_talk::{Ask, ListDoor, Log, Records, Say, Sent, SharedRecord};
 use ids_core::{Dot, MOST_CENTRES};
 use samples::{counter, inc_tx, pair};
 use script_text::OperatorStep;
@@ -83,7 +83,7 @@ fn sent(alloc: Global, seq: u64) -> Result<Say, Fail> {
     let deps = pair(0, 0);
     let tx = inc_tx(alloc, dot, seq, deps, &counter("a")?, &[5])?;
     let mut list = Records::new(alloc);
-    let item = Record { stamp, deps, tx };
+    let item = SharedRecord::new(alloc, Record { stamp, deps, tx })?;
     list.push(Sent { item, hops: 3 })?;
     Ok(Say::Records { list })
 }
@@ -271,7 +271,7 @@ fn number_of(centre: u8, ask: &Ask) -> (u8, u64, u64) {
             after,
             most,
         } => (centre, *after, u64::from(*most)),
-        Ask::Deliver { item, hops: 3 } => (centre, item.stamp.seq, 3),
+        Ask::Deliver { item, hops: 3 } => (centre, item.as_record().stamp.seq, 3),
         _ => (0, 0, 0),
     }
 }

@@ -23,8 +23,9 @@ pub fn write_ask(text: &mut Vec<u8>, ask: &Ask) -> Result<(), NoMemory>
         }
         Ask::Send { after, most: _ } => write_named(text, b"send ", *after),
         Ask::Deliver { item, hops: _ } => {
-            write_named(text, b"deliver ", u64::from(item.stamp.centre))?;
-            write_named(text, b":", item.stamp.seq)
+            let stamp = item.as_record().stamp;
+            write_named(text, b"deliver ", u64::from(stamp.centre))?;
+            write_named(text, b":", stamp.seq)
         }
         Ask::Relay {
             origin,

@@ -1,5 +1,5 @@
 // The trail of a centre that hands on records: the slow look takes what it answers, and nothing else in its place.
-use dc_talk::{Ask, Records, Say, Sent};
+use dc_talk::{Ask, Records, Say, Sent, SharedRecord};
 use hist_lock::Entry;
 use ids_core::Dot;
 use samples::{counter, inc_tx, pair};
@@ -31,13 +31,14 @@ fn tx_of(alloc: Global, client: u32) -> Result<Tx, Fail> {
 }
 
 // The record of that stamp and client.
-fn record(alloc: Global, name: Name) -> Result<Record, Fail> {
+fn record(alloc: Global, name: Name) -> Result<SharedRecord, Fail> {
     let (centre, seq, client) = name;
-    Ok(Record {
+    let record = Record {
         stamp: Stamp { centre, seq },
         deps: pair(0, 0),
         tx: tx_of(alloc, client)?,
-    })
+    };
+    Ok(SharedRecord::new(alloc, record)?)
 }
 
 // The delivery of a record with so many hops, which is applied.

@@ -1,5 +1,6 @@
-use Rattle.std.proofs.Common.{◌≡◌, ◌<◌, [], ◌∷◌, ◌++◌, map, length, ap, ◌∙◌, arith}
+use Rattle.std.proofs.Common.{◌≡◌, ◌<◌, ◌-◌, [], ◌∷◌, ◌++◌, map, length, ap, ◌∙◌, arith}
 use Rattle.std.specs.Prelude.{slice_set, slice_index_or}
+use Rattle.tx_core.specs.declared.tx.Record.{Record}
 use Rattle.dc_centre.specs.Outboxes.{OutboxView}
 use Rattle.dc_centre.proofs.Rows.{rows_put}
 use Rattle.dc_centre.proofs.outbox.Outbox.put.Goals as goal
@@ -9,7 +10,7 @@ returns c =
     let R = c.self.inside.rows.items in
     let x = c.args.sent in
     let rows : map (λ row. row.items) R ≡ c.args.self.now.rows = ap (λ (o : OutboxView). o.rows) c.self.view_is in
-    let place = c.from.ensures in
+    let place : c.from.result ≡ x.item.stamp.centre - 1 = c.from.ensures ∙ ap (λ (r : Record). r.stamp.centre - 1) c.as_record.ensures in
     let long = c.self.invariant in
     let low = c.requires.origin.0 in
     let high = c.requires.origin.1 in
