@@ -1,5 +1,5 @@
 // Rounds of workers, over a door that answers from a list, and over links on one thread.
-ghost use Rattle.std.specs.Prelude.{◌≡◌, IfSome, IfOk};
+ghost use Rattle.std.specs.Prelude.{◌≡◌, IfOk};
 ghost use Rattle.dc_worker.specs.Inlets.{HasCount};
 
 use dc_talk::{Ask, LinkFault, ListDoor, Log, Records, Say, Sent, SharedRecord};
@@ -87,86 +87,30 @@ fn asks(alloc: Global, door: &ListDoor, centre: u8) -> Result<Vec<u64>, Fail> {
     Ok(numbers)
 }
 
-// What is delivered to a centre that is stopped of so many records in one round, and of more in a closing one, where a
-// second fault may be set between them.
-fn came(
-    alloc: Global,
-    first: LinkFault,
-    most: u64,
-    second: Option<LinkFault>,
-    last: u64,
-) -> Result<Vec<u64>, Fail>
-    requires first { HasCount first }
-    requires second { IfSome second HasCount }
+// What is delivered to a centre that is stopped of two records in a round, of which the second one is held, and of those up
+// to a last one in a closing round under another fault.
+fn came(alloc: Global, fault: LinkFault, last: u64) -> Result<Vec<u64>, Fail>
+    requires { HasCount fault }
 {
     let mut door = ListDoor::new(alloc, Vec::new(alloc));
     let mut log = Log::new(alloc, 1);
     let mut inlet = Inlet::new();
-    inlet.set(first);
-    bring(&mut door, 2, &mut inlet, records(alloc, 0, most)?, &mut log)?;
-    if let Some(fault) = second {
-        inlet.set(fault);
-    }
-    bring_rest(
-        &mut door,
-        2,
-        &mut inlet,
-        records(alloc, most, last)?,
-        &mut log,
-    )?;
+    inlet.set(LinkFault::Hold { every: 2 });
+    bring(&mut door, 2, &mut inlet, records(alloc, 0, 2)?, &mut log)?;
+    inlet.set(fault);
+    bring_rest(&mut door, 2, &mut inlet, records(alloc, 2, last)?, &mut log)?;
     asks(alloc, &door, 2)
-}
-
-#[test]
-fn a_fault_acts_on_each_so_many_th_record(rt: HostRuntime) -> Result<(), Fail> {
-    let alloc = rt.alloc();
-    let (drop, twice) = (LinkFault::Drop { every: 2 }, LinkFault::Twice { every: 2 });
-    let clean = came(alloc, LinkFault::Clean, 2, None, 3)?;
-    assert!(rt; clean.as_slice() == [1, 2, 3].as_slice());
-    let dropped = came(alloc, drop, 3, None, 5)?;
-    assert!(rt; dropped.as_slice() == [1, 3, 5].as_slice());
-    let doubled = came(alloc, twice, 1, None, 4)?;
-    assert!(rt; doubled.as_slice() == [1, 2, 2, 3, 4, 4].as_slice());
-    Ok(())
-}
-
-#[test]
-fn a_fault_of_each_one_acts_on_all(rt: HostRuntime) -> Result<(), Fail> {
-    let alloc = rt.alloc();
-    let dropped = came(alloc, LinkFault::Drop { every: 1 }, 1, None, 3)?;
-    assert!(rt; dropped.is_empty());
-    let doubled = came(alloc, LinkFault::Twice { every: 1 }, 1, None, 2)?;
-    assert!(rt; doubled.as_slice() == [1, 1, 2, 2].as_slice());
-    let held = came(alloc, LinkFault::Hold { every: 1 }, 2, None, 3)?;
-    assert!(rt; held.as_slice() == [1, 2, 3].as_slice());
-    Ok(())
-}
-
-#[test]
-fn a_record_is_held_until_the_next_one_or_the_end(rt: HostRuntime) -> Result<(), Fail> {
-    let alloc = rt.alloc();
-    let hold = LinkFault::Hold { every: 2 };
-    let open = came(alloc, hold, 1, None, 3)?;
-    assert!(rt; open.as_slice() == [1, 3, 2].as_slice());
-    let end = came(alloc, hold, 2, None, 4)?;
-    assert!(rt; end.as_slice() == [1, 3, 2, 4].as_slice());
-    let third = came(alloc, LinkFault::Hold { every: 3 }, 3, None, 5)?;
-    assert!(rt; third.as_slice() == [1, 2, 4, 3, 5].as_slice());
-    Ok(())
 }
 
 #[test]
 fn a_fault_is_set_while_a_record_is_held(rt: HostRuntime) -> Result<(), Fail> {
     let alloc = rt.alloc();
-    let hold = LinkFault::Hold { every: 2 };
-    let clean = came(alloc, hold, 2, Some(LinkFault::Clean), 3)?;
+    let clean = came(alloc, LinkFault::Clean, 3)?;
     assert!(rt; clean.as_slice() == [1, 3, 2].as_slice());
-    let dropped = came(alloc, hold, 2, Some(LinkFault::Drop { every: 1 }), 4)?;
+    let dropped = came(alloc, LinkFault::Drop { every: 1 }, 4)?;
     assert!(rt; dropped.as_slice() == [1, 2].as_slice());
-    let doubled = came(alloc, hold, 2, Some(LinkFault::Twice { every: 1 }), 3)?;
+    let doubled = came(alloc, LinkFault::Twice { every: 1 }, 3)?;
     assert!(rt; doubled.as_slice() == [1, 3, 3, 2].as_slice());
-    let held = came(alloc, hold, 2, Some(LinkFault::Hold { every: 3 }), 5)?;
-    assert!(rt; held.as_slice() == [1, 3, 2, 4, 5].as_slice());
     Ok(())
 }
 

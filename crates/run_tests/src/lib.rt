@@ -12,11 +12,7 @@ mod load_tests;
 #[cfg(test)]
 mod print_text_tests;
 #[cfg(test)]
-mod run_book_stamps;
-#[cfg(test)]
 mod run_book_tests;
-#[cfg(test)]
-mod run_book_values;
 #[cfg(test)]
 mod run_forks_tests;
 #[cfg(test)]

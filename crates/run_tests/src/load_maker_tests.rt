@@ -19,10 +19,3 @@ fn script_of_number_one(rt: HostRuntime) -> Result<(), Fail> {
     assert!(rt; begins(text.as_slice(), HEAD));
     Ok(())
 }
-
-#[test]
-fn script_of_the_greatest_number(rt: HostRuntime) -> Result<(), Fail> {
-    let text = script_of(rt.alloc(), 999_999_999)?;
-    assert_eq!(rt; text.len(), 442_207);
-    Ok(())
-}

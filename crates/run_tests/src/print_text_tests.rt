@@ -171,22 +171,6 @@ fn lines_of_relays(rt: HostRuntime) -> Result<(), Fail> {
     Ok(())
 }
 
-#[test]
-fn lines_of_prunes(rt: HostRuntime) -> Result<(), Fail> {
-    let alloc = rt.alloc();
-    let (centre, folded, trimmed) = (2, 3, 1);
-    let vector = Vector::zero(2).raise(&Stamp { centre: 2, seq: 15 });
-    let based = Line::Based {
-        centre,
-        vector,
-        folded,
-        trimmed,
-    };
-    assert!(rt; prints(alloc, based, "2 base 0,15 folded 3 trimmed 1")?);
-    assert!(rt; prints(alloc, Line::BaseDown { centre }, "2 base down")?);
-    Ok(())
-}
-
 // Notes a line, a call and another line.
 fn note(log: &mut Log, object: ObjectId) -> Result<(), NoMemory> {
     let (client, centre) = (1, 1);

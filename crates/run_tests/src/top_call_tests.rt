@@ -13,12 +13,6 @@ const FIRST_PATH: &[u8] =
 const FIRST_TEXT: &[u8] =
     b"c1 at 1\nc1 read c.a 5\nc1 commit 1\nc1 push 1 stamp 1:1\nc1 sees 1 own 1\n";
 
-const FIRST_TRAIL: &[u8] =
-    b"trail 1 1 by 2 hello welcome 0\ntrail 1 2 by 2 fetch c.a object\ntrail 1 3 by 2 commit 1.1 stamped 1:1\ntrail 1 4 by 2 refresh snap 1 own 1 top 1\nbasis c1 1\n";
-
-const PHASE: &[u8] =
-    b"centres 2 k 1\nclients 2\nrounds 2\nphase\nc1 connect 1\nc2 connect 2\nend\n";
-
 // A list of words.
 fn words_of(alloc: Global, list: &[&str]) -> Result<Vec<String>, AllocError> {
     let mut words = Vec::new(alloc);
@@ -58,44 +52,6 @@ fn a_block_is_played_from_begin_to_refresh(rt: HostRuntime) -> Result<(), Fail> 
 }
 
 #[test]
-fn the_trails_follow_the_text(rt: HostRuntime) -> Result<(), Fail> {
-    let words = words_of(rt.alloc(), &["serial", "--trail"])?;
-    let mut source = SteadySource::new(Vec::from_slice(rt.alloc(), FIRST_PATH)?);
-    let mut sink = SteadySink::new(rt.alloc());
-    let ended = swift_main(&rt, rt.alloc(), &words, &mut source, &mut sink, &FreeGate);
-    assert_eq!(rt; ended.status, 0);
-    assert!(rt; sink.bytes().starts_with(FIRST_TEXT));
-    assert!(rt; sink.bytes().ends_with(FIRST_TRAIL));
-    assert_eq!(rt;
-        sink.bytes().len(),
-        FIRST_TEXT.len().saturating_add(FIRST_TRAIL.len())
-    );
-    Ok(())
-}
-
-#[test]
-fn a_phase_is_played_with_threads(rt: HostRuntime) -> Result<(), Fail> {
-    let words = words_of(rt.alloc(), &["run"])?;
-    let mut source = SteadySource::new(Vec::from_slice(rt.alloc(), PHASE)?);
-    let mut sink = SteadySink::new(rt.alloc());
-    let ended = swift_main(&rt, rt.alloc(), &words, &mut source, &mut sink, &FreeGate);
-    assert_eq!(rt; ended.status, 0);
-    assert_eq!(rt; sink.bytes(), b"c1 at 1\nc2 at 2\n".as_slice());
-    Ok(())
-}
-
-#[test]
-fn a_number_is_answered_without_an_input(rt: HostRuntime) -> Result<(), Fail> {
-    let words = words_of(rt.alloc(), &["make", "7"])?;
-    let mut source = MemorySource::new(Vec::new(rt.alloc()), 1, Vec::new(rt.alloc()));
-    let mut sink = SteadySink::new(rt.alloc());
-    let ended = swift_main(&rt, rt.alloc(), &words, &mut source, &mut sink, &FreeGate);
-    assert_eq!(rt; (ended.status, source.calls()), (0, 0));
-    assert!(rt; sink.bytes().starts_with(b"centres 3 k 2\n"));
-    Ok(())
-}
-
-#[test]
 fn an_input_that_is_no_script_is_refused(rt: HostRuntime) -> Result<(), Fail> {
     let mut sink = MemorySink::new(rt.alloc(), 64, Vec::new(rt.alloc()));
     let ended = played(&rt, rt.alloc(), b"centres 1 k 1\n", &mut sink)?;
@@ -109,19 +65,6 @@ fn an_input_that_is_no_script_is_refused(rt: HostRuntime) -> Result<(), Fail> {
                 cause: Cause::Place
             })
         )
-    );
-    Ok(())
-}
-
-#[test]
-fn without_words_nothing_is_read(rt: HostRuntime) -> Result<(), Fail> {
-    let mut source = SteadySource::new(Vec::from_slice(rt.alloc(), FIRST_PATH)?);
-    let mut sink = SteadySink::new(rt.alloc());
-    let ended = swift_main(&rt, rt.alloc(), &[], &mut source, &mut sink, &FreeGate);
-    assert_eq!(rt; ended.status, 2);
-    assert_eq!(rt;
-        sink.bytes(),
-        b"usage: swift_sim run|serial [--trail] or make|load NUM\n".as_slice()
     );
     Ok(())
 }

@@ -11,34 +11,6 @@ fn trails_of(alloc: Global, text: &[u8]) -> Result<Vec<u8>, Fail> {
 }
 
 #[test]
-fn trails_of_a_first_path(rt: HostRuntime) -> Result<(), Fail> {
-    let text = trails_of(
-        rt.alloc(),
-        b"centres 1 k 1\nclients 1\nc1 connect 1\nc1 begin\nc1 inc c.a 5\nc1 read c.a\nc1 commit\nc1 push\nc1 refresh\n",
-    )?;
-    let want =
-        b"trail 1 1 by 2 hello welcome 0\ntrail 1 2 by 2 fetch c.a object\ntrail 1 3 by 2 commit 1.1 stamped 1:1\ntrail 1 4 by 2 refresh snap 1 own 1 top 1\nbasis c1 1\n";
-    assert_eq!(rt; text.as_slice(), want.as_slice());
-    Ok(())
-}
-
-// Whether a text ends so.
-fn ends(text: &[u8], tail: &[u8]) -> bool {
-    tail.len() <= text.len() && &text[text.len() - tail.len()..] == tail
-}
-
-#[test]
-fn bases_of_three_reads(rt: HostRuntime) -> Result<(), Fail> {
-    let text = trails_of(
-        rt.alloc(),
-        b"centres 1 k 1\nclients 2\nc1 connect 1\nc1 begin\nc1 inc c.a 5\nc1 read c.a\nc1 commit\nc1 read c.a\nc1 push\nc2 connect 1\nc2 read c.a\nc2 refresh\nc2 read c.a\n",
-    )?;
-    let want = b"basis c1 1\nbasis c1 2 1.1\nbasis c2 1\nbasis c2 2 1.1\n";
-    assert!(rt; ends(text.as_slice(), want));
-    Ok(())
-}
-
-#[test]
 fn a_relay_in_the_trail_of_the_centre_between(rt: HostRuntime) -> Result<(), Fail> {
     let text = trails_of(
         rt.alloc(),

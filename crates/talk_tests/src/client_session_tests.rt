@@ -1,13 +1,13 @@
-// A session: which changes it refuses, and how a commit goes out and comes back. What the steps of a
-// script show of a session is among the examples.
+// A session: how a commit goes out and comes back, and how calls end. What the steps of a script show of a session is
+// among the examples.
 use client_session::{Heard, Session};
 use dc_talk::{Ask, Call, Change, Outcome, Refusal, Say};
-use ids_core::{Dot, Name, NoMemory, ObjectId, OpId, Sort, Tags};
-use samples::{counter, mark, single};
+use ids_core::{NoMemory, ObjectId, Sort};
+use samples::{counter, single};
 use std::alloc::Global;
 use std::process::Abort;
 use std::test::Fail;
-use tx_core::{Op, State, Value};
+use tx_core::{State, Value};
 use vv_core::{Stamp, Vector};
 
 // Lets a session hear that centre 1 has nothing of it.
@@ -21,66 +21,6 @@ fn fetch(session: &mut Session, object: &ObjectId, state: State) -> Result<bool,
     let (centre, ask) = session.ask_fetch(object)?;
     let heard = session.hear(centre, &ask, &Say::Object { state })?;
     Ok(centre == 1 && matches!(heard, Heard::Took))
-}
-
-// A set in which a word has so many live adds.
-fn crowd(alloc: Global, word: Name, count: u64) -> Result<State, Fail> {
-    let Ok(over) = Tags::of(Vec::new(alloc)) else {
-        return Err(Fail::from("no identifiers ascend"));
-    };
-    let add = Op::Add { word, over };
-    let mut state = State::empty(alloc, Sort::Set)?;
-    for number in 0..count {
-        let dot = Dot { client: 2, number };
-        state.fold(&mark(1, OpId { dot, place: 0 }), &add)?;
-    }
-    Ok(state)
-}
-
-// Why a session does not take a change; none where it does.
-fn why_not(
-    alloc: Global,
-    session: &mut Session,
-    object: &ObjectId,
-    change: &Change,
-) -> Option<Refusal> {
-    session.update(alloc, object, change).err()
-}
-
-// Has a session refuse changes of a set in which a word has one live add more than they may be over.
-fn refuse(
-    rt: &impl Abort,
-    alloc: Global,
-    session: &mut Session,
-    many: &ObjectId,
-    word: Name,
-) -> Result<(), Fail> {
-    connect(session)?;
-    let delta = 1_000_000_000_001;
-    let large = Change::Inc { delta };
-    session.begin(alloc)?;
-    let why = why_not(alloc, session, many, &large);
-    assert!(rt; matches!(why, Some(Refusal::WrongKind)));
-    let why = why_not(alloc, session, &counter("a")?, &large);
-    assert!(rt; matches!(why, Some(Refusal::DeltaTooLarge)));
-    let add = Change::Add { word };
-    let why = why_not(alloc, session, many, &add);
-    assert!(rt; matches!(why, Some(Refusal::NeedsFetch { object }) if object == *many));
-    assert!(rt; fetch(session, many, crowd(alloc, word, 4_097)?)?);
-    for change in [add, Change::Remove { word }] {
-        let why = why_not(alloc, session, many, &change);
-        assert!(rt; matches!(why, Some(Refusal::TooManyTags { count: 4_097 })));
-    }
-    Ok(())
-}
-
-#[test]
-fn each_refusal_of_a_change_has_its_cause(rt: HostRuntime) -> Result<(), Fail> {
-    let word = Name::read(b"w")?;
-    let sort = Sort::Set;
-    let many = ObjectId { sort, name: word };
-    let mut session = Session::new(rt.alloc(), 1, 1, 2)?;
-    refuse(&rt, rt.alloc(), &mut session, &many, word)
 }
 
 // Commits a transaction that adds 5 to a counter: the number of the commit.

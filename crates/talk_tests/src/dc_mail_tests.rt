@@ -1,5 +1,5 @@
 // Rounds of workers over links on one thread, through a door that answers from a list.
-use dc_mail::{Posts, close_all, receive_all, report_all, send_all};
+use dc_mail::{Posts, close_all, receive_all, send_all};
 use dc_talk::{Ask, LinkFault, ListDoor, Log, Records, Say, Sent, SharedRecord};
 use ids_core::Dot;
 use samples::{counter, inc_tx, pair};
@@ -69,15 +69,5 @@ fn a_record_that_is_held_comes_in_the_closing_round(rt: HostRuntime) -> Result<(
     let all = delivered(alloc, &door, 2)?;
     assert!(rt; all.as_slice() == [1, 2, 3, 4, 5].as_slice());
     assert_eq!(rt; log.as_slice().len(), 13);
-    Ok(())
-}
-
-#[test]
-fn a_reporter_of_a_stopped_centre_tells_nobody(rt: HostRuntime) -> Result<(), Fail> {
-    let alloc = rt.alloc();
-    let mut door = ListDoor::new(alloc, Vec::new(alloc));
-    let mut log = Log::new(alloc, 5);
-    report_all(&mut door, 8, 1, &mut log)?;
-    assert_eq!(rt; log.as_slice().len(), 7);
     Ok(())
 }

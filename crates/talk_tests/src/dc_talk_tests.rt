@@ -10,19 +10,7 @@ use samples::{counter, inc_tx, pair, single};
 use std::alloc::Global;
 use std::test::Fail;
 use tx_core::Record;
-use vv_core::{Stamp, Vector};
-
-// Whether the asks of a client with that vector fit a system of one centre.
-fn are_fit(client: u32, at: Vector) -> bool {
-    Ask::Hello { client, need: at }.fits(1) && Ask::Refresh { client, at }.fits(1)
-}
-
-#[test]
-fn asks_fit_or_do_not(rt: HostRuntime) {
-    assert!(rt; are_fit(1, single(0)) && are_fit(1_024, single(0)));
-    assert!(rt; !are_fit(0, single(0)) && !are_fit(1_025, single(0)));
-    assert!(rt; !are_fit(1, pair(0, 0)));
-}
+use vv_core::Stamp;
 
 // Whether a relay of the records of an origin, at most so many, fits a system of two centres.
 fn is_fit_relay(origin: u8, most: u32) -> bool {

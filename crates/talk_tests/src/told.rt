@@ -4,24 +4,8 @@ use ids_core::NoMemory;
 use std::alloc::Global;
 use tx_core::{State, Value};
 
-/// Whether this is told of an answer to a client: a word and its numbers, in their order and 0 behind
-/// them. Of a snapshot and of a state nothing is told.
-pub fn is_told(say: &Say, want: (&str, u64, u64, u64)) -> bool {
-    let told = match say {
-        Say::Misfit => ("misfit", 0, 0, 0),
-        Say::Lacks { centre, need, have } => ("lacks", u64::from(*centre), *need, *have),
-        Say::Welcome { through } => ("welcome", *through, 0, 0),
-        Say::Known { through } => ("known", *through, 0, 0),
-        Say::OutOfOrder { have } => ("out of order", *have, 0, 0),
-        Say::Full { limit } => ("full", *limit, 0, 0),
-        Say::Stamped { stamp } => ("stamped", u64::from(stamp.centre), stamp.seq, 0),
-        _ => ("", 0, 0, 0),
-    };
-    told == want
-}
-
-/// The same of an answer to another centre. Of records there is their number; of a vector nothing is
-/// told.
+/// Whether this is told of an answer to another centre: a word and its numbers, in their order and 0 behind them. Of records
+/// there is their number; of a vector nothing is told.
 pub fn is_mailed(say: &Say, want: (&str, u64, u64, u64)) -> bool {
     let told = match say {
         Say::Misfit => ("misfit", 0, 0, 0),
@@ -50,14 +34,6 @@ pub fn is_mailed(say: &Say, want: (&str, u64, u64, u64)) -> bool {
 pub fn number_of(alloc: Global, state: &State) -> Result<Option<i128>, NoMemory> {
     match &state.value(alloc)? {
         Value::Number(number) => Ok(Some(*number)),
-        _ => Ok(None),
-    }
-}
-
-/// The number of the state that an answer has, if it has one.
-pub fn number_said(alloc: Global, say: &Say) -> Result<Option<i128>, NoMemory> {
-    match say {
-        Say::Object { state } => number_of(alloc, state),
         _ => Ok(None),
     }
 }

@@ -1,26 +1,18 @@
-//! Tests of the system on one thread: examples through one door that owns the centres, made scripts with relays, and events
-//! at random.
+//! Tests of the system on one thread, as only a caller of `World` sees it: events in odd orders, rounds that are not there, and
+//! a world that was refused memory.
 #![tactic(auto)]
 
+#[cfg(test)]
+mod chance;
 #[cfg(test)]
 mod dice;
 #[cfg(test)]
 mod events;
 #[cfg(test)]
-mod examples;
-#[cfg(test)]
-mod kept_door;
-#[cfg(test)]
-mod made;
-#[cfg(test)]
-mod prunes;
-#[cfg(test)]
-mod relays;
+mod reads;
 #[cfg(test)]
 mod rounds;
 #[cfg(test)]
 mod scripts;
 #[cfg(test)]
 mod spent;
-#[cfg(test)]
-mod spoilt;

@@ -1,5 +1,4 @@
-// Reads, looked at slowly: by the value of the object over the transactions that each of them stands on.
-use crate::same::is_same_value;
+// Reads of a book: whether each has the value that the book gives over the transactions that it stands on.
 use dc_talk::{Call, Deed, Note, Outcome};
 use ids_core::{Dot, NoMemory, ObjectId};
 use run_book::Book;
@@ -67,9 +66,9 @@ fn has_all(basis: &[Dot], earlier: &[Dot]) -> bool {
     true
 }
 
-/// How many reads with a value of the log at a place have the one that the book gives, over a basis with all of the one
-/// before, and how many there are.
-pub fn count_reads(alloc: Global, book: &Book, log: usize) -> Result<(u64, u64), NoMemory> {
+// How many reads with a value of the log at a place have the one that the book gives, over a basis with all of the one
+// before, and how many there are.
+fn count_in(alloc: Global, book: &Book, log: usize) -> Result<(u64, u64), NoMemory> {
     let notes = match book.logs.as_slice().get(log) {
         Some(log) => log.as_slice(),
         None => &[],
@@ -99,13 +98,27 @@ pub fn count_reads(alloc: Global, book: &Book, log: usize) -> Result<(u64, u64),
     Ok((agree, all))
 }
 
-/// Whether all reads of all logs do.
-pub fn all_read(alloc: Global, book: &Book) -> Result<bool, NoMemory> {
+/// The same of all logs.
+pub fn count_reads(alloc: Global, book: &Book) -> Result<(u64, u64), NoMemory> {
+    let (mut agree, mut all) = (0_u64, 0_u64);
     for log in 0..book.logs.as_slice().len() {
-        let (agree, all) = count_reads(alloc, book, log)?;
-        if agree != all {
-            return Ok(false);
+        let counts = count_in(alloc, book, log)?;
+        agree = agree.saturating_add(counts.0);
+        all = all.saturating_add(counts.1);
+    }
+    Ok((agree, all))
+}
+
+// Whether two values are alike.
+fn is_same_value(one: &Value, other: &Value) -> bool {
+    match one {
+        Value::Number(number) => matches!(other, Value::Number(also) if number == also),
+        Value::Word(word) => matches!(other, Value::Word(also) if word == also),
+        Value::Words(words) => {
+            matches!(other, Value::Words(also) if words.as_slice() == also.as_slice())
+        }
+        Value::Pairs(pairs) => {
+            matches!(other, Value::Pairs(also) if pairs.as_slice() == also.as_slice())
         }
     }
-    Ok(true)
 }

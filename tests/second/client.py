@@ -1,0 +1,235 @@
+"""A client: its session, and what each of its steps asks and prints.
+
+Each step is a generator. It yields a centre and an ask, gets the answer back, and tells the lines that are printed. What
+the look at causality needs of the client is written down as events: its commits, the snapshots that it heard, and its reads.
+"""
+import objects
+from words import Tx, vector_text, lack_text, value_text
+
+MOST_UPDATES = 256
+MOST_TAGS = 4096
+MOST_PENDING = 1024
+MOST_NUMBER = 1 << 62
+LOST = ("lost",)
+MISSES = {"down": "unreachable", "misfit": "misfit", "lost": "lost"}
+
+
+def end_text(say):
+    """What a push says behind its number."""
+    word = say[0]
+    if word in MISSES:
+        return MISSES[word]
+    if word == "stamped":
+        return f"stamp {say[1]}:{say[2]}"
+    return lack_text("lacks", say) if word == "lacks" else f"{word} {say[1]}"
+
+
+class Client:
+    def __init__(self, number, script, tell, places):
+        self.number, self.capacity = number, script.cache
+        self.vector = (0,) * script.n
+        self.own = self.mine = self.clock = 0
+        self.pending, self.draft, self.cache = [], None, []
+        self.link = None  # the centre, and the commits that it is known to have
+        self.armed = None
+        self.sent = {}  # the commits that were sent, by number
+        self.tell, self.places = tell, places
+        self.events = []
+        self.moves = 0
+
+    def say(self, text):
+        self.tell(self.number, f"c{self.number} {text}")
+
+    # ---- asks
+
+    def ask(self, centre, ask):
+        """An ask under the fault that is armed: what became of it, and whether the session took that."""
+        fault, self.armed = self.armed, None
+        if ask[0] == "commit":
+            self.sent.setdefault(ask[1].dot[1], ask[1])
+        if fault == "lose ask":
+            return LOST, False
+        say = yield centre, ask
+        if fault == "lose reply":
+            return LOST, False
+        took = self.hear(centre, ask, say)
+        if fault == "twice":
+            yield centre, ask
+        return say, took
+
+    def hear(self, centre, ask, say):
+        """Takes an answer, where it can be taken."""
+        if say[0] == "welcome":
+            self.moves += self.link is not None and self.link[0] != centre
+            self.link = (centre, min(say[1], self.own))
+        elif say[0] == "snap":
+            return self.hear_snap(centre, *say[1:])
+        elif say[0] == "object":
+            self.cache = [entry for entry in self.cache if entry[0] != ask[1]]
+            self.cache = ([(ask[1], ask[2], say[1])] + self.cache)[:self.capacity]
+        elif say[0] in ("stamped", "known"):
+            through = ask[1].dot[1] if say[0] == "stamped" else say[1]
+            self.link = (centre, min(max(self.link[1], through), self.own))
+        else:
+            return False
+        return True
+
+    def hear_snap(self, centre, vector, mine, top):
+        self.events.append(("snap", centre, len(self.places[centre])))
+        covers = all(new >= old for new, old in zip(vector, self.vector))
+        if not (covers and self.mine <= mine <= self.own and top <= MOST_NUMBER):
+            return False
+        self.pending = self.pending[mine - self.mine:]
+        self.vector, self.mine, self.clock = vector, mine, max(self.clock, top)
+        return True
+
+    # ---- steps
+
+    def step(self, word, said):
+        return getattr(self, "do_" + word, self.do_change)(word, *said)
+
+    def do_lose(self, word, what):
+        self.armed = f"lose {what}"
+        yield from ()
+
+    def do_twice(self, word):
+        self.armed = "twice"
+        yield from ()
+
+    def do_connect(self, word, centre):
+        say, _ = yield from self.ask(centre, ("hello", self.number, self.vector))
+        if say[0] == "welcome":
+            self.say(f"at {centre}")
+        elif say[0] == "lacks":
+            self.say(f"refused {centre} {lack_text('lacks', say)}")
+        else:
+            self.say(f"connect {centre} {MISSES[say[0]]}")
+
+    def do_begin(self, word):
+        if self.draft is not None:
+            self.say("begin open")
+        elif self.clock >= MOST_NUMBER:
+            self.say("begin clock")
+        else:
+            self.draft = []
+        yield from ()
+
+    def do_commit(self, word):
+        if self.draft is None:
+            self.say("commit closed")
+        elif not self.draft:
+            self.draft = None
+            self.say("commit none")
+        elif len(self.pending) >= MOST_PENDING:
+            self.say("commit pending 1024")
+        else:
+            self.own, self.clock = self.own + 1, self.clock + 1
+            tx = Tx((self.number, self.own), self.clock, self.vector, tuple(self.draft))
+            self.pending.append(tx)
+            self.events.append(("commit", tx))
+            self.draft = None
+            self.say(f"commit {self.own}")
+        yield from ()
+
+    def do_abort(self, word):
+        if self.draft is None:
+            self.say("abort closed")
+        self.draft = None
+        yield from ()
+
+    def do_refresh(self, word):
+        if self.link is None:
+            return self.say("refresh unconnected")
+        if self.draft is not None:
+            return self.say("refresh open")
+        say, took = yield from self.ask(self.link[0], ("refresh", self.number, self.vector))
+        if say[0] == "snap":
+            self.say(f"sees {vector_text(say[1])} own {say[2]}" if took else "refresh ignored")
+        elif say[0] == "lacks":
+            self.say(f"refresh {lack_text('lacks', say)}")
+        else:
+            self.say(f"refresh {MISSES[say[0]]}")
+
+    def do_again(self, word, centre, number):
+        if number not in self.sent:
+            return self.say(f"again {centre} {number} none")
+        say = yield centre, ("commit", self.sent[number])
+        self.say(f"again {centre} {number} {end_text(say)}")
+
+    # ---- pushes
+
+    def next_commit(self):
+        """The first commit that the connected centre is not known to have, if there is one."""
+        place = max(self.link[1], self.mine) - self.mine
+        return self.pending[place] if place < len(self.pending) else None
+
+    def do_push(self, word):
+        if self.link is None:
+            return self.say("push unconnected")
+        tx = self.next_commit()
+        if tx is None:
+            return self.say("push none")
+        say, _ = yield from self.ask(self.link[0], ("commit", tx))
+        self.say(f"push {tx.dot[1]} {end_text(say)}")
+
+    def do_flush(self, word):
+        if self.link is None:
+            return self.say("push unconnected")
+        while True:
+            tx = self.next_commit()
+            if tx is None:
+                return self.say(f"flushed {self.own}")
+            say, _ = yield from self.ask(self.link[0], ("commit", tx))
+            if say[0] not in ("stamped", "known"):
+                return self.say(f"push {tx.dot[1]} {end_text(say)}")
+
+    # ---- objects
+
+    def view(self, thing):
+        """What the client has of an object, or None where it has to be fetched. It is the last one used now."""
+        for place, (of, vector, state) in enumerate(self.cache):
+            if of == thing and vector == self.vector:
+                self.cache.insert(0, self.cache.pop(place))
+                ops = [op for tx in self.pending for op in objects.marked(tx.updates, tx.rank, tx.dot, thing)]
+                ops += objects.marked(self.draft or (), self.clock + 1, (self.number, self.own + 1), thing)
+                return (objects.fold(thing, state, ops),)
+        return None
+
+    def fetch(self, word, thing):
+        """What the client has of an object, which is fetched where it has to be, or None and a line that says why not."""
+        seen = self.view(thing)
+        if seen is not None:
+            return seen
+        if self.link is None:
+            return self.say(f"{word} {thing} unconnected")
+        say, took = yield from self.ask(self.link[0], ("fetch", thing, self.vector))
+        if took:
+            return self.view(thing)
+        if say[0] == "pruned":
+            return self.say(f"{word} {thing} pruned {say[1]}:{say[2]} at {say[3]}")
+        if say[0] == "lacks":
+            return self.say(f"{word} {thing} {lack_text('lacks', say)}")
+        return self.say(f"{word} {thing} {MISSES[say[0]]}")
+
+    def do_read(self, word, thing):
+        seen = yield from self.fetch("read", thing)
+        if seen is not None:
+            value = value_text(thing[0], objects.value_of(thing, seen[0]))
+            line = self.tell(self.number, f"c{self.number} read {thing} {value}")
+            self.events.append(("read", thing, self.own, self.vector, self.clock, tuple(self.draft or ()), line))
+
+    def do_change(self, word, thing, *said):
+        if self.draft is None:
+            return self.say(f"{word} {thing} closed")
+        if len(self.draft) >= MOST_UPDATES:
+            return self.say(f"{word} {thing} many 256")
+        op = (word, *said)
+        if objects.named(op) is not None:
+            seen = yield from self.fetch(word, thing)
+            if seen is None:
+                return
+            tags = objects.tags_of(thing, seen[0], said[0])
+            if len(tags) > MOST_TAGS:
+                return self.say(f"{word} {thing} tags {len(tags)}")
+            op += (tuple(tags),)
+        self.draft.append((thing, op))

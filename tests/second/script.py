@@ -1,0 +1,128 @@
+"""Reads a script: its settings, and its sections, each with its steps.
+
+A section is one step outside of phases, or a phase. A step is a tuple: the client's number, or 0 for the operator, then
+the word of the step, then what the line says behind it. A text that is no script is refused by one word: tests/grammar/run looks
+at causes, and this reader does not.
+"""
+import re
+from collections import namedtuple
+
+Section = namedtuple("Section", "phase steps")
+Script = namedtuple("Script", "n k clients cache limit threads rounds sections")
+
+NAME = r"[a-z0-9_]{1,32}"
+NUMBER = r"(?:0|[1-9][0-9]{0,18})"
+SETTINGS = {"cache": (1, 100000, 1024), "limit": (1, 1000000, 1000000), "threads": (1, 16, 4), "rounds": (0, 1000, 32)}
+CLIENT_FORMS = [
+    (rf"connect ({NUMBER})", "connect"), (r"begin", "begin"), (rf"inc (c\.{NAME}) (-?{NUMBER})", "inc"),
+    (rf"set (r\.{NAME}) ({NAME})", "set"), (rf"(add|del) (s\.{NAME}) ({NAME})", None),
+    (rf"put (m\.{NAME}) ({NAME}) ({NAME})", "put"), (rf"drop (m\.{NAME}) ({NAME})", "drop"),
+    (rf"read ([crsm]\.{NAME})", "read"), (r"(commit|abort|push|flush|refresh|twice)", None),
+    (rf"again ({NUMBER}) ({NUMBER})", "again"), (r"lose (ask|reply)", "lose"),
+]
+OPERATOR_FORMS = [
+    (rf"(down|up|prune) ({NUMBER})", None), (rf"ship ({NUMBER}) ({NUMBER}) ({NUMBER})", "ship"),
+    (rf"(ship|tell) ({NUMBER}) ({NUMBER})", None), (rf"relay ({NUMBER}) ({NUMBER}) ({NUMBER})", "relay"), (r"(settle)", None),
+    (rf"link ({NUMBER}) ({NUMBER}) (clean)", "link"), (rf"link ({NUMBER}) ({NUMBER}) (drop|twice|hold) ({NUMBER})", "link"),
+]
+FORMS = {"client": CLIENT_FORMS, "operator": OPERATOR_FORMS}
+COMPILED = {who: [(re.compile(form), word) for form, word in forms] for who, forms in FORMS.items()}
+# The last number of a step that has one beside its centres: how many centres stand before it, and its greatest value.
+COUNTED = {"ship": (2, 1000000), "link": (3, 1000000), "again": (1, 4611686018427387904)}
+CENTRES = {"connect": 1, "again": 1, "down": 1, "up": 1, "prune": 1, "ship": 2, "tell": 2, "link": 2, "relay": 3}
+
+
+class NoScript(Exception):
+    """The text is no script."""
+
+
+def words_of(text):
+    """The lines that count, each with its number, as words with one space between them."""
+    for number, line in enumerate(text.split("\n"), 1):
+        line = line[:-1] if line.endswith("\r") else line
+        words = line.replace("\t", " ").split()
+        if words and not words[0].startswith("#"):
+            yield number, " ".join(words)
+
+
+def refuse(number):
+    raise NoScript(f"line {number} of the script is none")
+
+
+def step_of(words, script, number):
+    """The step of a line."""
+    named = re.fullmatch(rf"c({NUMBER}) (.*)", words)
+    client = int(named[1]) if named else 0
+    if named and not 1 <= client <= script.clients:
+        refuse(number)
+    rest = named[2] if named else words
+    for form, word in COMPILED["client" if named else "operator"]:
+        found = form.fullmatch(rest)
+        if found:
+            said = list(found.groups())
+            said = said if word is None else [word] + said
+            return checked((client, *said), script, number)
+    refuse(number)
+
+
+def checked(step, script, number):
+    """The step with its numbers read, each of them in its range."""
+    word, said = step[1], list(step[2:])
+    for place in range(CENTRES.get(word, 0)):
+        said[place] = int(said[place])
+        if not 1 <= said[place] <= script.n or said[place] in said[:place]:
+            refuse(number)
+    if word in COUNTED and len(said) > COUNTED[word][0]:
+        said[-1] = int(said[-1])
+        if not 1 <= said[-1] <= COUNTED[word][1]:
+            refuse(number)
+    if word == "inc":
+        if said[1] == "-0" or abs(int(said[1])) > 10**12:
+            refuse(number)
+        said[1] = int(said[1])
+    return (step[0], word, *said)
+
+
+def header_of(lines):
+    """The settings, and the place of the first line behind them."""
+    heads = [re.fullmatch(rf"centres ({NUMBER}) k ({NUMBER})", lines[0][1]) if lines else None]
+    heads.append(re.fullmatch(rf"clients ({NUMBER})", lines[1][1]) if len(lines) > 1 else None)
+    if not all(heads):
+        refuse(lines[0][0] if lines else 1)
+    n, k, clients = int(heads[0][1]), int(heads[0][2]), int(heads[1][1])
+    if not (1 <= n <= 8 and 1 <= k <= n and 1 <= clients <= 1024):
+        refuse(1)
+    said, place = {}, 2
+    while place < len(lines) and lines[place][1].split()[0] in SETTINGS:
+        number, words = lines[place]
+        found = re.fullmatch(rf"(\w+) ({NUMBER})", words)
+        if not found or found[1] in said or not SETTINGS[found[1]][0] <= int(found[2]) <= SETTINGS[found[1]][1]:
+            refuse(number)
+        said[found[1]] = int(found[2])
+        place += 1
+    settings = {word: said.get(word, SETTINGS[word][2]) for word in SETTINGS}
+    return Script(n, k, clients, sections=[], **settings), place
+
+
+def read(text):
+    """The script that a text is."""
+    lines = list(words_of(text))
+    script, place = header_of(lines)
+    phase = None
+    for number, words in lines[place:]:
+        if words == "phase" and phase is None:
+            phase = []
+        elif words == "end" and phase is not None:
+            script.sections.append(Section(True, phase))
+            phase = None
+        else:
+            step = step_of(words, script, number)
+            if phase is None:
+                script.sections.append(Section(False, [step]))
+            elif step[1] in ("settle", "link"):
+                refuse(number)
+            else:
+                phase.append(step)
+    if phase is not None:
+        refuse(len(lines))
+    return script
