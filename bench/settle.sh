@@ -1,11 +1,11 @@
 #!/bin/sh
-# Times `settle` among 2, 4 and 8 centres, each with 1,000 and then 2,000 records that all others lack,
-# with the built program, and prints the rows of the table in docs/benchmarks.md. Each time is the least
-# of 15 runs of a script with a `settle` at its end, less the least of 15 without. Then it times a
-# `settle` among 8 centres that have nothing to ship, to relay or to tell: a tenth of what 10 more of
-# them take behind one that brought 100 records of each centre to all. The status is 1 where twice as
-# many records take more than 2.3 times as long, where the settle of nothing takes more than a
-# millisecond, or where the program gives a wrong end.
+# Times `settle` among 2, 4 and 8 centres that stamped 16,000 records together, and then 32,000, of which
+# each lacks those of all others, with the built program, and prints the rows of the table in
+# docs/benchmarks.md. Each time is the least of 15 runs of a script with a `settle` at its end, less the
+# least of 15 without. Then it times a `settle` among 8 centres that have nothing to ship, to relay or to
+# tell: a tenth of what 10 more of them take behind one that brought 100 records of each centre to all. The
+# status is 1 where twice as many records take more than 2.3 times as long, where the settle of nothing
+# takes more than a millisecond, or where the program gives a wrong end.
 #   bench/settle.sh              times crates/swift_sim/out/swift_sim
 #   SWIFT_SIM=FILE bench/settle.sh      times another program
 set -u
@@ -43,7 +43,8 @@ settles() {
 head_of centres 'records each' 'seconds to settle' 'ratio to the row above'
 for centres in 2 4 8; do
     before=
-    for count in 1000 2000; do
+    few=$((16000 / centres))
+    for count in "$few" $((2 * few)); do
         records "$centres" "$count" '' >"$room/apart"
         records "$centres" "$count" settle >"$room/settled"
         none=$(least 15 apart "$count") || wrong "$centres" centres, "$count" records
