@@ -49,34 +49,19 @@ fn applies(
     Ok(answers(alloc, centre, &Ask::Deliver { item, hops: 4 }, want)?)
 }
 
-// Delivers records of centre 1.
-fn deliver(rt: &impl Abort, alloc: Global, centre: &mut Centre) -> Result<(), Fail> {
-    for (seq, deps, number, want) in [
-        (1, pair(0, 0), 2, ("orphan", 2, 0, 0)),
-        (2, pair(0, 0), 1, ("gap", 0, 0, 0)),
-        (1, pair(0, 3), 1, ("waits", 2, 3, 0)),
-        (1, pair(0, 0), 1, ("applied", 1, 0, 0)),
-        (1, pair(0, 0), 1, ("old", 1, 0, 0)),
-        (2, pair(0, 0), 1, ("applied", 0, 0, 0)),
-        (0, pair(0, 0), 1, ("misfit", 0, 0, 0)),
-        (1_000_001, pair(0, 0), 1, ("misfit", 0, 0, 0)),
-        (3, pair(1_000_001, 0), 2, ("misfit", 0, 0, 0)),
-    ] {
-        assert!(rt;
-            applies(alloc, centre, (seq, deps, number), want)?,
-            "at {seq}"
-        );
-    }
-    Ok(())
-}
-
+// What no run shows: a delivery that is an orphan, and some that do not fit.
 #[test]
-fn each_delivery_is_applied_or_refused(rt: HostRuntime) -> Result<(), Fail> {
-    let mut centre = Centre::new(rt.alloc(), 2, 2, 1, 10)?;
-    deliver(&rt, rt.alloc(), &mut centre)?;
-    let last = Stamp { centre: 1, seq: 2 };
-    let next = Stamp { centre: 1, seq: 3 };
-    assert!(rt; centre.has(&last) && !centre.has(&next));
+fn a_delivery_is_an_orphan_or_does_not_fit(rt: HostRuntime) -> Result<(), Fail> {
+    let alloc = rt.alloc();
+    let mut centre = Centre::new(alloc, 2, 2, 1, 10)?;
+    let deps = pair(0, 0);
+    let misfit = ("misfit", 0, 0, 0);
+    assert!(rt; applies(alloc, &mut centre, (1, deps, 2), ("orphan", 2, 0, 0))?);
+    assert!(rt; applies(alloc, &mut centre, (0, deps, 1), misfit)?);
+    assert!(rt; applies(alloc, &mut centre, (1_000_001, deps, 1), misfit)?);
+    assert!(rt; applies(alloc, &mut centre, (1, deps, 1), ("applied", 1, 0, 0))?);
+    let stamp = Stamp { centre: 1, seq: 1 };
+    assert!(rt; centre.has(&stamp));
     Ok(())
 }
 
@@ -122,11 +107,7 @@ fn a_relay_has_the_records_of_an_origin_with_their_hops(rt: HostRuntime) -> Resu
     take_two(&rt, alloc, &mut centre)?;
     let first = handed(alloc, &mut centre, 1, 0)?;
     assert!(rt; first.as_slice() == [(1, 5), (2, 5)].as_slice());
-    let second = handed(alloc, &mut centre, 1, 1)?;
-    assert!(rt; second.as_slice() == [(2, 5)].as_slice());
     let own = handed(alloc, &mut centre, 2, 0)?;
     assert!(rt; own.as_slice() == [(1, 0)].as_slice());
-    assert!(rt; handed(alloc, &mut centre, 1, 2)?.is_empty());
-    assert!(rt; handed(alloc, &mut centre, 3, 0)?.is_empty());
     Ok(())
 }

@@ -106,15 +106,24 @@ fn a_list_door_answers_from_its_list(rt: HostRuntime) -> Result<(), Fail> {
     Ok(())
 }
 
-#[test]
-fn answers_belong_or_do_not(rt: HostRuntime) {
-    assert!(rt; belongs(&Ask::Stop, &Say::Stopped) && belongs(&Ask::Stop, &Say::Down));
-    assert!(rt; !belongs(&Ask::Start, &Say::Stopped));
-    let relay = Ask::Relay {
+// Whether an answer belongs to an ask.
+fn is_of(ask: Ask, say: Say) -> bool {
+    belongs(&ask, &say)
+}
+
+// A relay of one record of centre 1.
+fn relay() -> Ask {
+    Ask::Relay {
         origin: 1,
         after: 0,
         most: 1,
-    };
-    assert!(rt; belongs(&relay, &Say::Trimmed { from: 1 }) && !belongs(&relay, &Say::Started));
-    assert!(rt; belongs(&Ask::Prune, &Say::Down) && !belongs(&Ask::Prune, &Say::Stopped));
+    }
+}
+
+#[test]
+fn answers_belong_or_do_not(rt: HostRuntime) {
+    assert!(rt; is_of(Ask::Stop, Say::Stopped));
+    assert!(rt; !is_of(Ask::Start, Say::Stopped));
+    assert!(rt; is_of(relay(), Say::Trimmed { from: 1 }));
+    assert!(rt; !is_of(relay(), Say::Started));
 }
