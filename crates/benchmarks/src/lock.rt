@@ -4,8 +4,8 @@ ghost use Rattle.std.specs.Prelude.{◌≤◌, All};
 ghost use Rattle.host_lock.specs.Hosts.{IsOf};
 
 use crate::fault::Fault;
-use hist_lock::Kept;
 use host_lock::{Host, Pass};
+use machine_trail::Kept;
 use samples::Gate;
 use std::alloc::Global;
 use std::sync::Wait;

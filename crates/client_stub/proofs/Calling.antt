@@ -12,9 +12,9 @@ use Rattle.dc_talk.specs.declared.line.Line.{Line}
 use Rattle.dc_talk.specs.Logs.{Logged, noted}
 use Rattle.dc_talk.specs.Clients.{Client}
 use Rattle.dc_talk.specs.Calls.{Ends, did, outcome_of}
-use Rattle.script_text.specs.declared.object_call.ObjectCall.{ObjectCall}
-use Rattle.script_text.specs.declared.steps.AskFault.{AskFault}
-use Rattle.script_text.specs.Deeds.{CallDeeds, FetchDeeds, Progress, calls, call_line, is_ask, told}
+use Rattle.script_core.specs.declared.object_call.ObjectCall.{ObjectCall}
+use Rattle.script_core.specs.declared.steps.AskFault.{AskFault}
+use Rattle.script_core.specs.Deeds.{CallDeeds, FetchDeeds, Progress, calls, call_line, is_ask, told}
 use Rattle.dc_talk.specs.Acting.{noted_all}
 use Rattle.client_stub.specs.Playing.{Playing, StubView, Grows, beside, progress}
 use Rattle.client_stub.specs.Errands.{GrowsBy, MakesCall, needs_fetch, used_by}

@@ -18,10 +18,10 @@ use Rattle.dc_talk.specs.Doors.{DoorView}
 use Rattle.dc_talk.specs.Rule.{after, heard, takes, taken}
 use Rattle.dc_talk.proofs.Doors.{done_longer}
 use Rattle.client_session.specs.SessionAnswers.{commit_ask}
-use Rattle.script_text.specs.declared.steps.AskFault.{AskFault}
-use Rattle.script_text.specs.declared.steps.AskFault.TheVariants.{LoseAsk, LoseReply, Twice}
-use Rattle.script_text.specs.declared.steps.ClientStep.TheVariants.{Flush as FlushStep}
-use Rattle.script_text.specs.Deeds.{FlushDeeds, FlushEnds, Progress, Pushes, PushesOn, after_all, copies, fate_of, goes_on, push_line, told, flush_ends, flush_goes}
+use Rattle.script_core.specs.declared.steps.AskFault.{AskFault}
+use Rattle.script_core.specs.declared.steps.AskFault.TheVariants.{LoseAsk, LoseReply, Twice}
+use Rattle.script_core.specs.declared.steps.ClientStep.TheVariants.{Flush as FlushStep}
+use Rattle.script_core.specs.Deeds.{FlushDeeds, FlushEnds, Progress, Pushes, PushesOn, after_all, copies, fate_of, goes_on, push_line, told, flush_ends, flush_goes}
 use Rattle.client_stub.specs.declared.purpose.Purpose.TheVariants as purpose
 use Rattle.dc_talk.specs.Acting.{noted_all}
 use Rattle.client_stub.specs.Playing.{Playing, Grows, Takes, progress}

@@ -16,7 +16,7 @@ use Rattle.dc_talk.specs.Doors.{DoorView, IsSameDoor, IsBehind}
 use Rattle.dc_talk.specs.Rule.{after}
 use Rattle.dc_talk.proofs.Doors.{done_none, done_quiet, done_then, may_none}
 use Rattle.dc_talk.proofs.Acting.{noted_none, noted_then, behind_later, all_before, leaves_none, leaves_line, leaves_then, cut_none, cut_after}
-use Rattle.script_text.specs.Deeds.{after_all, told}
+use Rattle.script_core.specs.Deeds.{after_all, told}
 use Rattle.dc_talk.specs.Acting.{Acting, Leaves, IsAskBehind, IsCutShort, acting, noted_all}
 use Rattle.client_stub.specs.Playing.{Playing, Grows, AllowsAll}
 

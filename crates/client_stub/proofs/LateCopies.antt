@@ -17,8 +17,8 @@ use Rattle.dc_talk.specs.declared.line.Line.TheVariants as line
 use Rattle.dc_talk.specs.Logs.{Logged, entry_for, noted}
 use Rattle.dc_talk.specs.Doors.{DoorView, IsBehind, HasAsked}
 use Rattle.dc_talk.specs.Rule.{IsLate}
-use Rattle.script_text.specs.declared.steps.ClientStep.TheVariants.{Again}
-use Rattle.script_text.specs.Deeds.{AgainDeeds, StepDeeds, again_line, commit_asked, commit_sent, told}
+use Rattle.script_core.specs.declared.steps.ClientStep.TheVariants.{Again}
+use Rattle.script_core.specs.Deeds.{AgainDeeds, StepDeeds, again_line, commit_asked, commit_sent, told}
 use Rattle.dc_talk.specs.Acting.{acting, noted_all}
 use Rattle.client_stub.specs.Playing.{Playing, Grows, Takes, progress}
 use Rattle.dc_talk.proofs.Acting.{leaves_ask}

@@ -10,11 +10,11 @@ use Rattle.dc_talk.specs.declared.log.Deed.{Deed}
 use Rattle.dc_talk.specs.declared.log.Deed.TheVariants.{Asked}
 use Rattle.dc_talk.specs.Logs.{Logged}
 use Rattle.dc_talk.specs.Acting.{Acting, acting, noted_all}
-use Rattle.script_text.specs.declared.steps.OperatorStep.{OperatorStep}
-use Rattle.script_text.specs.declared.steps.OperatorStep.TheVariants.{ShipOne, Ship, Relay, Tell, Prune}
-use Rattle.script_text.specs.Deeds.{told}
-use Rattle.script_text.specs.Orders.{base_line, OperatorDeeds}
-use Rattle.script_text.specs.Carrying.{route, detour, ship_line, relay_line, Sends, Ships, Relays, Tells}
+use Rattle.script_core.specs.declared.steps.OperatorStep.{OperatorStep}
+use Rattle.script_core.specs.declared.steps.OperatorStep.TheVariants.{ShipOne, Ship, Relay, Tell, Prune}
+use Rattle.script_core.specs.Deeds.{told}
+use Rattle.script_core.specs.Orders.{base_line, OperatorDeeds}
+use Rattle.script_core.specs.Carrying.{route, detour, ship_line, relay_line, Sends, Ships, Relays, Tells}
 use Rattle.dc_worker.specs.Work.{Adds, CarriesSuch}
 use Rattle.client_stub.specs.Playing.{Operates}
 use Rattle.client_stub.proofs.Growth.{leaves_told}

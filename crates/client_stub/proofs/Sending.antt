@@ -13,14 +13,14 @@ use Rattle.dc_talk.specs.declared.line.Line.{Line}
 use Rattle.dc_talk.specs.Logs.{Logged, marked, noted, entry_for, entries_made}
 use Rattle.dc_talk.specs.Doors.{DoorView, IsBehind, HasDone}
 use Rattle.dc_talk.specs.Rule.{after, Gives}
-use Rattle.script_text.specs.declared.steps.AskFault.{AskFault}
-use Rattle.script_text.specs.declared.steps.AskFault.TheVariants.{LoseAsk, LoseReply, Twice}
-use Rattle.script_text.specs.Deeds.{copies, fate_of, told, took}
+use Rattle.script_core.specs.declared.steps.AskFault.{AskFault}
+use Rattle.script_core.specs.declared.steps.AskFault.TheVariants.{LoseAsk, LoseReply, Twice}
+use Rattle.script_core.specs.Deeds.{copies, fate_of, told, took}
 use Rattle.client_stub.specs.declared.purpose.Errand.{Errand}
 use Rattle.client_stub.specs.Purposes.{line_after, goes_after}
 use Rattle.dc_talk.specs.Acting.{Acting, Leaves, IsAskBehind, IsCutShort, acting, noted_all}
 use Rattle.dc_talk.proofs.Doors.{made_one}
-use Rattle.script_text.specs.Orders.{Orders}
+use Rattle.script_core.specs.Orders.{Orders}
 use Rattle.dc_worker.specs.Work.{AddsSuch}
 use Rattle.client_stub.specs.Playing.{Playing, StubView, Grows, beside}
 use Rattle.client_stub.specs.Errands.{AsksAgain, HasAskedFor, Runs, copied, goes_of, line_of, second_of}

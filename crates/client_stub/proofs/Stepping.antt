@@ -17,12 +17,12 @@ use Rattle.tx_core.specs.declared.tx.Tx.{Tx}
 use Rattle.dc_talk.specs.Clients.{Client}
 use Rattle.dc_talk.specs.Rule.{after, hello_of, refresh_of, fetch_of, next_commit}
 use Rattle.client_session.specs.SessionAnswers.{refresh_ask, fetch_ask, commit_ask}
-use Rattle.script_text.specs.declared.object_call.ObjectCall.{ObjectCall}
-use Rattle.script_text.specs.declared.steps.AskFault.{AskFault}
-use Rattle.script_text.specs.declared.steps.AskFault.TheVariants.{LoseAsk, LoseReply, Twice}
-use Rattle.script_text.specs.declared.steps.ClientStep.{ClientStep}
-use Rattle.script_text.specs.declared.steps.ClientStep.TheVariants.{Arm, Connect, Push, Refresh}
-use Rattle.script_text.specs.Deeds.{Asks, OrTells, OverNext, Pushes, FetchDeeds, RefreshDeeds, StepDeeds, after_all, after_fetch, armed_after, calls, copies, fate_of, told, took}
+use Rattle.script_core.specs.declared.object_call.ObjectCall.{ObjectCall}
+use Rattle.script_core.specs.declared.steps.AskFault.{AskFault}
+use Rattle.script_core.specs.declared.steps.AskFault.TheVariants.{LoseAsk, LoseReply, Twice}
+use Rattle.script_core.specs.declared.steps.ClientStep.{ClientStep}
+use Rattle.script_core.specs.declared.steps.ClientStep.TheVariants.{Arm, Connect, Push, Refresh}
+use Rattle.script_core.specs.Deeds.{Asks, OrTells, OverNext, Pushes, FetchDeeds, RefreshDeeds, StepDeeds, after_all, after_fetch, armed_after, calls, copies, fate_of, told, took}
 use Rattle.client_stub.specs.declared.purpose.Purpose.{Purpose}
 use Rattle.client_stub.specs.declared.purpose.Purpose.TheVariants as purpose
 use Rattle.client_stub.specs.declared.purpose.Errand.{Errand}

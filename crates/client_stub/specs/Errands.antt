@@ -17,9 +17,9 @@ use Rattle.dc_talk.specs.declared.log.Deed.TheVariants.{Asked}
 use Rattle.dc_talk.specs.Clients.{Client}
 use Rattle.dc_talk.specs.Calls.{outcome_of}
 use Rattle.dc_talk.specs.Doors.{DoorView}
-use Rattle.script_text.specs.declared.steps.AskFault.{AskFault}
-use Rattle.script_text.specs.declared.steps.AskFault.TheVariants.{Twice}
-use Rattle.script_text.specs.Deeds.{Asks, FlushEnds, PushesOn, calls, fate_of, is_ask, told, took}
+use Rattle.script_core.specs.declared.steps.AskFault.{AskFault}
+use Rattle.script_core.specs.declared.steps.AskFault.TheVariants.{Twice}
+use Rattle.script_core.specs.Deeds.{Asks, FlushEnds, PushesOn, calls, fate_of, is_ask, told, took}
 use Rattle.client_stub.specs.declared.purpose.Errand.{Errand}
 use Rattle.dc_talk.specs.Acting.{Acting, Leaves}
 use Rattle.client_stub.specs.Playing.{Playing, Grows, progress}

@@ -6,11 +6,11 @@ use Rattle.dc_talk.specs.Acting.{Acting, noted_all, IsAskBehind, Leaves}
 use Rattle.dc_talk.specs.Clients.{Client}
 use Rattle.dc_talk.specs.Doors.{DoorView, IsBehind, HasDone}
 use Rattle.dc_talk.specs.Rule.{after, Allows}
-use Rattle.script_text.specs.declared.steps.AskFault.{AskFault}
-use Rattle.script_text.specs.declared.steps.ClientStep.{ClientStep}
-use Rattle.script_text.specs.declared.steps.OperatorStep.{OperatorStep}
-use Rattle.script_text.specs.Deeds.{Progress, StepDeeds, after_all, armed_after}
-use Rattle.script_text.specs.Orders.{OperatorDeeds}
+use Rattle.script_core.specs.declared.steps.AskFault.{AskFault}
+use Rattle.script_core.specs.declared.steps.ClientStep.{ClientStep}
+use Rattle.script_core.specs.declared.steps.OperatorStep.{OperatorStep}
+use Rattle.script_core.specs.Deeds.{Progress, StepDeeds, after_all, armed_after}
+use Rattle.script_core.specs.Orders.{OperatorDeeds}
 
 -- a client, with the fault that is armed for its next ask
 pub record StubView : Type 0 where

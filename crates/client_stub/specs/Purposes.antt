@@ -2,7 +2,7 @@
 use Rattle.std.specs.Prelude.{ℕ, Bool, cond, Option, None}
 use Rattle.dc_talk.specs.declared.log.Fate.{Fate}
 use Rattle.dc_talk.specs.declared.line.Line.{Line}
-use Rattle.script_text.specs.Deeds.{hello_line, fetch_line, push_line, goes_on, refresh_line}
+use Rattle.script_core.specs.Deeds.{hello_line, fetch_line, push_line, goes_on, refresh_line}
 use Rattle.client_stub.specs.declared.purpose.Purpose.{Purpose}
 use Rattle.client_stub.specs.declared.purpose.Purpose.TheVariants.{Connect, Fetch, Push, Flush, Refresh}
 

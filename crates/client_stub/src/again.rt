@@ -1,8 +1,8 @@
 // Late copies of commits.
 ghost use Rattle.std.specs.Prelude.{◌≡◌, Some, IfOk, OnOk, OnErr};
 ghost use Rattle.dc_talk.specs.Doors.{IsBehind};
-ghost use Rattle.script_text.specs.declared.steps.ClientStep.TheVariants.{Again};
-ghost use Rattle.script_text.specs.Deeds.{commit_asked, commit_sent};
+ghost use Rattle.script_core.specs.declared.steps.ClientStep.TheVariants.{Again};
+ghost use Rattle.script_core.specs.Deeds.{commit_asked, commit_sent};
 ghost use Rattle.dc_talk.specs.Acting.{IsCutShort, acting};
 ghost use Rattle.client_stub.specs.Playing.{IsLinkBehind, Takes, beside};
 

@@ -1,8 +1,8 @@
 // The steps of a client that ask the connected centre, or one to connect to.
 ghost use Rattle.std.specs.Prelude.{◌≡◌, ◌≢◌, ◌↔◌, true, false, IsTrue, OnOk, OnErr};
 ghost use Rattle.dc_talk.specs.Doors.{IsBehind};
-ghost use Rattle.script_text.specs.declared.steps.ClientStep.TheVariants.{Connect, Push, Refresh};
-ghost use Rattle.script_text.specs.Deeds.{FetchDeeds};
+ghost use Rattle.script_core.specs.declared.steps.ClientStep.TheVariants.{Connect, Push, Refresh};
+ghost use Rattle.script_core.specs.Deeds.{FetchDeeds};
 ghost use Rattle.dc_talk.specs.Acting.{IsCutShort, acting};
 ghost use Rattle.client_stub.specs.Playing.{IsLinkBehind, Takes, beside, progress};
 ghost use Rattle.client_stub.specs.Errands.{GrowsBy, number_in};
@@ -12,7 +12,7 @@ use crate::purpose::{Errand, Purpose};
 use crate::stub::Stub;
 use dc_talk::{Ask, Door, Line, Log, Refusal};
 use ids_core::NoMemory;
-use script_text::ObjectCall;
+use script_core::ObjectCall;
 use std::alloc::Global;
 
 impl Stub {

@@ -2,7 +2,7 @@
 ghost use Rattle.std.specs.Prelude.{◌≡◌, IfOk, OnOk, OnErr};
 ghost use Rattle.dc_talk.specs.Calls.{outcome_of};
 ghost use Rattle.dc_talk.specs.Doors.{DoorView};
-ghost use Rattle.script_text.specs.Deeds.{CallDeeds, calls, change_call, read_call};
+ghost use Rattle.script_core.specs.Deeds.{CallDeeds, calls, change_call, read_call};
 ghost use Rattle.dc_talk.specs.Acting.{IsCutShort, acting};
 ghost use Rattle.client_stub.specs.Playing.{IsLinkBehind, beside, progress};
 ghost use Rattle.client_stub.specs.Errands.{GrowsBy, MakesCall, needs_fetch};
@@ -12,7 +12,7 @@ use crate::notes::tell;
 use crate::stub::Stub;
 use dc_talk::{Call, Change, Deed, Door, Log, Outcome, Refusal, StepWord};
 use ids_core::{NoMemory, ObjectId};
-use script_text::ObjectCall;
+use script_core::ObjectCall;
 use std::alloc::Global;
 
 impl Stub {

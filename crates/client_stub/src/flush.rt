@@ -1,6 +1,6 @@
 // Flushes.
 ghost use Rattle.std.specs.Prelude.{◌≡◌, IfOk, OnOk, OnErr};
-ghost use Rattle.script_text.specs.declared.steps.ClientStep.TheVariants.{Flush};
+ghost use Rattle.script_core.specs.declared.steps.ClientStep.TheVariants.{Flush};
 ghost use Rattle.dc_talk.specs.Acting.{IsCutShort, acting};
 ghost use Rattle.client_stub.specs.Playing.{IsLinkBehind, Takes, beside};
 ghost use Rattle.client_stub.specs.Errands.{FlushesOn};

@@ -3,11 +3,11 @@
 ghost use Rattle.std.specs.Prelude.{◌≡◌, IfOk};
 ghost use Rattle.dc_talk.specs.declared.calls.Call.TheVariants.{Begin as BeginCall, Change as ChangeCall, Read as ReadCall, Commit as CommitCall, Abort as AbortCall};
 ghost use Rattle.dc_talk.specs.declared.log.Fate.TheVariants.{Heard};
-ghost use Rattle.script_text.specs.Deeds.{lack, missed_by, miss_of, hello_line, word_of, call_line, fetch_line, answer_end, push_end, push_line, again_line, goes_on, refresh_line};
+ghost use Rattle.script_core.specs.Deeds.{lack, missed_by, miss_of, hello_line, word_of, call_line, fetch_line, answer_end, push_end, push_line, again_line, goes_on, refresh_line};
 
 use dc_talk::{Call, Change, Fate, Line, Miss, Outcome, PushEnd, Refusal, Say, StepWord};
 use ids_core::{NoMemory, ObjectId};
-use script_text::ObjectCall;
+use script_core::ObjectCall;
 use vv_core::Lack;
 
 // What a centre of which records are missing has, and what is needed of it.

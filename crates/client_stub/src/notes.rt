@@ -1,6 +1,6 @@
 // The lines that are noted in a log.
 ghost use Rattle.std.specs.Prelude.{◌≡◌, OnOk, OnErr};
-ghost use Rattle.script_text.specs.Deeds.{told};
+ghost use Rattle.script_core.specs.Deeds.{told};
 ghost use Rattle.dc_talk.specs.Acting.{noted_all};
 
 use dc_talk::{Deed, Line, Log};

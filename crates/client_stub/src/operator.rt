@@ -1,7 +1,7 @@
 // The steps of the operator.
 ghost use Rattle.std.specs.Prelude.{◌≡◌, ◌≢◌, ◌≤◌, ℕ, OnOk, OnErr};
-ghost use Rattle.script_text.specs.declared.steps.OperatorStep.TheVariants.{ShipOne, Ship, Relay, Tell, Prune};
-ghost use Rattle.script_text.specs.Steps.{IsOperatorStep};
+ghost use Rattle.script_core.specs.declared.steps.OperatorStep.TheVariants.{ShipOne, Ship, Relay, Tell, Prune};
+ghost use Rattle.script_core.specs.Steps.{IsOperatorStep};
 ghost use Rattle.dc_talk.specs.Acting.{IsCutShort, acting};
 ghost use Rattle.dc_talk.specs.Doors.{IsBehind};
 ghost use Rattle.client_stub.specs.Playing.{Operates};
@@ -13,7 +13,7 @@ use dc_worker::{
     tell,
 };
 use ids_core::NoMemory;
-use script_text::OperatorStep;
+use script_core::OperatorStep;
 
 /// Takes a step of the operator of `n` centres through a door to them, which it leaves at its place: its asks of
 /// the centres, and then its line, where it has one. A link's fault it leaves to the caller, who has the links. The notes are of the section and step that the log is at. An

@@ -3,7 +3,7 @@ ghost use Rattle.std.specs.Prelude.{◌≡◌};
 
 use crate::lines::{fetch_line, goes_on, hello_line, push_line, refresh_line};
 use dc_talk::{Ask, Fate, Line};
-use script_text::ObjectCall;
+use script_core::ObjectCall;
 
 /// Why a client asks a centre.
 #[derive(Clone, Copy)]

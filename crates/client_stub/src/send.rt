@@ -5,7 +5,7 @@ ghost use Rattle.dc_talk.specs.declared.log.Fate.TheVariants.{AskLost};
 ghost use Rattle.dc_talk.specs.declared.log.Deed.TheVariants.{Asked};
 ghost use Rattle.dc_talk.specs.Doors.{IsBehind, HasDone, MayHaveAsked};
 ghost use Rattle.dc_talk.specs.Rule.{after, heard, takes, Gives};
-ghost use Rattle.script_text.specs.Deeds.{fate_of, took};
+ghost use Rattle.script_core.specs.Deeds.{fate_of, took};
 ghost use Rattle.dc_talk.specs.Acting.{IsCutShort, acting};
 ghost use Rattle.client_stub.specs.Playing.{IsLinkBehind, beside};
 ghost use Rattle.client_stub.specs.Errands.{AsksAgain, HasAskedFor, Runs, second_of};
@@ -17,7 +17,7 @@ use client_session::Heard;
 use dc_talk::{Ask, Deed, Door, Fate, Line, Log, Say};
 use dc_worker::ask_only;
 use ids_core::NoMemory;
-use script_text::AskFault;
+use script_core::AskFault;
 
 impl Stub {
     // Makes an errand: its ask under the fault that is armed, with its second copy where there is one, and

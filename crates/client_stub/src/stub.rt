@@ -1,6 +1,6 @@
 // A client: its session, and the fault that is armed for its next ask.
 ghost use Rattle.std.specs.Prelude.{◌≡◌, Some, None, OnOk, OnErr};
-ghost use Rattle.script_text.specs.Steps.{IsStep};
+ghost use Rattle.script_core.specs.Steps.{IsStep};
 ghost use Rattle.dc_talk.specs.Acting.{IsCutShort, acting};
 ghost use Rattle.client_stub.specs.Playing.{IsLinkBehind, Takes, beside};
 
@@ -8,7 +8,7 @@ use crate::calls::{change_call, read_call};
 use client_session::Session;
 use dc_talk::{Call, Door, Log};
 use ids_core::NoMemory;
-use script_text::{AskFault, ClientStep};
+use script_core::{AskFault, ClientStep};
 use std::alloc::Global;
 use std::marker::Model;
 

@@ -22,14 +22,14 @@ use Rattle.tx_core.specs.declared.tx.Record.{Record}
 use Rattle.op_log.specs.declared.logged.Logged.{Logged}
 use Rattle.op_log.specs.Logs.{LogView, has_dot}
 use Rattle.check_point.specs.Points.{PointView, IsPointOf, HasFewUpdates}
-use Rattle.point_law.specs.StandFor.{StandFor, with_one}
-use Rattle.point_law.proofs.StandingFor.{none_stand, known_stands, new_stands, kept_stands}
+use Rattle.point_log.specs.StandFor.{StandFor, with_one}
+use Rattle.point_log.proofs.StandingFor.{none_stand, known_stands, new_stands, kept_stands}
 use Rattle.dc_talk.specs.Records.{count, vector, guard, first_stamp, top, has}
 use Rattle.dc_talk.specs.Dots.{dots_of}
 use Rattle.dc_talk.proofs.Counts.{count_more, guard_more}
-use Rattle.point_law.specs.declared.served.Served.{Served}
-use Rattle.point_law.specs.Served.{IsServed, AreServed, ServedEntries, served_of}
-use Rattle.point_law.proofs.Serving.{kept_on, served_more}
+use Rattle.point_log.specs.declared.served.Served.{Served}
+use Rattle.point_log.specs.Served.{IsServed, AreServed, ServedEntries, served_of}
+use Rattle.point_log.proofs.Serving.{kept_on, served_more}
 use Rattle.dc_centre.specs.Applied.{AppliedView, IsNext, is_fresh, IsGuard, IsCentreOf, IsRanged, IsPlaced, IsApplied}
 use Rattle.dc_centre.proofs.Firsts.{new_dot, has_before, has_last, first_had, first_new, first_stamp_range}
 

@@ -17,9 +17,9 @@ use Rattle.k_stable.specs.Tables.{told_by, rows_of, all_known_of}
 use Rattle.tx_core.specs.declared.tx.Record.{Record}
 use Rattle.tx_core.specs.declared.state.State.{State}
 use Rattle.tx_core.specs.Checks.{is_within}
-use Rattle.point_law.specs.Splits.{first_txs, is_inside}
-use Rattle.point_law.specs.StandFor.{state_told, count_told}
-use Rattle.point_law.proofs.StandingFor.{state_stands, mine_stands, count_stands}
+use Rattle.point_log.specs.Splits.{first_txs, is_inside}
+use Rattle.point_log.specs.StandFor.{state_told, count_told}
+use Rattle.point_log.proofs.StandingFor.{state_stands, mine_stands, count_stands}
 use Rattle.dc_talk.specs.declared.ask.Ask.{Ask}
 use Rattle.dc_talk.specs.declared.ask.Ask.TheVariants.{Hello, Refresh, Fetch, Commit, Send, Deliver, Relay, Report, Learn, Prune, Stop, Start}
 use Rattle.dc_talk.specs.declared.say.Say.{Say}

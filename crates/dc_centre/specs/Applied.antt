@@ -10,8 +10,8 @@ use Rattle.dup_guard.specs.Notes.{number_of, stamp_of}
 use Rattle.tx_core.specs.declared.tx.Record.{Record}
 use Rattle.op_log.specs.Logs.{LogView}
 use Rattle.check_point.specs.Points.{PointView, HasFewUpdates}
-use Rattle.point_law.specs.StandFor.{StandFor}
-use Rattle.point_law.specs.Served.{ServedEntries, AreServed}
+use Rattle.point_log.specs.StandFor.{StandFor}
+use Rattle.point_log.specs.Served.{ServedEntries, AreServed}
 use Rattle.dc_talk.specs.Records.{count, vector, guard, first_stamp, top, has}
 use Rattle.dc_talk.specs.Dots.{dots_of}
 

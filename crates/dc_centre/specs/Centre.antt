@@ -5,7 +5,7 @@ use Rattle.ids_core.specs.declared.limits.TheConstants.{MOST_CENTRES, MOST_RECOR
 use Rattle.vv_core.specs.Vectors.{at, join_of, Covers}
 use Rattle.dup_guard.specs.Notes.{number_of}
 use Rattle.k_stable.specs.Tables.{Table, IsTable, told_by, stable_of, all_known_of}
-use Rattle.point_law.specs.StandFor.{state_told, mine_told, count_told}
+use Rattle.point_log.specs.StandFor.{state_told, mine_told, count_told}
 use Rattle.dc_talk.specs.declared.ask.Ask.{Ask}
 use Rattle.dc_talk.specs.declared.ask.Ask.TheVariants.{Hello, Refresh, Fetch, Commit, Send, Deliver, Relay, Report, Learn, Prune, Stop, Start}
 use Rattle.dc_talk.specs.declared.say.Say.{Say}

@@ -7,7 +7,7 @@ ghost use Rattle.vv_core.specs.declared.stamp.Stamp.{Stamp};
 ghost use Rattle.dup_guard.specs.Notes.{number_of, stamp_of};
 ghost use Rattle.tx_core.specs.Checks.{IsFit};
 ghost use Rattle.tx_core.specs.declared.tx.Record.{Record as RecordOf};
-ghost use Rattle.point_law.specs.StandFor.{state_told, mine_told, count_told};
+ghost use Rattle.point_log.specs.StandFor.{state_told, mine_told, count_told};
 ghost use Rattle.dc_talk.specs.Records.{joined};
 ghost use Rattle.dc_centre.specs.Applied.{IsNext, is_fresh, IsApplied};
 
@@ -15,7 +15,7 @@ use check_point::Point;
 use dup_guard::Guard;
 use ids_core::{Dot, NoMemory, ObjectId};
 use op_log::Log;
-use point_law::{ServedStates, keep, mine_at, prune, serve};
+use point_log::{ServedStates, keep, mine_at, prune, serve};
 use std::alloc::Global;
 use std::collections::BTreeMap;
 use std::marker::Model;

@@ -9,7 +9,7 @@ use Rattle.std.proofs.lemmas.Option.{none-some, same_Some, slice_get_within, sli
 use mathlib.Core.Logic.{dite}
 use native.Mathlib.Decide.{ℕ_discrete}
 use Rattle.list_core.proofs.Gets.{all_get, get_seam}
-use Rattle.hist_lock.specs.History.{IsHistory, entry}
+use Rattle.machine_trail.specs.History.{IsHistory, entry}
 use Rattle.host_lock.specs.Law.{calls_of}
 use Rattle.host_lock.specs.Hosts.{IsOf, HasCalled, seen}
 use Rattle.dc_talk.specs.declared.ask.Ask.{Ask}

@@ -7,7 +7,7 @@ use Rattle.std.proofs.lemmas.List.{map-set, length-set, length-append, length-dr
 use Rattle.std.proofs.lemmas.Option.{slice_get-map, slice_get_within, slice_get-get_or, get_or_from_slice_get}
 use Rattle.ids_core.specs.declared.limits.TheConstants.{MOST_CENTRES}
 use Rattle.vv_core.specs.Vectors.{at}
-use Rattle.hist_lock.specs.History.{entry}
+use Rattle.machine_trail.specs.History.{entry}
 use Rattle.dc_talk.specs.declared.ask.Ask.{Ask}
 use Rattle.dc_talk.specs.declared.say.Say.{Say}
 use Rattle.dc_talk.specs.Entries.{Entry}

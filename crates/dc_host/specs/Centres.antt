@@ -1,7 +1,7 @@
 -- Centres that are kept with their trails.
 use Rattle.std.specs.Prelude.{ℕ, List, [], map}
-use Rattle.hist_lock.specs.declared.machine.Kept.{Kept}
-use Rattle.hist_lock.specs.History.{IsKept}
+use Rattle.machine_trail.specs.declared.machine.Kept.{Kept}
+use Rattle.machine_trail.specs.History.{IsKept}
 use Rattle.vv_core.specs.Vectors.{centres}
 use Rattle.dc_talk.specs.declared.ask.Ask.{Ask}
 use Rattle.dc_talk.specs.declared.say.Say.{Say}

@@ -4,8 +4,8 @@ ghost use Rattle.ids_core.specs.declared.limits.TheConstants.{MOST_CENTRES, MOST
 ghost use Rattle.dc_host.specs.Centres.{all_seen, IsKeptCentre, new_centres};
 
 use dc_centre::Centre;
-use hist_lock::Kept;
 use ids_core::NoMemory;
+use machine_trail::Kept;
 use std::alloc::Global;
 
 /// The `n` new centres in order, each with an empty trail: the I-th is centre I among `n`. Updates are stable

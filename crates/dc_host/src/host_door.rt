@@ -1,7 +1,7 @@
 // A door to the centres for one of several threads.
 ghost use Rattle.std.specs.Prelude.{◌≡◌, ◌<◌, ◌++◌, ℕ, List, length, true, IfOk, OnErr};
 ghost use Rattle.host_lock.specs.Hosts.{IsOf, HasCalled};
-ghost use Rattle.hist_lock.specs.History.{entry};
+ghost use Rattle.machine_trail.specs.History.{entry};
 ghost use Rattle.dc_talk.specs.Answers.{answer};
 ghost use Rattle.dc_talk.specs.Doors.{IsBehind, HasAsked, HasNotAsked, belongs};
 ghost use Rattle.dc_host.specs.HostDoors.{shown_over, place_over, ArePasses, HasCalledAt, HasNotCalledAt};

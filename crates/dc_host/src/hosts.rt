@@ -8,9 +8,9 @@ ghost use Rattle.dc_host.specs.Hosts.{AreFor, rows_of, bare_rows, new_rows, new_
 
 use crate::columns::{Column, cut};
 use dc_centre::Centre;
-use hist_lock::Kept;
 use host_lock::{Host, Pass};
 use ids_core::NoMemory;
+use machine_trail::Kept;
 use std::alloc::Global;
 use std::marker::Model;
 

@@ -1,6 +1,6 @@
 // A door to the centres on one thread.
 ghost use Rattle.std.specs.Prelude.{◌≡◌, ◌≤◌, ◌<◌, ◌+◌, ◌^◌, ℕ, true, IfOk, IfSome, OnOk, OnErr, [], ◌∷◌, ◌++◌, length, take, All};
-ghost use Rattle.hist_lock.specs.History.{entry};
+ghost use Rattle.machine_trail.specs.History.{entry};
 ghost use Rattle.dc_talk.specs.Answers.{answer, History};
 ghost use Rattle.dc_talk.specs.Doors.{IsBehind, HasAsked, HasNotAsked, belongs};
 ghost use Rattle.dc_host.specs.Centres.{seen_of, all_seen, IsKeptCentre};
@@ -8,9 +8,9 @@ ghost use Rattle.dc_host.specs.KeptDoors.{centre_at, trail_at, shown_of, place_o
 
 use dc_centre::Centre;
 use dc_talk::{Ask, Door, Say, Settings};
-use hist_lock::{Entry, Kept};
 use ids_core::{MOST_CENTRES, NoMemory};
 use list_core::List;
+use machine_trail::{Entry, Kept};
 use std::marker::Model;
 
 // How many centres there are at most.

@@ -5,9 +5,9 @@ use Rattle.std.proofs.lemmas.List.{append-nil}
 use Rattle.dc_talk.specs.declared.sent.Sent.{Sent}
 use Rattle.dc_talk.specs.Acting.{Acting}
 use Rattle.mail_link.specs.Ends.{GiverView}
-use Rattle.script_text.specs.Carrying.{route, no_turn}
-use Rattle.script_text.specs.Rounds.{mailed}
-use Rattle.script_text.proofs.Provenance.{carries_both}
+use Rattle.script_core.specs.Carrying.{route, no_turn}
+use Rattle.script_core.specs.Rounds.{mailed}
+use Rattle.script_core.proofs.Provenance.{carries_both}
 use Rattle.dc_worker.specs.Links.{Posts, outgoing}
 use Rattle.dc_worker.proofs.Work.{adds_none, adds_then}
 use Rattle.dc_worker.proofs.Mailing.{mailed_over, mailed_then, mails_fresh}

@@ -5,10 +5,10 @@ use Rattle.std.proofs.lemmas.List.{append-nil, get_or_default, get_or-set_same, 
 use Rattle.dc_talk.specs.declared.sent.Sent.{Sent}
 use Rattle.dc_talk.specs.Acting.{Acting}
 use Rattle.mail_link.specs.Ends.{GiverView, TakerView}
-use Rattle.script_text.specs.declared.rounds.TheConstants.{MOST_MAILED}
-use Rattle.script_text.specs.Carrying.{no_turn}
-use Rattle.script_text.specs.Links.{Inlet, clean_inlet, arrivals, arrived, inlet_after, inlet_closed}
-use Rattle.script_text.specs.Rounds.{Brings}
+use Rattle.script_core.specs.declared.rounds.TheConstants.{MOST_MAILED}
+use Rattle.script_core.specs.Carrying.{no_turn}
+use Rattle.script_core.specs.Links.{Inlet, clean_inlet, arrivals, arrived, inlet_after, inlet_closed}
+use Rattle.script_core.specs.Rounds.{Brings}
 use Rattle.dc_worker.specs.Work.{AddsSuch}
 use Rattle.dc_worker.specs.Links.{Receives, Closes, incoming}
 use Rattle.dc_worker.proofs.Work.{adds_none, adds_then}

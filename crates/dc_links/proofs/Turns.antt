@@ -8,8 +8,8 @@ use Rattle.list_core.proofs.Members.{In_from_filter}
 use Rattle.list_core.proofs.Ranges.{In_from_range}
 use Rattle.vv_core.specs.Vectors.{centres}
 use Rattle.dc_talk.specs.declared.log.Deed.{Deed}
-use Rattle.script_text.specs.Carrying.{InTurn, no_turn, next_turn}
-use Rattle.script_text.specs.Rounds.{others}
+use Rattle.script_core.specs.Carrying.{InTurn, no_turn, next_turn}
+use Rattle.script_core.specs.Rounds.{others}
 use Rattle.dc_worker.proofs.Turns.{centres_more, turns_then}
 
 -- ---- the others among one centre more

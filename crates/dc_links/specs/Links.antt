@@ -4,7 +4,7 @@ use Rattle.std.specs.List.{filter_map}
 use Rattle.std.specs.Global.{Vec}
 use Rattle.atomic_blocks.specs.Laid.{WebId}
 use Rattle.dc_talk.specs.declared.sent.Sent.{Sent}
-use Rattle.script_text.specs.Links.{Inlet, clean_inlet}
+use Rattle.script_core.specs.Links.{Inlet, clean_inlet}
 use Rattle.mail_link.specs.Ends.{GiverView, TakerView}
 
 module _ {X : Type 0} where

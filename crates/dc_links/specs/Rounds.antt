@@ -4,11 +4,11 @@ use Rattle.dc_talk.specs.declared.sent.Sent.{Sent}
 use Rattle.dc_talk.specs.declared.log.Deed.{Deed}
 use Rattle.dc_talk.specs.Acting.{Acting}
 use Rattle.mail_link.specs.Ends.{GiverView, TakerView}
-use Rattle.script_text.specs.declared.rounds.TheConstants.{MOST_MAILED}
-use Rattle.script_text.specs.Carrying.{route}
-use Rattle.script_text.specs.Provenance.{CarriesAll}
-use Rattle.script_text.specs.Links.{Inlet, arrivals, arrived, inlet_after, inlet_closed}
-use Rattle.script_text.specs.Rounds.{SenderDeeds, Mails, mailed, Brings, ReceiverDeeds}
+use Rattle.script_core.specs.declared.rounds.TheConstants.{MOST_MAILED}
+use Rattle.script_core.specs.Carrying.{route}
+use Rattle.script_core.specs.Provenance.{CarriesAll}
+use Rattle.script_core.specs.Links.{Inlet, arrivals, arrived, inlet_after, inlet_closed}
+use Rattle.script_core.specs.Rounds.{SenderDeeds, Mails, mailed, Brings, ReceiverDeeds}
 use Rattle.dc_worker.specs.Work.{Adds, AddsSuch, CarriesSuch}
 use Rattle.dc_links.specs.Links.{IsOther, put_to, put_between, taken_from, inlet_from}
 

@@ -4,7 +4,7 @@ use Rattle.std.specs.Prelude.{◌&&◌, slice_set}
 use Rattle.std.proofs.lemmas.Bool.{cases_eq, eq-eqb, ne_eqb}
 use Rattle.std.proofs.lemmas.List.{get_or-set_same, get_or-set_other}
 use Rattle.ids_core.specs.declared.limits.TheConstants.{MOST_CENTRES}
-use Rattle.script_text.specs.Mail.{Post, new_post}
+use Rattle.script_core.specs.Mail.{Post, new_post}
 use Rattle.dc_mail.specs.Posts.{place_of, post_at, IsCentre, HasSet}
 
 -- a place is one of as many as there are pairs of centres

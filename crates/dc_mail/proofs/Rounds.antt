@@ -9,10 +9,10 @@ use Rattle.dc_talk.specs.declared.sent.Sent.{Sent}
 use Rattle.dc_talk.specs.declared.log.Deed.{Deed}
 use Rattle.dc_talk.specs.declared.line.Line.{Line}
 use Rattle.dc_talk.specs.Acting.{Acting}
-use Rattle.script_text.specs.Carrying.{route, Tells, InTurn, no_turn, next_turn}
-use Rattle.script_text.specs.Mail.{Post, post_put}
-use Rattle.script_text.specs.Rounds.{others, Mails, mailed, Brings, ReporterDeeds}
-use Rattle.script_text.proofs.Provenance.{carries_both}
+use Rattle.script_core.specs.Carrying.{route, Tells, InTurn, no_turn, next_turn}
+use Rattle.script_core.specs.Mail.{Post, post_put}
+use Rattle.script_core.specs.Rounds.{others, Mails, mailed, Brings, ReporterDeeds}
+use Rattle.script_core.proofs.Provenance.{carries_both}
 use Rattle.dc_worker.specs.Work.{AddsSuch, CarriesSuch}
 use Rattle.dc_worker.proofs.Work.{adds_none, adds_then}
 use Rattle.dc_worker.proofs.Turns.{centres_more, turns_then, carries_such_then}

@@ -1,7 +1,7 @@
 -- What lies on the links between centres.
 use Rattle.std.specs.Prelude.{◌≡◌, ◌≤◌, ℕ, ◌+◌, ◌-◌, ◌*◌, ◌==◌, ◌&&◌, cond, List, replicate, slice_index_or}
 use Rattle.ids_core.specs.declared.limits.TheConstants.{MOST_CENTRES}
-use Rattle.script_text.specs.Mail.{Post, new_post}
+use Rattle.script_core.specs.Mail.{Post, new_post}
 
 -- the place of the link from one centre to another
 abbrev pub place_of : ℕ → ℕ → ℕ

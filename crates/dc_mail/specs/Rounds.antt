@@ -3,9 +3,9 @@ use Rattle.std.specs.Prelude.{◌≡◌, ℕ, ◌==◌, nat_le, ◌&&◌, not, B
 use Rattle.dc_talk.specs.declared.sent.Sent.{Sent}
 use Rattle.dc_talk.specs.declared.log.Deed.{Deed}
 use Rattle.dc_talk.specs.Acting.{Acting}
-use Rattle.script_text.specs.Provenance.{CarriesAll}
-use Rattle.script_text.specs.Mail.{Post, post_put}
-use Rattle.script_text.specs.Rounds.{SenderDeeds, mailed, ReceiverDeeds}
+use Rattle.script_core.specs.Provenance.{CarriesAll}
+use Rattle.script_core.specs.Mail.{Post, post_put}
+use Rattle.script_core.specs.Rounds.{SenderDeeds, mailed, ReceiverDeeds}
 use Rattle.dc_worker.specs.Work.{Adds}
 use Rattle.dc_mail.specs.Posts.{post_at, IsCentre}
 

@@ -3,7 +3,7 @@ ghost use Rattle.std.specs.Prelude.{◌≡◌, ◌≤◌, OnOk, OnErr};
 ghost use Rattle.ids_core.specs.declared.limits.TheConstants.{MOST_CENTRES};
 ghost use Rattle.dc_talk.specs.Acting.{acting, IsCutShort};
 ghost use Rattle.dc_talk.specs.Doors.{IsBehind};
-ghost use Rattle.script_text.specs.Mail.{due_at_close, post_closed};
+ghost use Rattle.script_core.specs.Mail.{due_at_close, post_closed};
 ghost use Rattle.dc_mail.specs.Rounds.{HasReceived};
 
 use crate::posts::Posts;

@@ -3,9 +3,9 @@ ghost use Rattle.std.specs.Prelude.{◌≡◌, ◌<◌, ◌*◌, IfOk, OnOk, OnE
 ghost use Rattle.ids_core.specs.declared.limits.TheConstants.{MOST_CENTRES};
 ghost use Rattle.dc_talk.specs.Acting.{acting, IsCutShort};
 ghost use Rattle.dc_talk.specs.Doors.{IsBehind};
-ghost use Rattle.script_text.specs.Links.{clean_inlet};
-ghost use Rattle.script_text.specs.Mail.{post_put, post_set, due_in_round, post_after_round, due_at_close, post_closed};
-ghost use Rattle.script_text.specs.Rounds.{Brings};
+ghost use Rattle.script_core.specs.Links.{clean_inlet};
+ghost use Rattle.script_core.specs.Mail.{post_put, post_set, due_in_round, post_after_round, due_at_close, post_closed};
+ghost use Rattle.script_core.specs.Rounds.{Brings};
 ghost use Rattle.dc_worker.specs.Inlets.{HasCount};
 ghost use Rattle.dc_worker.specs.Work.{AddsSuch};
 ghost use Rattle.dc_mail.specs.Posts.{place_of, post_at, IsCentre, new_posts, HasSet};
@@ -27,7 +27,7 @@ pub struct Posts {
 impl Model for Posts {
     ghost use Rattle.std.specs.Prelude.{◌≡◌, ◌*◌, length, List};
     ghost use Rattle.ids_core.specs.declared.limits.TheConstants.{MOST_CENTRES};
-    ghost use Rattle.script_text.specs.Mail.{Post};
+    ghost use Rattle.script_core.specs.Mail.{Post};
 
     ghost Value = { List Post };
 

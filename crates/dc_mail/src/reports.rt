@@ -2,7 +2,7 @@
 ghost use Rattle.std.specs.Prelude.{◌≡◌, OnOk, OnErr};
 ghost use Rattle.dc_talk.specs.Acting.{acting, IsCutShort};
 ghost use Rattle.dc_talk.specs.Doors.{IsBehind};
-ghost use Rattle.script_text.specs.Rounds.{ReporterDeeds};
+ghost use Rattle.script_core.specs.Rounds.{ReporterDeeds};
 ghost use Rattle.dc_worker.specs.Work.{CarriesSuch};
 
 use dc_talk::{Door, Log};

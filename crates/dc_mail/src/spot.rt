@@ -2,16 +2,16 @@
 ghost use Rattle.std.specs.Prelude.{◌≡◌, ◌≤◌, [], take, drop, length, min, IfOk, OnOk, OnErr};
 ghost use Rattle.dc_talk.specs.Acting.{acting, IsCutShort};
 ghost use Rattle.dc_talk.specs.Doors.{IsBehind};
-ghost use Rattle.script_text.specs.Links.{clean_inlet};
-ghost use Rattle.script_text.specs.Mail.{new_post, post_put, post_set, taken_in_round, due_in_round, post_after_round, due_at_close, post_closed};
-ghost use Rattle.script_text.specs.Rounds.{Brings};
+ghost use Rattle.script_core.specs.Links.{clean_inlet};
+ghost use Rattle.script_core.specs.Mail.{new_post, post_put, post_set, taken_in_round, due_in_round, post_after_round, due_at_close, post_closed};
+ghost use Rattle.script_core.specs.Rounds.{Brings};
 ghost use Rattle.dc_worker.specs.Inlets.{HasCount};
 ghost use Rattle.dc_worker.specs.Work.{AddsSuch};
 
 use dc_talk::{Door, LinkFault, Log, Records, Sent};
 use dc_worker::{Inlet, bring, bring_rest};
 use ids_core::NoMemory;
-use script_text::MOST_MAILED;
+use script_core::MOST_MAILED;
 use std::alloc::Global;
 use std::collections::VecDeque;
 use std::marker::Model;
@@ -25,7 +25,7 @@ pub(crate) struct Spot {
 }
 
 impl Model for Spot {
-    ghost use Rattle.script_text.specs.Mail.{Post};
+    ghost use Rattle.script_core.specs.Mail.{Post};
 
     ghost Value = { Post };
 

@@ -1,5 +1,5 @@
 -- What a centre was asked, and what it answered.
-use Rattle.hist_lock.specs.declared.machine.Entry as machine
+use Rattle.machine_trail.specs.declared.machine.Entry as machine
 use Rattle.dc_talk.specs.declared.ask.Ask.{Ask}
 use Rattle.dc_talk.specs.declared.say.Say.{Say}
 

@@ -11,7 +11,7 @@ pub trait Door {
     type Place;
 
     ghost use Rattle.std.specs.Prelude.{◌≡◌, true, IfOk, OnErr};
-    ghost use Rattle.hist_lock.specs.History.{entry};
+    ghost use Rattle.machine_trail.specs.History.{entry};
     ghost use Rattle.dc_talk.specs.Doors.{DoorView, IsBehind, HasAsked, HasNotAsked, belongs};
 
     // What no ask changes.

@@ -3,4 +3,4 @@ use crate::ask::Ask;
 use crate::say::Say;
 
 /// One ask of a caller, with its answer.
-pub type Entry = hist_lock::Entry<Ask, Say>;
+pub type Entry = machine_trail::Entry<Ask, Say>;

@@ -1,6 +1,6 @@
 // A door that answers from a list, for tests.
 ghost use Rattle.std.specs.Prelude.{◌≡◌, true, IfOk, OnOk, OnErr, [], ◌∷◌, ◌++◌, drop};
-ghost use Rattle.hist_lock.specs.History.{entry};
+ghost use Rattle.machine_trail.specs.History.{entry};
 ghost use Rattle.dc_talk.specs.Doors.{IsBehind, HasAsked, HasNotAsked, belongs};
 ghost use Rattle.dc_talk.specs.ListDoors.{shown_of, next_answer};
 

@@ -21,7 +21,7 @@ use Rattle.dc_talk.specs.Answers.{fits, part_of, send_answer, deliver_answer, te
 use Rattle.dc_talk.proofs.Vectors.{same_vector-true}
 use Rattle.dc_talk.proofs.Growth.{carried_push}
 use Rattle.dc_talk.proofs.Horizons.{horizon_more}
-use Rattle.script_text.specs.Carrying.{is_news}
+use Rattle.script_core.specs.Carrying.{is_news}
 use Rattle.dc_worker.specs.Settled.{IsAlike}
 
 pub alike_self : (s : Settings) (x : List Entry) → IsAlike s x x

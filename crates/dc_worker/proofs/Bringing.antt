@@ -9,12 +9,12 @@ use Rattle.dc_talk.specs.declared.log.Deed.{Deed}
 use Rattle.dc_talk.specs.Acting.{Acting}
 use Rattle.dc_talk.specs.declared.links.LinkFault.{LinkFault}
 use Rattle.dc_talk.specs.declared.links.LinkFault.TheVariants.{Clean, Drop, Twice, Hold}
-use Rattle.script_text.specs.Provenance.{WasSent, Carries, CarriesAll}
-use Rattle.script_text.specs.Links.{is_nth, is_held, Inlet, arrivals, arrived, arrived_count, inlet_after}
-use Rattle.script_text.specs.Rounds.{Brings}
+use Rattle.script_core.specs.Provenance.{WasSent, Carries, CarriesAll}
+use Rattle.script_core.specs.Links.{is_nth, is_held, Inlet, arrivals, arrived, arrived_count, inlet_after}
+use Rattle.script_core.specs.Rounds.{Brings}
 use Rattle.dc_worker.specs.Work.{AddsSuch}
 use Rattle.dc_worker.specs.Inlets.{comes, stays}
-use Rattle.script_text.proofs.Provenance.{sent_before}
+use Rattle.script_core.proofs.Provenance.{sent_before}
 use Rattle.dc_worker.proofs.Work.{adds_none, adds_then}
 use Rattle.dc_worker.proofs.Items.{arrivals_item, arrivals_next, arrived_next, after_next}
 

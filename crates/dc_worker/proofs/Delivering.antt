@@ -10,7 +10,7 @@ use Rattle.dc_talk.specs.declared.log.Deed.{Deed}
 use Rattle.dc_talk.specs.declared.log.Deed.TheVariants.{Asked}
 use Rattle.dc_talk.specs.declared.line.ShipEnd.{ShipEnd}
 use Rattle.dc_talk.specs.Acting.{Acting}
-use Rattle.script_text.specs.Carrying.{is_there, delivery_end, Delivers}
+use Rattle.script_core.specs.Carrying.{is_there, delivery_end, Delivers}
 use Rattle.dc_worker.specs.Work.{Adds, AddsSuch, HasDelivered}
 use Rattle.dc_worker.proofs.Work.{adds_none, adds_then}
 

@@ -6,8 +6,8 @@ use Rattle.std.proofs.Math.Seq.{take-length, take-append_seam, drop-append_seam,
 use Rattle.std.proofs.Math.Nat.{sub-zero, mod-add-mod, mod-eq_of_lt, mod-zero, mod-one}
 use Rattle.dc_talk.specs.declared.links.LinkFault.{LinkFault}
 use Rattle.dc_talk.specs.declared.links.LinkFault.TheVariants.{Clean, Drop, Twice, Hold}
-use Rattle.script_text.specs.Steps.{IsFault}
-use Rattle.script_text.specs.Links.{Inlet, is_nth, is_held, numbered_on, swapped, through, passed, arrivals, still_held, arrived, inlet_after}
+use Rattle.script_core.specs.Steps.{IsFault}
+use Rattle.script_core.specs.Links.{Inlet, is_nth, is_held, numbered_on, swapped, through, passed, arrivals, still_held, arrived, inlet_after}
 use Rattle.dc_worker.specs.Inlets.{HasCount, comes, stays}
 
 -- a choice between the same

@@ -12,10 +12,10 @@ use Rattle.dc_talk.specs.declared.log.Fate.TheVariants.{Unheard}
 use Rattle.dc_talk.specs.declared.log.Deed.{Deed}
 use Rattle.dc_talk.specs.declared.log.Deed.TheVariants.{Asked}
 use Rattle.dc_talk.specs.Acting.{Acting}
-use Rattle.script_text.specs.declared.rounds.TheConstants.{MOST_MAILED}
-use Rattle.script_text.specs.Carrying.{Route}
-use Rattle.script_text.specs.Provenance.{WasSent, CarriesAll}
-use Rattle.script_text.specs.Rounds.{records_in, AfterNeeded, Mails, mailed_from, mailed}
+use Rattle.script_core.specs.declared.rounds.TheConstants.{MOST_MAILED}
+use Rattle.script_core.specs.Carrying.{Route}
+use Rattle.script_core.specs.Provenance.{WasSent, CarriesAll}
+use Rattle.script_core.specs.Rounds.{records_in, AfterNeeded, Mails, mailed_from, mailed}
 use Rattle.dc_worker.specs.declared.sends.Handed.{Handed}
 use Rattle.dc_worker.specs.declared.sends.Handed.TheVariants.{Items, Ended}
 use Rattle.dc_worker.specs.Work.{AddsSuch, CarriesSuch}

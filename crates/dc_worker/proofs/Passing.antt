@@ -15,13 +15,13 @@ use Rattle.dc_talk.specs.Entries.{Entry}
 use Rattle.dc_talk.specs.Logs.{Logged, marked, entries_made}
 use Rattle.dc_talk.specs.Acting.{Acting, Leaves}
 use Rattle.dc_talk.proofs.Doors.{made_then}
-use Rattle.script_text.specs.Carrying.{Route, routes, detours, Ships, Tells, InTurn, no_turn, next_turn, Passes, Settles, last_pass, one_pass, is_news}
+use Rattle.script_core.specs.Carrying.{Route, routes, detours, Ships, Tells, InTurn, no_turn, next_turn, Passes, Settles, last_pass, one_pass, is_news}
 use Rattle.dc_worker.specs.declared.rounds.Round.TheVariants.{Ship, Tell}
 use Rattle.dc_worker.specs.Work.{Adds, CarriesSuch}
-use Rattle.script_text.specs.Provenance.{CarriesAll}
+use Rattle.script_core.specs.Provenance.{CarriesAll}
 use Rattle.dc_worker.specs.Rounds.{Does, DoesRelay, passes_of}
 use Rattle.dc_worker.proofs.Work.{adds_none, adds_then}
-use Rattle.script_text.proofs.Provenance.{carries_both}
+use Rattle.script_core.proofs.Provenance.{carries_both}
 
 -- ---- a pass
 

@@ -26,7 +26,7 @@ use Rattle.dc_talk.specs.Entries.{Entry}
 use Rattle.dc_talk.specs.Logs.{entry_for, entries_made}
 use Rattle.dc_talk.specs.Answers.{answer, History}
 use Rattle.dc_talk.proofs.Doors.{made_one, made_other, made_then}
-use Rattle.script_text.specs.Carrying.{Route, route, routes, Detour, detour, detours, is_there, delivery_end, Delivers, AfterSend, Sends, AfterReport, Supplies, own_need, origin_need, Ships, Relays, AfterTold, Tells, InTurn, no_turn, next_turn, Passes, is_news}
+use Rattle.script_core.specs.Carrying.{Route, route, routes, Detour, detour, detours, is_there, delivery_end, Delivers, AfterSend, Sends, AfterReport, Supplies, own_need, origin_need, Ships, Relays, AfterTold, Tells, InTurn, no_turn, next_turn, Passes, is_news}
 use Rattle.dc_worker.specs.Settled.{Centres, AreNumbered, behind_deeds, PassesAmong, IsAlike}
 use Rattle.dc_worker.proofs.Alike.{alike_self, alike_then, IsCarried, alike_answer, alike_more}
 

@@ -10,11 +10,11 @@ use Rattle.dc_talk.specs.declared.sent.Sent.{Sent}
 use Rattle.dc_talk.specs.declared.ask.Ask.TheVariants.{Prune}
 use Rattle.dc_talk.specs.declared.line.Line.{Line}
 use Rattle.dc_talk.specs.declared.log.Deed.{Deed}
-use Rattle.script_text.specs.Carrying.{route, Tells, InTurn, no_turn, next_turn}
-use Rattle.script_text.specs.Orders.{Orders}
-use Rattle.script_text.specs.Provenance.{CarriesAll}
-use Rattle.script_text.specs.Rounds.{Mails, SenderDeeds, ReporterDeeds, PrunerDeeds, is_prune_round, others, mailed_from, mailed}
-use Rattle.script_text.proofs.Provenance.{turns_carry, tells_carry}
+use Rattle.script_core.specs.Carrying.{route, Tells, InTurn, no_turn, next_turn}
+use Rattle.script_core.specs.Orders.{Orders}
+use Rattle.script_core.specs.Provenance.{CarriesAll}
+use Rattle.script_core.specs.Rounds.{Mails, SenderDeeds, ReporterDeeds, PrunerDeeds, is_prune_round, others, mailed_from, mailed}
+use Rattle.script_core.proofs.Provenance.{turns_carry, tells_carry}
 use Rattle.dc_worker.proofs.Mailing.{IsFresh, mailed_over, mailed_then, mails_carry}
 use Rattle.dc_worker.proofs.Turns.{centres_more}
 

@@ -10,14 +10,14 @@ use Rattle.dc_talk.specs.declared.log.Deed.{Deed}
 use Rattle.dc_talk.specs.declared.log.Deed.TheVariants.{Asked}
 use Rattle.dc_talk.specs.declared.line.ShipEnd.{ShipEnd}
 use Rattle.dc_talk.specs.Acting.{Acting}
-use Rattle.script_text.specs.Carrying.{Route, stopped_end, Delivers, AfterSend, Sends, AfterReport, Supplies}
-use Rattle.script_text.specs.Provenance.{Carries, CarriesAll}
+use Rattle.script_core.specs.Carrying.{Route, stopped_end, Delivers, AfterSend, Sends, AfterReport, Supplies}
+use Rattle.script_core.specs.Provenance.{Carries, CarriesAll}
 use Rattle.dc_worker.specs.declared.sends.Handed.{Handed}
 use Rattle.dc_worker.specs.declared.sends.Handed.TheVariants.{Items, Ended}
 use Rattle.dc_worker.specs.Work.{Adds, AddsSuch, CarriesSuch}
 use Rattle.dc_worker.specs.Sends.{handed_of, AfterNeed, AsksFor}
 use Rattle.dc_worker.proofs.Work.{adds_then}
-use Rattle.script_text.proofs.Provenance.{sends_carry}
+use Rattle.script_core.proofs.Provenance.{sends_carry}
 
 -- ---- a report and an ask for what is needed
 

@@ -3,9 +3,9 @@ use Rattle.std.proofs.Common.{◌≡◌, ℕ, ◌+◌, ◌-◌, Bool, true, fals
 use Rattle.std.proofs.lemmas.List.{append-nil}
 use Rattle.dc_talk.specs.declared.sent.Sent.{Sent}
 use Rattle.dc_talk.specs.Acting.{Acting}
-use Rattle.script_text.specs.Links.{Inlet, arrived, inlet_after}
-use Rattle.script_text.specs.Carrying.{Route}
-use Rattle.script_text.specs.Rounds.{Mails, Brings}
+use Rattle.script_core.specs.Links.{Inlet, arrived, inlet_after}
+use Rattle.script_core.specs.Carrying.{Route}
+use Rattle.script_core.specs.Rounds.{Mails, Brings}
 use Rattle.dc_worker.specs.Work.{AddsSuch, CarriesSuch}
 use Rattle.dc_worker.specs.Links.{IsMore, outgoing, Posts, Incoming, incoming, Receives, Closes}
 use Rattle.dc_worker.proofs.Bringing.{arrived_none, after_none, arrived_then, after_then, brings_none, brings_both, brings_rest}

@@ -8,10 +8,10 @@ use Rattle.dc_talk.specs.declared.log.Deed.{Deed}
 use Rattle.dc_talk.specs.declared.log.Deed.TheVariants.{Asked}
 use Rattle.dc_talk.specs.declared.line.Line.{Line}
 use Rattle.dc_talk.specs.Acting.{Acting}
-use Rattle.script_text.specs.Carrying.{Route, tell_line, AfterTold, Tells}
+use Rattle.script_core.specs.Carrying.{Route, tell_line, AfterTold, Tells}
 use Rattle.dc_worker.specs.Work.{Adds, CarriesSuch}
 use Rattle.dc_worker.proofs.Work.{adds_then}
-use Rattle.script_text.proofs.Provenance.{tells_carry}
+use Rattle.script_core.proofs.Provenance.{tells_carry}
 
 -- a report of a vector that is told to the other centre
 pub tells_vector : (a b c : Acting) (r : Route) (vector : List ℕ) (first say : Say) (line : Option Line) → Adds a b (Asked r.from Report (Unheard first) ∷ []) → first ≡ Vector vector → Adds b c (Asked r.to (Learn r.from vector) (Unheard say) ∷ []) → line ≡ tell_line r r.to say → CarriesSuch (λ deeds. Tells r deeds line) a c

@@ -10,12 +10,12 @@ use Rattle.vv_core.specs.Vectors.{centres}
 use Rattle.dc_talk.specs.declared.line.ShipEnd.{ShipEnd}
 use Rattle.dc_talk.specs.declared.log.Deed.{Deed}
 use Rattle.dc_talk.specs.Acting.{Acting}
-use Rattle.script_text.specs.Carrying.{route, Detour, detour, detours, Relays, InTurn, no_turn, next_turn}
+use Rattle.script_core.specs.Carrying.{route, Detour, detour, detours, Relays, InTurn, no_turn, next_turn}
 use Rattle.dc_worker.specs.declared.rounds.Round.{Round}
 use Rattle.dc_worker.specs.Work.{CarriesSuch}
 use Rattle.dc_worker.specs.Rounds.{Does, DoesRelay, routes_from, detour_to, detours_to, detours_by, detours_from, detours_of}
 use Rattle.dc_worker.proofs.Work.{adds_none, adds_then}
-use Rattle.script_text.proofs.Provenance.{carries_both}
+use Rattle.script_core.proofs.Provenance.{carries_both}
 
 -- ---- deeds of two kinds, one behind the other
 

@@ -13,7 +13,7 @@ use Rattle.dc_talk.specs.Doors.{IsBehind, HasAsked}
 use Rattle.dc_talk.specs.Acting.{Acting, IsCutShort}
 use Rattle.dc_talk.proofs.Doors.{made_other, made_then}
 use Rattle.dc_talk.proofs.Acting.{behind_later, leaves_none, leaves_ask, leaves_then, cut_after}
-use Rattle.script_text.specs.Orders.{Orders}
+use Rattle.script_core.specs.Orders.{Orders}
 use Rattle.dc_worker.specs.Work.{Adds, AddsSuch}
 
 -- no deeds

@@ -4,7 +4,7 @@ use Rattle.std.specs.Option.{option_to_list}
 use Rattle.dc_talk.specs.declared.sent.Sent.{Sent}
 use Rattle.dc_talk.specs.declared.links.LinkFault.{LinkFault}
 use Rattle.dc_talk.specs.declared.links.LinkFault.TheVariants.{Clean, Drop, Twice, Hold}
-use Rattle.script_text.specs.Links.{is_nth, is_held}
+use Rattle.script_core.specs.Links.{is_nth, is_held}
 use Rattle.dc_worker.specs.declared.inlets.Lot.{Lot}
 use Rattle.dc_worker.specs.declared.inlets.Due.{Due}
 

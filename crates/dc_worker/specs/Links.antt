@@ -2,9 +2,9 @@
 use Rattle.std.specs.Prelude.{◌≡◌, ℕ, List, ◌++◌, length}
 use Rattle.dc_talk.specs.declared.sent.Sent.{Sent}
 use Rattle.dc_talk.specs.Acting.{Acting}
-use Rattle.script_text.specs.Carrying.{Route}
-use Rattle.script_text.specs.Links.{Inlet, arrivals, arrived, inlet_after, inlet_closed}
-use Rattle.script_text.specs.Rounds.{Mails, Brings}
+use Rattle.script_core.specs.Carrying.{Route}
+use Rattle.script_core.specs.Links.{Inlet, arrivals, arrived, inlet_after, inlet_closed}
+use Rattle.script_core.specs.Rounds.{Mails, Brings}
 use Rattle.dc_worker.specs.Work.{AddsSuch, CarriesSuch}
 
 -- a list has grown at its end, or is as it was

@@ -4,7 +4,7 @@ use Rattle.vv_core.specs.Vectors.{centres}
 use Rattle.dc_talk.specs.declared.line.Line.{Line}
 use Rattle.dc_talk.specs.declared.line.ShipEnd.{ShipEnd}
 use Rattle.dc_talk.specs.declared.log.Deed.{Deed}
-use Rattle.script_text.specs.Carrying.{Route, route, Detour, detour, Ships, Relays, Tells, Settles, last_pass, one_pass}
+use Rattle.script_core.specs.Carrying.{Route, route, Detour, detour, Ships, Relays, Tells, Settles, last_pass, one_pass}
 use Rattle.dc_worker.specs.declared.rounds.Round.{Round}
 use Rattle.dc_worker.specs.declared.rounds.Round.TheVariants.{Ship, Tell}
 

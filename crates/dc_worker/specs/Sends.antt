@@ -8,7 +8,7 @@ use Rattle.dc_talk.specs.declared.say.Say.TheVariants.{Records, Vector}
 use Rattle.dc_talk.specs.declared.log.Fate.TheVariants.{Unheard}
 use Rattle.dc_talk.specs.declared.log.Deed.{Deed}
 use Rattle.dc_talk.specs.declared.log.Deed.TheVariants.{Asked}
-use Rattle.script_text.specs.Carrying.{Route, send_end, stopped_end}
+use Rattle.script_core.specs.Carrying.{Route, send_end, stopped_end}
 use Rattle.dc_worker.specs.declared.sends.Handed.{Handed}
 use Rattle.dc_worker.specs.declared.sends.Handed.TheVariants.{Items, Ended}
 

@@ -6,7 +6,7 @@ use Rattle.dc_talk.specs.Entries.{Entry}
 use Rattle.dc_talk.specs.Logs.{entries_made}
 use Rattle.dc_talk.specs.Trails.{carried, told, horizon, stopped}
 use Rattle.dc_talk.specs.Answers.{History}
-use Rattle.script_text.specs.Carrying.{Passes}
+use Rattle.script_core.specs.Carrying.{Passes}
 
 -- so many centres, with the settings and the trail of each
 pub record Centres : Type 0 where

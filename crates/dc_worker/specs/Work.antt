@@ -6,11 +6,11 @@ use Rattle.dc_talk.specs.declared.say.Say.{Say}
 use Rattle.dc_talk.specs.declared.log.Fate.TheVariants.{Unheard}
 use Rattle.dc_talk.specs.declared.log.Deed.TheVariants.{Asked}
 use Rattle.dc_talk.specs.declared.line.ShipEnd.{ShipEnd}
-use Rattle.script_text.specs.Carrying.{is_there, delivery_end}
+use Rattle.script_core.specs.Carrying.{is_there, delivery_end}
 use Rattle.dc_talk.specs.declared.log.Deed.{Deed}
 use Rattle.dc_talk.specs.Logs.{entries_made}
 use Rattle.dc_talk.specs.Acting.{Acting, Leaves}
-use Rattle.script_text.specs.Provenance.{CarriesAll}
+use Rattle.script_core.specs.Provenance.{CarriesAll}
 
 -- a log and what the door shows grow by these deeds; the door's list of a centre that was asked stays short
 pub record Adds (old new : Acting) (deeds : List Deed) : Type 0 where

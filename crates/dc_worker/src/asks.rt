@@ -5,7 +5,7 @@ ghost use Rattle.dc_talk.specs.declared.log.Deed.TheVariants.{Asked};
 ghost use Rattle.dc_talk.specs.Acting.{acting, IsCutShort};
 ghost use Rattle.dc_talk.specs.Doors.{IsBehind, belongs};
 ghost use Rattle.dc_talk.specs.Logs.{noted};
-ghost use Rattle.script_text.specs.Orders.{Orders};
+ghost use Rattle.script_core.specs.Orders.{Orders};
 ghost use Rattle.dc_worker.specs.Work.{Adds, AddsSuch};
 
 use dc_talk::{Ask, Deed, Door, Fate, Log, Say};

@@ -3,8 +3,8 @@ ghost use Rattle.std.specs.Prelude.{◌≡◌, [], ◌∷◌, OnOk, OnErr};
 ghost use Rattle.std.specs.Option.{option_to_list};
 ghost use Rattle.dc_talk.specs.Acting.{acting, IsCutShort};
 ghost use Rattle.dc_talk.specs.Doors.{IsBehind};
-ghost use Rattle.script_text.specs.Links.{arrivals, arrived, inlet_after, inlet_closed};
-ghost use Rattle.script_text.specs.Rounds.{Brings};
+ghost use Rattle.script_core.specs.Links.{arrivals, arrived, inlet_after, inlet_closed};
+ghost use Rattle.script_core.specs.Rounds.{Brings};
 ghost use Rattle.dc_worker.specs.Work.{AddsSuch};
 ghost use Rattle.dc_worker.specs.Inlets.{due_items};
 

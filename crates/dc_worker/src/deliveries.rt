@@ -5,7 +5,7 @@ ghost use Rattle.dc_talk.specs.declared.log.Fate.TheVariants.{Unheard};
 ghost use Rattle.dc_talk.specs.declared.log.Deed.TheVariants.{Asked};
 ghost use Rattle.dc_talk.specs.Acting.{acting, IsCutShort};
 ghost use Rattle.dc_talk.specs.Doors.{IsBehind};
-ghost use Rattle.script_text.specs.Carrying.{Delivers};
+ghost use Rattle.script_core.specs.Carrying.{Delivers};
 ghost use Rattle.dc_worker.specs.Work.{Adds, AddsSuch, HasDelivered};
 
 use crate::asks::ask_unheard;

@@ -1,8 +1,8 @@
 // How a delivery ends, and the lines of deliveries and tells.
 ghost use Rattle.std.specs.Prelude.{◌≡◌};
 ghost use Rattle.tx_core.specs.declared.tx.Record.{Record};
-ghost use Rattle.script_text.specs.Carrying.{route, detour, stopped_end, send_end, delivery_end, is_there, ship_line, relay_line, tell_line};
-ghost use Rattle.script_text.specs.Orders.{base_line};
+ghost use Rattle.script_core.specs.Carrying.{route, detour, stopped_end, send_end, delivery_end, is_there, ship_line, relay_line, tell_line};
+ghost use Rattle.script_core.specs.Orders.{base_line};
 
 use dc_talk::{Line, Say, ShipEnd};
 use vv_core::Lack;

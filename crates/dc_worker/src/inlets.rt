@@ -1,7 +1,7 @@
 // The end of a link at which items are taken.
 ghost use Rattle.std.specs.Prelude.{◌≡◌, ◌≤◌, [], ◌∷◌, IfOk, OnOk, OnErr};
 ghost use Rattle.std.specs.Option.{option_to_list};
-ghost use Rattle.script_text.specs.Links.{is_nth, clean_inlet, arrived, inlet_after, inlet_set};
+ghost use Rattle.script_core.specs.Links.{is_nth, clean_inlet, arrived, inlet_after, inlet_set};
 ghost use Rattle.dc_worker.specs.Inlets.{HasCount, comes, stays, lot_items, due_items};
 
 use dc_talk::{LinkFault, Sent};
@@ -20,7 +20,7 @@ pub struct Inlet {
 impl Model for Inlet {
     ghost use Rattle.std.specs.Option.{option_to_list};
     ghost use Rattle.dc_talk.specs.declared.sent.Sent.{Sent};
-    ghost use Rattle.script_text.specs.Links.{Inlet as InletOf};
+    ghost use Rattle.script_core.specs.Links.{Inlet as InletOf};
     ghost use Rattle.dc_worker.specs.Inlets.{HasCount};
 
     ghost Value = { InletOf Sent };

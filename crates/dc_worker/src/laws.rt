@@ -7,10 +7,10 @@ ghost use Rattle.dc_talk.specs.declared.ask.Ask.TheVariants.{Send};
 ghost use Rattle.dc_talk.specs.declared.line.Line.{Line};
 ghost use Rattle.dc_talk.specs.declared.line.ShipEnd.{ShipEnd};
 ghost use Rattle.dc_talk.specs.declared.log.Deed.{Deed};
-ghost use Rattle.script_text.specs.Carrying.{Route, route, Detour, Sends, Ships, Relays, Tells, InTurn, Settles, is_news};
-ghost use Rattle.script_text.specs.Links.{Inlet, arrivals, arrived, inlet_after};
-ghost use Rattle.script_text.specs.Provenance.{WasSent, CarriesAll};
-ghost use Rattle.script_text.specs.Rounds.{Brings, Mails, SenderDeeds, ReporterDeeds, PrunerDeeds, others, mailed};
+ghost use Rattle.script_core.specs.Carrying.{Route, route, Detour, Sends, Ships, Relays, Tells, InTurn, Settles, is_news};
+ghost use Rattle.script_core.specs.Links.{Inlet, arrivals, arrived, inlet_after};
+ghost use Rattle.script_core.specs.Provenance.{WasSent, CarriesAll};
+ghost use Rattle.script_core.specs.Rounds.{Brings, Mails, SenderDeeds, ReporterDeeds, PrunerDeeds, others, mailed};
 ghost use Rattle.dc_worker.specs.Settled.{AreNumbered, Centres, IsAlike, PassesAmong, behind_deeds};
 
 /// What the deeds of a carrier carry, an earlier one of them brought: a record that is delivered was in a centre's

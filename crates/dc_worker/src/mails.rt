@@ -4,9 +4,9 @@ ghost use Rattle.dc_talk.specs.declared.ask.Ask.TheVariants.{Prune};
 ghost use Rattle.dc_talk.specs.declared.line.Line.{Line};
 ghost use Rattle.dc_talk.specs.Acting.{acting, IsCutShort};
 ghost use Rattle.dc_talk.specs.Doors.{IsBehind};
-ghost use Rattle.script_text.specs.Carrying.{route, Tells};
-ghost use Rattle.script_text.specs.Orders.{Orders};
-ghost use Rattle.script_text.specs.Rounds.{Mails};
+ghost use Rattle.script_core.specs.Carrying.{route, Tells};
+ghost use Rattle.script_core.specs.Orders.{Orders};
+ghost use Rattle.script_core.specs.Rounds.{Mails};
 ghost use Rattle.dc_worker.specs.Work.{CarriesSuch};
 
 use crate::asks::ask_only;
@@ -14,7 +14,7 @@ use crate::sends::{Handed, send_for};
 use crate::tells::tell;
 use dc_talk::{Ask, Door, Log, Records};
 use ids_core::NoMemory;
-use script_text::MOST_MAILED;
+use script_core::MOST_MAILED;
 use std::alloc::Global;
 
 /// Has a centre report what it has, and another one send what the first lacks of its own records, at most

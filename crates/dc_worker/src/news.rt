@@ -2,7 +2,7 @@
 ghost use Rattle.std.specs.Prelude.{◌≡◌, ◌≤◌, drop, length};
 ghost use Rattle.std.specs.List.{list_any};
 ghost use Rattle.dc_talk.specs.declared.log.Note.{Note};
-ghost use Rattle.script_text.specs.Carrying.{is_news};
+ghost use Rattle.script_core.specs.Carrying.{is_news};
 
 use dc_talk::{Ask, Deed, Fate, Note, Say};
 

@@ -2,7 +2,7 @@
 ghost use Rattle.std.specs.Prelude.{◌≡◌, ◌≢◌, ◌≤◌, true, false, cond, length, IfOk, OnOk, OnErr};
 ghost use Rattle.dc_talk.specs.Acting.{acting, IsCutShort};
 ghost use Rattle.dc_talk.specs.Doors.{IsBehind};
-ghost use Rattle.script_text.specs.declared.rounds.TheConstants.{MOST_MAILED};
+ghost use Rattle.script_core.specs.declared.rounds.TheConstants.{MOST_MAILED};
 ghost use Rattle.mail_link.specs.Ends.{one_more};
 ghost use Rattle.dc_worker.specs.Links.{IsMore, Receives, Closes, incoming};
 
@@ -11,7 +11,7 @@ use crate::inlets::Inlet;
 use dc_talk::{Door, Log, Sent};
 use ids_core::NoMemory;
 use mail_link::{Giver, Link, Taker};
-use script_text::MOST_MAILED;
+use script_core::MOST_MAILED;
 use std::sync::Wait;
 
 /// Takes records from a link, at most `MOST_MAILED` of them, until none is found, and delivers to a centre behind the

@@ -2,7 +2,7 @@
 ghost use Rattle.std.specs.Prelude.{◌≡◌, ◌≢◌, IfOk, OnErr};
 ghost use Rattle.dc_talk.specs.Acting.{acting, IsCutShort};
 ghost use Rattle.dc_talk.specs.Doors.{IsBehind};
-ghost use Rattle.script_text.specs.Carrying.{route, detour, origin_need, Relays};
+ghost use Rattle.script_core.specs.Carrying.{route, detour, origin_need, Relays};
 ghost use Rattle.dc_worker.specs.Work.{AddsSuch, CarriesSuch};
 ghost use Rattle.dc_worker.specs.Sends.{AsksFor};
 

@@ -2,7 +2,7 @@
 ghost use Rattle.std.specs.Prelude.{◌≡◌, ◌≢◌, OnOk, OnErr};
 ghost use Rattle.dc_talk.specs.Acting.{acting, IsCutShort};
 ghost use Rattle.dc_talk.specs.Doors.{IsBehind};
-ghost use Rattle.script_text.specs.Carrying.{route, routes, InTurn};
+ghost use Rattle.script_core.specs.Carrying.{route, routes, InTurn};
 ghost use Rattle.dc_worker.specs.Work.{CarriesSuch};
 ghost use Rattle.dc_worker.specs.Rounds.{Does, routes_from};
 

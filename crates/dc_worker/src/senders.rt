@@ -2,14 +2,14 @@
 ghost use Rattle.std.specs.Prelude.{◌≡◌, [], ◌∷◌, ◌++◌, length, IfOk, OnOk, OnErr};
 ghost use Rattle.dc_talk.specs.Acting.{acting, IsCutShort};
 ghost use Rattle.dc_talk.specs.Doors.{IsBehind};
-ghost use Rattle.script_text.specs.Carrying.{route};
+ghost use Rattle.script_core.specs.Carrying.{route};
 ghost use Rattle.dc_worker.specs.Links.{IsMore, Posts, outgoing};
 
 use crate::sends::{Handed, send_for};
 use dc_talk::{Door, Log, Records, Sent};
 use ids_core::NoMemory;
 use mail_link::{Giver, Link};
-use script_text::MOST_MAILED;
+use script_core::MOST_MAILED;
 use std::sync::Wait;
 
 /// Has a centre report what it has, and another one send what the first lacks of its own records, at most

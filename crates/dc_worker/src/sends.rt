@@ -3,7 +3,7 @@ ghost use Rattle.std.specs.Prelude.{◌≡◌, ◌≤◌, IfOk, OnErr};
 ghost use Rattle.vv_core.specs.Vectors.{at};
 ghost use Rattle.dc_talk.specs.Acting.{acting, IsCutShort};
 ghost use Rattle.dc_talk.specs.Doors.{IsBehind};
-ghost use Rattle.script_text.specs.Carrying.{route};
+ghost use Rattle.script_core.specs.Carrying.{route};
 ghost use Rattle.dc_worker.specs.Work.{AddsSuch};
 ghost use Rattle.dc_worker.specs.Sends.{AsksFor, own_part, handed_of};
 

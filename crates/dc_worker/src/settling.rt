@@ -2,7 +2,7 @@
 ghost use Rattle.std.specs.Prelude.{◌≡◌, IfOk, OnErr};
 ghost use Rattle.std.specs.List.{list_any};
 ghost use Rattle.dc_talk.specs.Acting.{acting, IsCutShort};
-ghost use Rattle.script_text.specs.Carrying.{Passes, Settles, is_news};
+ghost use Rattle.script_core.specs.Carrying.{Passes, Settles, is_news};
 ghost use Rattle.dc_worker.specs.Work.{CarriesSuch};
 ghost use Rattle.dc_worker.specs.Rounds.{passes_of};
 

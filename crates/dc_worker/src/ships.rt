@@ -4,7 +4,7 @@ ghost use Rattle.dc_talk.specs.declared.ask.Ask.TheVariants.{Send};
 ghost use Rattle.dc_talk.specs.declared.line.ShipEnd.TheVariants.{Absent};
 ghost use Rattle.dc_talk.specs.Acting.{acting, IsCutShort};
 ghost use Rattle.dc_talk.specs.Doors.{IsBehind};
-ghost use Rattle.script_text.specs.Carrying.{route, Sends, Ships};
+ghost use Rattle.script_core.specs.Carrying.{route, Sends, Ships};
 ghost use Rattle.dc_worker.specs.Work.{CarriesSuch};
 
 use crate::asks::ask_unheard;

@@ -2,7 +2,7 @@
 ghost use Rattle.std.specs.Prelude.{◌≡◌, ◌≢◌, IfOk, OnErr};
 ghost use Rattle.dc_talk.specs.Acting.{acting, IsCutShort};
 ghost use Rattle.dc_talk.specs.Doors.{IsBehind};
-ghost use Rattle.script_text.specs.Carrying.{route, Tells};
+ghost use Rattle.script_core.specs.Carrying.{route, Tells};
 ghost use Rattle.dc_worker.specs.Work.{CarriesSuch};
 
 use crate::asks::ask_unheard;

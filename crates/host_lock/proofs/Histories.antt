@@ -4,7 +4,7 @@ use Rattle.std.specs.Prelude.{cond}
 use Rattle.std.proofs.lemmas.List.{append-nil}
 use Rattle.std.proofs.lemmas.List.Elements.{filter-append}
 use mathlib.Core.List.{IsPrefix}
-use Rattle.hist_lock.specs.declared.machine.Entry.{Entry}
+use Rattle.machine_trail.specs.declared.machine.Entry.{Entry}
 use Rattle.host_lock.specs.Law.{calls_of}
 
 module _ {A Y : Type 0} where

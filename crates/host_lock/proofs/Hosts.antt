@@ -8,11 +8,11 @@ use native.Mathlib.Decide.{ℕ_discrete}
 use lib.ListN.{get_elem?}
 use Rattle.atomic_table.specs.Table.{Final, Seen}
 use Rattle.atomic_table.proofs.Lists.{at_longer, at_last}
-use Rattle.hist_lock.specs.declared.machine.Entry.{Entry}
-use Rattle.hist_lock.specs.declared.machine.Kept.{Kept}
+use Rattle.machine_trail.specs.declared.machine.Entry.{Entry}
+use Rattle.machine_trail.specs.declared.machine.Kept.{Kept}
 use Rattle.host_lock.specs.declared.law.SeatView.{SeatView}
 use Rattle.host_lock.specs.declared.law.SpentPass.{SpentPass}
-use Rattle.hist_lock.specs.History.{IsHistory, IsKept}
+use Rattle.machine_trail.specs.History.{IsHistory, IsKept}
 use Rattle.host_lock.specs.Law.{calls_of, spent_of, WasSpent, Holds, homed}
 use Rattle.host_lock.specs.Hosts.{PassView, HostView, IsOf, InOrder, AllStood, IsWhole}
 use Rattle.host_lock.proofs.Steps.{owner_of_turn}

@@ -10,11 +10,11 @@ use Rattle.atomic_table.specs.Table.{State, step, keeps, takes, gives, Allows, S
 use Rattle.atomic_table.proofs.Lists.{at_longer, at_snoc, set_else, set_here}
 use mathlib.Core.Logic.{dite}
 use native.Mathlib.Decide.{ℕ_discrete}
-use Rattle.hist_lock.specs.declared.machine.Entry.{Entry}
-use Rattle.hist_lock.specs.declared.machine.Kept.{Kept}
+use Rattle.machine_trail.specs.declared.machine.Entry.{Entry}
+use Rattle.machine_trail.specs.declared.machine.Kept.{Kept}
 use Rattle.host_lock.specs.declared.law.SeatView.{SeatView}
-use Rattle.hist_lock.specs.History.{IsHistory, IsKept}
-use Rattle.hist_lock.proofs.Histories.{history_more}
+use Rattle.machine_trail.specs.History.{IsHistory, IsKept}
+use Rattle.machine_trail.proofs.Histories.{history_more}
 use Rattle.host_lock.specs.Law.{calls_of, maker, spent_seat, newcomer, handed, spent_of, joined, WasSpent, IsOther, Fits, Stands, Holds, homed}
 use Rattle.host_lock.specs.Steps.{SeatState, with_new, at_turn, off_turn, finding, holding, emptied, grown, drew, tried, freed, gave, took, noted, trail_of}
 use Rattle.host_lock.proofs.Histories.{calls_more, calls_same, prefix_more}

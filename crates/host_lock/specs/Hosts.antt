@@ -2,8 +2,8 @@
 use Rattle.std.specs.Prelude.{◌≡◌, ◌≢◌, ◌⊎◌, ℕ, zero, suc, ◌+◌, ◌<◌, true, false, List, [], ◌∷◌, ◌++◌, Option, Some}
 use mathlib.Core.List.{IsPrefix}
 use Rattle.atomic_table.specs.Seated.{TableId}
-use Rattle.hist_lock.specs.declared.machine.Entry.{Entry}
-use Rattle.hist_lock.specs.History.{IsHistory, entry}
+use Rattle.machine_trail.specs.declared.machine.Entry.{Entry}
+use Rattle.machine_trail.specs.History.{IsHistory, entry}
 use Rattle.host_lock.specs.declared.law.SeatView.{SeatView}
 use Rattle.host_lock.specs.declared.host.Tried.{Tried}
 use Rattle.host_lock.specs.declared.host.Tried.TheVariants.{Done, Busy}

@@ -6,9 +6,9 @@ use mathlib.Core.Option as maybe
 use mathlib.Core.List.{IsPrefix}
 use lib.ListN.{get_elem?}
 use Rattle.atomic_table.specs.Table.{State}
-use Rattle.hist_lock.specs.declared.machine.Entry.{Entry}
-use Rattle.hist_lock.specs.declared.machine.Kept.{Kept}
-use Rattle.hist_lock.specs.History.{IsHistory, IsKept}
+use Rattle.machine_trail.specs.declared.machine.Entry.{Entry}
+use Rattle.machine_trail.specs.declared.machine.Kept.{Kept}
+use Rattle.machine_trail.specs.History.{IsHistory, IsKept}
 use Rattle.host_lock.specs.declared.law.SeatView.{SeatView}
 use Rattle.host_lock.specs.declared.law.SpentPass.{SpentPass}
 

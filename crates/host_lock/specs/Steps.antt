@@ -2,9 +2,9 @@
 use Rattle.std.specs.Prelude.{◌≡◌, ◌≢◌, ℕ, ◌+◌, ◌^◌, ◌<◌, ◌≤◌, true, false, List, [], ◌∷◌, ◌++◌, length, Option, Some, None}
 use Rattle.atomic_table.specs.Seated.{TableId}
 use Rattle.atomic_table.specs.Table.{Me, Step, rest}
-use Rattle.hist_lock.specs.declared.machine.Entry.{Entry}
-use Rattle.hist_lock.specs.declared.machine.Kept.{Kept}
-use Rattle.hist_lock.specs.History.{IsHistory, IsKept}
+use Rattle.machine_trail.specs.declared.machine.Entry.{Entry}
+use Rattle.machine_trail.specs.declared.machine.Kept.{Kept}
+use Rattle.machine_trail.specs.History.{IsHistory, IsKept}
 use Rattle.host_lock.specs.declared.law.SeatView.{SeatView}
 use Rattle.host_lock.specs.Law.{Stands, calls_of}
 

@@ -1,6 +1,6 @@
 // A machine that threads share under a lock, each caller with a pass.
 ghost use Rattle.std.specs.Prelude.{◌≡◌, ℕ, ◌<◌, ◌≤◌, ◌++◌, ◌∷◌, [], length, List, Some, true, Ok, IfOk, OnOk, OnErr};
-ghost use Rattle.hist_lock.specs.History.{IsKept};
+ghost use Rattle.machine_trail.specs.History.{IsKept};
 ghost use Rattle.host_lock.specs.Law.{maker};
 ghost use Rattle.host_lock.specs.Steps.{IsLockTable};
 ghost use Rattle.host_lock.specs.Hosts.{IsOf, IsSamePass, HasCalled, HasTried, fresh_passes, host_view, InOrder, IsWhole};
@@ -8,8 +8,8 @@ ghost use Rattle.host_lock.specs.Hosts.{IsOf, IsSamePass, HasCalled, HasTried, f
 use crate::law::{JoinPass, LockKey, LockSeat, LockShared, LockTable};
 use crate::turns::{call_at_turn, next_seat, try_turn, wait_turn};
 use atomic_table::Table;
-use hist_lock::{Kept, Machine};
 use ids_core::NoMemory;
+use machine_trail::{Kept, Machine};
 use std::alloc::Global;
 use std::marker::Model;
 use std::snapshot::Snapshot;

@@ -3,7 +3,7 @@ ghost use Rattle.host_lock.specs.Law.{handed, newcomer, joined, spent_seat};
 ghost use Rattle.host_lock.specs.Steps.{drew, tried, freed, took, noted, gave};
 
 use atomic_table::{Join, Play, Seat, Shared, Split, Table, TableRule};
-use hist_lock::{Entry, Kept, Machine};
+use machine_trail::{Entry, Kept, Machine};
 use std::alloc::Global;
 use std::collections::LinkedList;
 use std::marker::PhantomData;

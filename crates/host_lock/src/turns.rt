@@ -7,8 +7,8 @@ ghost use Rattle.host_lock.specs.Hosts.{HasWorked, rested};
 use crate::law::{
     DrawNumber, FreeTurn, LockSeat, LockShared, NoteEntry, SplitPass, SwapIn, SwapOut, TakeTurn,
 };
-use hist_lock::{Kept, Machine};
 use ids_core::NoMemory;
+use machine_trail::{Kept, Machine};
 use std::sync::Wait;
 use std::sync::atomic::AtomicU64;
 use std::thread;

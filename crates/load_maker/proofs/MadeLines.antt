@@ -4,8 +4,8 @@ use Rattle.std.specs.Prelude.{All, codes, decimal, flat_map}
 use Rattle.std.specs.List.{AllByRecursion, list_all, range_with_len}
 use Rattle.std.proofs.lemmas.Bool.{and_parts, false≢true}
 use Rattle.std.proofs.lemmas.List.Elements.{All-nil, All-cons}
-use Rattle.script_text.specs.Lines.{lines_of}
-use Rattle.script_text.proofs.Cuts.{first_line}
+use Rattle.script_core.specs.Lines.{lines_of}
+use Rattle.script_core.proofs.Cuts.{first_line}
 use Rattle.script_reader.specs.Words.{is_plain}
 use Rattle.load_maker.specs.declared.line.Line.{Line}
 use Rattle.load_maker.specs.declared.line.Line.TheVariants.{Centres, Clients, Threads, Rounds, Phase, End, Settle, Down, Prune, Up, Connect, Begin, IncTotal, IncSide, SetNote, AddCart, PutCart, ReadTotal, Commit, Push, Flush, Refresh}

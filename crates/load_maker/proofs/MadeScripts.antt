@@ -5,10 +5,10 @@ use Rattle.std.specs.List.{AllByRecursion, cons_option, range_with_len}
 use Rattle.std.proofs.lemmas.Bool.{cond-true}
 use Rattle.std.proofs.lemmas.Fmt.{decimal_step, decimal_digit}
 use Rattle.std.proofs.lemmas.List.{length-append, map-append}
-use Rattle.script_text.specs.declared.limits.TheConstants.{MAX_LINES}
-use Rattle.script_text.specs.declared.steps.Step.{Step}
-use Rattle.script_text.specs.declared.steps.Section.{Section}
-use Rattle.script_text.specs.Rows.{may_do_in_phase, phase_of, section_of}
+use Rattle.script_core.specs.declared.limits.TheConstants.{MAX_LINES}
+use Rattle.script_core.specs.declared.steps.Step.{Step}
+use Rattle.script_core.specs.declared.steps.Section.{Section}
+use Rattle.script_core.specs.Rows.{may_do_in_phase, phase_of, section_of}
 use Rattle.script_reader.specs.declared.fault.Cause.{Cause}
 use Rattle.script_reader.specs.declared.fault.ScriptFault.TheVariants.{Refused}
 use Rattle.script_reader.specs.declared.reading.Reading.{Reading}

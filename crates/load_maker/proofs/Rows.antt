@@ -7,8 +7,8 @@ use Rattle.std.proofs.lemmas.Bool.Decides.{nat_tests}
 use Rattle.std.proofs.lemmas.Fmt.{length-decimal-le, decimal_nonempty}
 use Rattle.std.proofs.lemmas.List.{length-append}
 use Rattle.std.proofs.lemmas.List.Elements.{All-nil, All-cons}
-use Rattle.script_text.specs.declared.limits.TheConstants.{MAX_LINE, MAX_LINES}
-use Rattle.script_text.specs.declared.script.Header.{Header}
+use Rattle.script_core.specs.declared.limits.TheConstants.{MAX_LINE, MAX_LINES}
+use Rattle.script_core.specs.declared.script.Header.{Header}
 use Rattle.script_reader.specs.declared.fault.Cause.{Cause}
 use Rattle.script_reader.specs.declared.fault.Cause.TheVariants as cause
 use Rattle.script_reader.specs.declared.form.Form.{Form}
@@ -19,8 +19,8 @@ use Rattle.script_reader.specs.declared.form.Word.{Word}
 use Rattle.script_reader.specs.declared.form.Word.TheVariants as word
 use Rattle.script_reader.specs.declared.said.Said.{Said}
 use Rattle.script_reader.specs.declared.row.Row.TheVariants as row
-use Rattle.script_text.specs.declared.steps.Step.TheVariants as step
-use Rattle.script_text.specs.declared.steps.OperatorStep.TheVariants as operator
+use Rattle.script_core.specs.declared.steps.Step.TheVariants as step
+use Rattle.script_core.specs.declared.steps.OperatorStep.TheVariants as operator
 use Rattle.script_reader.specs.Words.{is_blank, is_plain, is_plain_text, is_comment, words_of, without_return}
 use Rattle.script_reader.specs.Numbers.{is_digit, number_in, delta_in}
 use Rattle.script_reader.specs.Names.{is_name_byte, object_named}
@@ -29,7 +29,7 @@ use Rattle.script_reader.specs.Said.{said_word, said_words, unsaid, with_said, w
 use Rattle.script_reader.specs.Rows.{row_of, row_in, row_in_text, row_in_words, row_spelled, row_said, is_of_its_kind}
 use Rattle.script_reader.proofs.Blanks.{IsUnbroken, words_at, words_last, words_none}
 use Rattle.load_maker.specs.Lines.{client_text}
-use Rattle.script_text.specs.declared.steps.ClientStep.TheVariants as does
+use Rattle.script_core.specs.declared.steps.ClientStep.TheVariants as does
 use Rattle.ids_core.specs.declared.object.ObjectId.{ObjectId}
 use Rattle.dc_talk.specs.declared.calls.Change.TheVariants.{Inc, Write, Add, Put}
 use Rattle.load_maker.specs.Rows.{made_header, client_does, total, side, note, cart, cart_map, word_of, key_of}

@@ -2,11 +2,11 @@
 use Rattle.std.specs.Prelude.{ℕ, zero, suc, List, [], ◌∷◌, ◌++◌, map, Option, Some, None}
 use Rattle.std.specs.List.{filter_map}
 use Rattle.ids_core.specs.declared.limits.TheConstants.{MOST_RECORDS}
-use Rattle.script_text.specs.declared.script.TheConstants.{DEFAULT_CACHE}
-use Rattle.script_text.specs.declared.script.Script.{Script}
-use Rattle.script_text.specs.declared.steps.Section.{Section}
-use Rattle.script_text.specs.declared.steps.Step.{Step}
-use Rattle.script_text.specs.Rows.{phase_of, section_of}
+use Rattle.script_core.specs.declared.script.TheConstants.{DEFAULT_CACHE}
+use Rattle.script_core.specs.declared.script.Script.{Script}
+use Rattle.script_core.specs.declared.steps.Section.{Section}
+use Rattle.script_core.specs.declared.steps.Step.{Step}
+use Rattle.script_core.specs.Rows.{phase_of, section_of}
 use Rattle.script_reader.specs.declared.row.Row.{Row}
 use Rattle.script_reader.specs.declared.row.Row.TheVariants.{Does}
 use Rattle.load_maker.specs.declared.line.Line.{Line}

@@ -1,6 +1,6 @@
 // The law of made scripts: a function with nothing to do, whose contract is the law.
 ghost use Rattle.std.specs.Prelude.{◌≡◌, ℕ, All, Ok, length, map};
-ghost use Rattle.script_text.specs.Lines.{lines_of};
+ghost use Rattle.script_core.specs.Lines.{lines_of};
 ghost use Rattle.script_reader.specs.Scripts.{script_read};
 ghost use Rattle.load_maker.specs.Lines.{line_text};
 ghost use Rattle.load_maker.specs.Made.{made_lines, made_script};

@@ -1,7 +1,7 @@
 -- The number of the last phase, section by section.
 use Rattle.std.proofs.Common.{◌≡◌, ◌<◌, ◌≤◌, ◌+◌, ℕ, Bool, true, false, cond, List, [], ◌∷◌, ◌++◌, length, take, get_or, max, refl, sym, ap, ◌∙◌, arith, length-take-le, true≢false}
 use Rattle.vv_core.specs.Vectors.{most}
-use Rattle.script_text.specs.declared.steps.Section.{Section}
+use Rattle.script_core.specs.declared.steps.Section.{Section}
 use Rattle.print_text.proofs.Parts.{most-append, take_more}
 use Rattle.load_text.specs.LastReads.{phases_from}
 

@@ -3,7 +3,7 @@ ghost use Rattle.std.specs.Prelude.{◌≡◌};
 ghost use Rattle.vv_core.specs.Vectors.{most};
 ghost use Rattle.load_text.specs.LastReads.{last_phase, phases_from};
 
-use script_text::{Script, Section};
+use script_core::{Script, Section};
 
 /// The number of the last section of a script that is a phase, counted from 1, and 0 where there is none. It takes time
 /// in the number of sections.

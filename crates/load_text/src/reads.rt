@@ -7,7 +7,7 @@ use dc_talk::{Deed, Line, Log, Note};
 use ids_core::NoMemory;
 use list_core::List;
 use print_text::text_of;
-use script_text::Script;
+use script_core::Script;
 use std::alloc::Global;
 
 /// The text of what a script was played to: of the lines of all actors' logs, the operator's first, those alone that tell

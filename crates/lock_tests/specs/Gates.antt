@@ -1,6 +1,6 @@
 -- A gate for so many guests, as a machine.
 use Rattle.std.specs.Prelude.{◌≡◌, ℕ, Bool, List, length, min, nat_lt}
-use Rattle.hist_lock.specs.declared.machine.Entry.{Entry}
+use Rattle.machine_trail.specs.declared.machine.Entry.{Entry}
 use Rattle.samples.specs.declared.gate.Gate.{Gate}
 
 -- whether a guest is let in after these

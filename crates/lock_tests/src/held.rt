@@ -1,6 +1,6 @@
 // A gate that waits in each of its answers, until a test lets it go on.
-use hist_lock::Machine;
 use ids_core::NoMemory;
+use machine_trail::Machine;
 use samples::Gate;
 use std::alloc::Global;
 use std::sync::atomic::{AtomicU64, Ordering};

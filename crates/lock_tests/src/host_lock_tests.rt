@@ -1,13 +1,13 @@
 // Hosts with two passes, each in a thread of its own.
 ghost use Rattle.std.specs.Prelude.{◌≡◌};
-ghost use Rattle.hist_lock.specs.History.{IsKept};
+ghost use Rattle.machine_trail.specs.History.{IsKept};
 ghost use Rattle.host_lock.specs.Hosts.{IsOf};
 ghost use Rattle.lock_tests.specs.Gates.{gate_reply, gate_stands};
 
 use crate::held::{Held, wait_for};
-use hist_lock::{Kept, Machine};
 use host_lock::{Host, Pass, Tried};
 use ids_core::NoMemory;
+use machine_trail::{Kept, Machine};
 use samples::Gate;
 use std::alloc::Global;
 use std::sync::atomic::{AtomicU64, Ordering};

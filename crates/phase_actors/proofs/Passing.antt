@@ -11,13 +11,13 @@ use Rattle.dc_talk.specs.Logs.{Logged}
 use Rattle.dc_talk.specs.Acting.{acting}
 use Rattle.dc_host.specs.declared.host_door.HostPlace.{HostPlace}
 use Rattle.dc_host.specs.HostDoors.{CentreHost, CentrePass, HostDoorView, shown_over, place_over, bare}
-use Rattle.script_text.specs.declared.limits.TheConstants.{MAX_LINES}
-use Rattle.script_text.specs.declared.script.Header.{Header}
-use Rattle.script_text.specs.declared.steps.OperatorStep.{OperatorStep}
-use Rattle.script_text.specs.declared.steps.Step.{Step}
-use Rattle.script_text.specs.declared.steps.Section.{Section}
-use Rattle.script_text.specs.Rows.{IsPhase}
-use Rattle.script_text.specs.Steps.{IsOperatorStep}
+use Rattle.script_core.specs.declared.limits.TheConstants.{MAX_LINES}
+use Rattle.script_core.specs.declared.script.Header.{Header}
+use Rattle.script_core.specs.declared.steps.OperatorStep.{OperatorStep}
+use Rattle.script_core.specs.declared.steps.Step.{Step}
+use Rattle.script_core.specs.declared.steps.Section.{Section}
+use Rattle.script_core.specs.Rows.{IsPhase}
+use Rattle.script_core.specs.Steps.{IsOperatorStep}
 use Rattle.run_book.specs.Moves.{operator_step, operator_steps}
 use Rattle.run_table.proofs.Allowing.{operator_step_in}
 use Rattle.phase_actors.specs.declared.callers.Caller.{Caller}

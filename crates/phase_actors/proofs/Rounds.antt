@@ -10,11 +10,11 @@ use Rattle.dc_talk.specs.declared.log.Note.{Note}
 use Rattle.dc_talk.specs.Logs.{Logged}
 use Rattle.dc_talk.specs.Acting.{Acting, acting, Leaves}
 use Rattle.mail_link.specs.Ends.{GiverView}
-use Rattle.script_text.specs.declared.steps.OperatorStep.{OperatorStep}
-use Rattle.script_text.specs.Orders.{OperatorDeeds}
-use Rattle.script_text.specs.Links.{arrivals, arrived}
-use Rattle.script_text.specs.Carrying.{route, InTurn, no_turn, next_turn}
-use Rattle.script_text.specs.Rounds.{SenderDeeds, ReceiverDeeds, ReporterDeeds, PrunerDeeds, others, Mails, mailed_from, mailed}
+use Rattle.script_core.specs.declared.steps.OperatorStep.{OperatorStep}
+use Rattle.script_core.specs.Orders.{OperatorDeeds}
+use Rattle.script_core.specs.Links.{arrivals, arrived}
+use Rattle.script_core.specs.Carrying.{route, InTurn, no_turn, next_turn}
+use Rattle.script_core.specs.Rounds.{SenderDeeds, ReceiverDeeds, ReporterDeeds, PrunerDeeds, others, Mails, mailed_from, mailed}
 use Rattle.client_stub.specs.Playing.{Operates}
 use Rattle.dc_worker.specs.Work.{AddsSuch, CarriesSuch}
 use Rattle.dc_worker.proofs.Mailing.{IsFresh, mailed_then, mails_fresh}

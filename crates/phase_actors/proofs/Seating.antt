@@ -7,10 +7,10 @@ use Rattle.std.proofs.lemmas.List.Elements.{All-nil, All-cons, All-head, All-tai
 use Rattle.dc_host.specs.HostDoors.{CentrePass, bare, shown_over, place_over}
 use Rattle.dc_host.specs.declared.host_door.HostPlace.{HostPlace}
 use Rattle.client_stub.specs.Playing.{IsLinkBehind}
-use Rattle.script_text.specs.declared.steps.ClientStep.{ClientStep}
-use Rattle.script_text.specs.declared.script.Script.{Script}
-use Rattle.script_text.specs.declared.steps.Section.{Section}
-use Rattle.script_text.specs.Steps.{IsCount}
+use Rattle.script_core.specs.declared.steps.ClientStep.{ClientStep}
+use Rattle.script_core.specs.declared.script.Script.{Script}
+use Rattle.script_core.specs.declared.steps.Section.{Section}
+use Rattle.script_core.specs.Steps.{IsCount}
 use Rattle.run_book.specs.Moves.{client_steps, operator_steps, most_steps}
 use Rattle.run_table.specs.declared.dealing.Dealt.{Dealt}
 use Rattle.run_table.specs.Dealing.{IsDealtPhase, line_of}

@@ -10,9 +10,9 @@ use Rattle.dc_talk.specs.Acting.{acting, Leaves}
 use Rattle.dc_talk.specs.Doors.{DoorView}
 use Rattle.dc_talk.specs.Clients.{Client}
 use Rattle.dc_talk.specs.Rule.{after}
-use Rattle.script_text.specs.declared.steps.ClientStep.{ClientStep}
-use Rattle.script_text.specs.declared.steps.Section.{Section}
-use Rattle.script_text.specs.Deeds.{StepDeeds, stepped, armed_after}
+use Rattle.script_core.specs.declared.steps.ClientStep.{ClientStep}
+use Rattle.script_core.specs.declared.steps.Section.{Section}
+use Rattle.script_core.specs.Deeds.{StepDeeds, stepped, armed_after}
 use Rattle.client_stub.specs.Playing.{StubView, beside, Takes, IsLinkBehind}
 use Rattle.run_book.specs.Moves.{client_steps}
 use Rattle.run_book.specs.Happenings.{ClientDoes}

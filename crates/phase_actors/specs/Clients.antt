@@ -4,10 +4,10 @@ use Rattle.dc_talk.specs.Logs.{Logged}
 use Rattle.dc_talk.specs.Doors.{DoorView}
 use Rattle.dc_talk.specs.Acting.{Acting, acting}
 use Rattle.dc_host.specs.HostDoors.{CentreHost, HostDoorView, shown_over, bare}
-use Rattle.script_text.specs.declared.steps.ClientStep.{ClientStep}
-use Rattle.script_text.specs.declared.steps.Section.{Section}
-use Rattle.script_text.specs.Steps.{IsCount}
-use Rattle.script_text.specs.Deeds.{Progress}
+use Rattle.script_core.specs.declared.steps.ClientStep.{ClientStep}
+use Rattle.script_core.specs.declared.steps.Section.{Section}
+use Rattle.script_core.specs.Steps.{IsCount}
+use Rattle.script_core.specs.Deeds.{Progress}
 use Rattle.client_stub.specs.Playing.{StubView, IsLinkBehind}
 use Rattle.run_book.specs.Moves.{client_steps}
 use Rattle.run_book.specs.Happenings.{ClientDoes}

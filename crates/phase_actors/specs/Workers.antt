@@ -5,10 +5,10 @@ use Rattle.dc_talk.specs.declared.sent.Sent.{Sent}
 use Rattle.dc_talk.specs.declared.log.Note.{Note}
 use Rattle.dc_talk.specs.Acting.{Acting}
 use Rattle.mail_link.specs.Ends.{GiverView, TakerView}
-use Rattle.script_text.specs.declared.steps.OperatorStep.{OperatorStep}
-use Rattle.script_text.specs.Steps.{IsCount}
-use Rattle.script_text.specs.Links.{Inlet}
-use Rattle.script_text.specs.Rounds.{mailed}
+use Rattle.script_core.specs.declared.steps.OperatorStep.{OperatorStep}
+use Rattle.script_core.specs.Steps.{IsCount}
+use Rattle.script_core.specs.Links.{Inlet}
+use Rattle.script_core.specs.Rounds.{mailed}
 use Rattle.dc_links.specs.Links.{put_to, put_between, taken_from, inlet_from}
 use Rattle.run_book.specs.Played.{IsAt}
 use Rattle.run_sections.specs.Orders.{deeds_of, OperatorGoes, SenderGoes, ReporterGoes, PrunerGoes, Intake, intake, Receipt, takes_rest, ReceiverGoes}

@@ -1,7 +1,7 @@
 // The clients of a phase, some of them in one thread, which take their steps in turns.
 ghost use Rattle.std.specs.Prelude.{◌≡◌, ◌≤◌, ◌-◌, map, IfOk, OnOk, All};
 ghost use Rattle.std.specs.List.{AllZip};
-ghost use Rattle.script_text.specs.Steps.{IsCount};
+ghost use Rattle.script_core.specs.Steps.{IsCount};
 ghost use Rattle.client_stub.specs.Playing.{IsLinkBehind};
 ghost use Rattle.phase_actors.specs.Scenes.{IsScene};
 ghost use Rattle.phase_actors.specs.Clients.{ClientAt, client_at, HasTurned, seat_of, HasStood};

@@ -2,7 +2,7 @@
 ghost use Rattle.std.specs.Prelude.{◌≡◌, ◌≤◌, ◌<◌, ◌^◌, length, All, IfOk, OnOk};
 ghost use Rattle.ids_core.specs.declared.limits.TheConstants.{MOST_CENTRES};
 ghost use Rattle.dc_talk.specs.Acting.{acting};
-ghost use Rattle.script_text.specs.Steps.{IsOperatorStep};
+ghost use Rattle.script_core.specs.Steps.{IsOperatorStep};
 ghost use Rattle.phase_actors.specs.Scenes.{IsScene};
 ghost use Rattle.phase_actors.specs.Workers.{PlaysOperator};
 ghost use Rattle.phase_actors.specs.Actors.{IsCallerOf, HasOperated};

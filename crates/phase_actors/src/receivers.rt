@@ -3,7 +3,7 @@ ghost use Rattle.std.specs.Prelude.{◌≡◌, ◌≤◌, replicate, length, IfO
 ghost use Rattle.ids_core.specs.declared.limits.TheConstants.{MOST_CENTRES};
 ghost use Rattle.dc_talk.specs.Acting.{acting};
 ghost use Rattle.dc_talk.specs.Doors.{IsBehind};
-ghost use Rattle.script_text.specs.Steps.{IsCount};
+ghost use Rattle.script_core.specs.Steps.{IsCount};
 ghost use Rattle.dc_links.specs.Links.{AreTakers, AreGiverRows, rows_of};
 ghost use Rattle.run_sections.specs.Orders.{takes_some};
 ghost use Rattle.phase_actors.specs.Scenes.{IsScene};

@@ -2,7 +2,7 @@
 use dc_host::Hosts;
 use dc_links::Links;
 use run_table::Dealt;
-use script_text::{Script, Section};
+use script_core::{Script, Section};
 
 /// A phase of a script as the section of a number, with its steps dealt to their actors, the hosts of the centres, and
 /// the links between them.

@@ -1,7 +1,7 @@
 // The sender of a centre in a phase.
 ghost use Rattle.std.specs.Prelude.{◌≡◌, ◌≤◌, length, IfOk, OnOk};
 ghost use Rattle.ids_core.specs.declared.limits.TheConstants.{MOST_CENTRES};
-ghost use Rattle.script_text.specs.Steps.{IsCount};
+ghost use Rattle.script_core.specs.Steps.{IsCount};
 ghost use Rattle.dc_talk.specs.Acting.{acting};
 ghost use Rattle.dc_talk.specs.Doors.{IsBehind};
 ghost use Rattle.dc_links.specs.Links.{AreGivers};

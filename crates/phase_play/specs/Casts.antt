@@ -1,7 +1,7 @@
 -- All actors of a phase, before it and behind its rounds.
 use Rattle.std.specs.Prelude.{◌≡◌, All}
 use Rattle.std.specs.List.{AllZip}
-use Rattle.script_text.specs.Steps.{IsCount}
+use Rattle.script_core.specs.Steps.{IsCount}
 use Rattle.phase_actors.specs.Actors.{IsCallerOf, HasOperated, IsSenderOf, HasSent, IsReceiverOf, HasReceived, HasReported, HasPruned, IsPlayerOf, HasTakenSteps}
 use Rattle.phase_actors.specs.declared.scene.Scene.{Scene}
 use Rattle.phase_play.specs.declared.crews.Crew.{Crew}

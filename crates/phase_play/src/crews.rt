@@ -1,6 +1,6 @@
 // The workers of a centre in a phase, each in a thread of its own.
 ghost use Rattle.std.specs.Prelude.{IfOk};
-ghost use Rattle.script_text.specs.Steps.{IsCount};
+ghost use Rattle.script_core.specs.Steps.{IsCount};
 ghost use Rattle.phase_actors.specs.Scenes.{IsScene};
 ghost use Rattle.phase_actors.specs.Actors.{IsCallerOf, IsSenderOf, HasSent, IsReceiverOf, HasReceived, HasReported, HasPruned};
 ghost use Rattle.phase_play.specs.Casts.{IsCrewOf, HasCrewPlayed};

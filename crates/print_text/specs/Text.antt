@@ -22,7 +22,7 @@ use Rattle.dc_talk.specs.declared.log.Deed.{Deed}
 use Rattle.dc_talk.specs.declared.log.Deed.TheVariants.{Told}
 use Rattle.dc_talk.specs.declared.log.Note.{Note}
 use Rattle.dc_talk.specs.Logs.{Logged}
-use Rattle.script_text.specs.Steps.{object_text, word_text}
+use Rattle.script_core.specs.Steps.{object_text, word_text}
 
 -- a client: `c1`
 abbrev pub client_text : ℕ → List ℕ

@@ -1,6 +1,6 @@
 // The lines of steps as bytes.
 ghost use Rattle.std.specs.Prelude.{◌≡◌, ◌++◌, OnOk, codes, decimal, map};
-ghost use Rattle.script_text.specs.Steps.{object_text};
+ghost use Rattle.script_core.specs.Steps.{object_text};
 ghost use Rattle.print_text.specs.Text.{centres_text, client_text, end_text, lack_text, lacking_text, later, line_text, miss_text, ship_end_text, stamp_text, step_text, vector_text};
 
 use crate::value::write_value;

@@ -38,7 +38,7 @@ use Rattle.list_core.proofs.Images.{flat_map-agree}
 use Rattle.run_book.proofs.Held.{dot_at}
 use Rattle.run_book.proofs.Growth.{wide_after}
 use Rattle.dc_talk.specs.declared.settings.Settings.{Settings}
-use Rattle.hist_lock.specs.History.{TrailView}
+use Rattle.machine_trail.specs.History.{TrailView}
 
 -- ---- the trail of a centre
 

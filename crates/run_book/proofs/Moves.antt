@@ -4,8 +4,8 @@ use Rattle.std.specs.Prelude.{flat_map}
 use Rattle.std.specs.List.{filter_map, range_with_len, cons_option}
 use Rattle.std.proofs.lemmas.List.{append-nil}
 use Rattle.list_core.proofs.Ranges.{joined_more}
-use Rattle.script_text.specs.declared.script.Script.{Script}
-use Rattle.script_text.specs.declared.steps.Section.{Section}
+use Rattle.script_core.specs.declared.script.Script.{Script}
+use Rattle.script_core.specs.declared.steps.Section.{Section}
 use Rattle.run_book.specs.Moves.{Move, one_or_none, section_moves, moves_from}
 
 -- the moves of sections with one section more

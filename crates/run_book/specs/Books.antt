@@ -1,7 +1,7 @@
 -- What the trails of a book are seen as.
 use Rattle.std.specs.Prelude.{List, map}
 use Rattle.dc_talk.specs.Entries.{Entry}
-use Rattle.hist_lock.specs.History.{TrailView}
+use Rattle.machine_trail.specs.History.{TrailView}
 use Rattle.dc_talk.specs.declared.ask.Ask.{Ask}
 use Rattle.dc_talk.specs.declared.say.Say.{Say}
 

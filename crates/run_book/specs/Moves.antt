@@ -4,15 +4,15 @@ use Rattle.std.specs.List.{filter_map, range_with_len}
 use Rattle.std.specs.Option.{option_map}
 use Rattle.list_core.specs.Choices.{when}
 use Rattle.vv_core.specs.Vectors.{centres}
-use Rattle.script_text.specs.declared.script.Script.{Script}
-use Rattle.script_text.specs.declared.steps.ClientStep.{ClientStep}
-use Rattle.script_text.specs.declared.steps.OperatorStep.{OperatorStep}
-use Rattle.script_text.specs.declared.steps.Step.{Step}
-use Rattle.script_text.specs.declared.steps.Step.TheVariants.{Client, Operator}
-use Rattle.script_text.specs.declared.steps.Section.{Section}
-use Rattle.script_text.specs.declared.rounds.Role.{Role}
-use Rattle.script_text.specs.declared.rounds.Role.TheVariants.{Sender, Receiver, Reporter, Pruner}
-use Rattle.script_text.specs.Rounds.{worker_of}
+use Rattle.script_core.specs.declared.script.Script.{Script}
+use Rattle.script_core.specs.declared.steps.ClientStep.{ClientStep}
+use Rattle.script_core.specs.declared.steps.OperatorStep.{OperatorStep}
+use Rattle.script_core.specs.declared.steps.Step.{Step}
+use Rattle.script_core.specs.declared.steps.Step.TheVariants.{Client, Operator}
+use Rattle.script_core.specs.declared.steps.Section.{Section}
+use Rattle.script_core.specs.declared.rounds.Role.{Role}
+use Rattle.script_core.specs.declared.rounds.Role.TheVariants.{Sender, Receiver, Reporter, Pruner}
+use Rattle.script_core.specs.Rounds.{worker_of}
 
 -- ---- a move
 

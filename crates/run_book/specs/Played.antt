@@ -3,13 +3,13 @@ use Rattle.std.specs.Prelude.{◌≡◌, ℕ, ◌==◌, ◌&&◌, not, cond, map
 use Rattle.dc_talk.specs.declared.log.Deed.{Deed}
 use Rattle.dc_talk.specs.declared.log.Note.{Note}
 use Rattle.dc_talk.specs.Clients.{new_client}
-use Rattle.script_text.specs.declared.script.Script.{Script}
-use Rattle.script_text.specs.declared.steps.OperatorStep.TheVariants.{Link}
-use Rattle.script_text.specs.declared.rounds.Role.TheVariants.{Sender, Receiver, Reporter, Pruner}
-use Rattle.script_text.specs.Deeds.{Progress, StepDeeds, stepped}
-use Rattle.script_text.specs.Orders.{OperatorDeeds}
-use Rattle.script_text.specs.Mail.{Post, new_post, post_put, due_in_round, post_after_round, due_at_close, post_closed, post_set}
-use Rattle.script_text.specs.Rounds.{SenderDeeds, mailed, ReceiverDeeds, ReporterDeeds, PrunerDeeds}
+use Rattle.script_core.specs.declared.script.Script.{Script}
+use Rattle.script_core.specs.declared.steps.OperatorStep.TheVariants.{Link}
+use Rattle.script_core.specs.declared.rounds.Role.TheVariants.{Sender, Receiver, Reporter, Pruner}
+use Rattle.script_core.specs.Deeds.{Progress, StepDeeds, stepped}
+use Rattle.script_core.specs.Orders.{OperatorDeeds}
+use Rattle.script_core.specs.Mail.{Post, new_post, post_put, due_in_round, post_after_round, due_at_close, post_closed, post_set}
+use Rattle.script_core.specs.Rounds.{SenderDeeds, mailed, ReceiverDeeds, ReporterDeeds, PrunerDeeds}
 use Rattle.run_book.specs.Happenings.{Happened, happening}
 use Rattle.run_book.specs.Moves.{Does, client_does, operator_does, worker_does, closes, Move, actor_of}
 

@@ -1,6 +1,6 @@
 -- When a book has the steps of a script.
 use Rattle.std.specs.Prelude.{◌≡◌, ℕ, List}
-use Rattle.script_text.specs.declared.script.Script.{Script}
+use Rattle.script_core.specs.declared.script.Script.{Script}
 use Rattle.run_book.specs.declared.book.Book.{Book}
 use Rattle.run_book.specs.Parts.{trail_of, notes_of}
 use Rattle.run_book.specs.Happenings.{Happened, notes_by, trail_in}

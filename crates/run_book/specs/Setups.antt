@@ -1,7 +1,7 @@
 -- How a run is set up, and how each of its centres is.
 use Rattle.std.specs.Prelude.{ℕ}
 use Rattle.dc_talk.specs.declared.settings.Settings.{Settings}
-use Rattle.script_text.specs.declared.script.Script.{Script}
+use Rattle.script_core.specs.declared.script.Script.{Script}
 use Rattle.run_book.specs.declared.book.Book.{Book}
 
 -- how many clients there are, how many transactions a centre stamps, and how many entries a client's

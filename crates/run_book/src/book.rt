@@ -4,9 +4,9 @@ ghost use Rattle.run_book.specs.Books.{entries_of};
 
 use dc_centre::Centre;
 use dc_talk::Log;
-use hist_lock::Trail;
 use ids_core::NoMemory;
 use list_core::List;
+use machine_trail::Trail;
 use std::alloc::Global;
 use std::marker::Model;
 

@@ -28,7 +28,7 @@ ghost use Rattle.run_book.specs.Happenings.{Happened, AreTogether, TrimsInTime, 
 ghost use Rattle.run_book.specs.Moves.{moves_of};
 ghost use Rattle.run_book.specs.Played.{Stage, HavePlayed};
 ghost use Rattle.run_book.specs.Setups.{setup_of};
-ghost use Rattle.script_text.specs.declared.script.Script.{Script};
+ghost use Rattle.script_core.specs.declared.script.Script.{Script};
 
 use crate::book::Book;
 

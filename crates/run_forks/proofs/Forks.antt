@@ -7,9 +7,9 @@ use Rattle.dc_talk.specs.declared.log.Fate.{Fate}
 use Rattle.dc_talk.specs.declared.log.Fate.TheVariants.{Unheard}
 use Rattle.dc_talk.specs.declared.log.Deed.{Deed}
 use Rattle.dc_talk.specs.declared.log.Deed.TheVariants.{Asked}
-use Rattle.script_text.specs.declared.steps.AskFault.{AskFault}
-use Rattle.script_text.specs.declared.steps.AskFault.TheVariants.{LoseAsk, LoseReply, Twice}
-use Rattle.script_text.specs.Deeds.{fate_of}
+use Rattle.script_core.specs.declared.steps.AskFault.{AskFault}
+use Rattle.script_core.specs.declared.steps.AskFault.TheVariants.{LoseAsk, LoseReply, Twice}
+use Rattle.script_core.specs.Deeds.{fate_of}
 use Rattle.run_forks.specs.Forks.{AreRivals, IsFork, AreOneOrFork}
 use Rattle.run_forks.proofs.Deciding.{say_same}
 

@@ -19,8 +19,8 @@ use Rattle.dc_talk.specs.declared.settings.Settings.{Settings}
 use Rattle.dc_talk.specs.Entries.{Entry}
 use Rattle.dc_talk.specs.Logs.{marked, answered, exchanged_in, entry_for}
 use Rattle.dc_talk.specs.Answers.{answer, History}
-use Rattle.script_text.specs.declared.rounds.Role.TheVariants.{Sender, Receiver, Reporter, Pruner}
-use Rattle.script_text.specs.Mail.{due_in_round, due_at_close}
+use Rattle.script_core.specs.declared.rounds.Role.TheVariants.{Sender, Receiver, Reporter, Pruner}
+use Rattle.script_core.specs.Mail.{due_in_round, due_at_close}
 use Rattle.run_book.specs.Setups.{Setup, settings_among}
 use Rattle.run_book.specs.Happenings.{Happened, entry_in, trail_in, happening, GoesToOneOf}
 use Rattle.run_book.specs.Moves.{Does, client_does, operator_does, worker_does, closes, Move, actor_of}

@@ -15,11 +15,11 @@ use Rattle.dc_talk.specs.declared.log.Deed.TheVariants.{Asked}
 use Rattle.dc_talk.specs.declared.line.Line.{Line}
 use Rattle.dc_talk.specs.declared.line.ShipEnd.{ShipEnd}
 use Rattle.dc_talk.specs.declared.line.ShipEnd.TheVariants.{Absent}
-use Rattle.script_text.specs.declared.steps.OperatorStep.{OperatorStep}
-use Rattle.script_text.specs.declared.steps.OperatorStep.TheVariants.{Down, Up, ShipOne, Ship, Relay, Tell, Prune, Link, Settle}
-use Rattle.script_text.specs.Deeds.{told}
-use Rattle.script_text.specs.Carrying.{Route, route, detour, is_there, delivery_end, send_end, stopped_end, ship_line, relay_line, tell_line, Delivers, AfterSend, Sends, AfterReport, Supplies, own_need, origin_need, Ships, Relays, AfterTold, Tells, routes, detours, InTurn, no_turn, next_turn, Passes, is_news, Settles, last_pass, one_pass}
-use Rattle.script_text.specs.Orders.{Orders, base_line, OperatorDeeds}
+use Rattle.script_core.specs.declared.steps.OperatorStep.{OperatorStep}
+use Rattle.script_core.specs.declared.steps.OperatorStep.TheVariants.{Down, Up, ShipOne, Ship, Relay, Tell, Prune, Link, Settle}
+use Rattle.script_core.specs.Deeds.{told}
+use Rattle.script_core.specs.Carrying.{Route, route, detour, is_there, delivery_end, send_end, stopped_end, ship_line, relay_line, tell_line, Delivers, AfterSend, Sends, AfterReport, Supplies, own_need, origin_need, Ships, Relays, AfterTold, Tells, routes, detours, InTurn, no_turn, next_turn, Passes, is_news, Settles, last_pass, one_pass}
+use Rattle.script_core.specs.Orders.{Orders, base_line, OperatorDeeds}
 use Rattle.run_forks.specs.Forks.{IsFork, AreOneOrFork}
 use Rattle.run_forks.proofs.Forks.{OneWith, Same, fork_as, fork_front, with_as, with_then, one_or_fork, both_are, by_unheard}
 

@@ -7,10 +7,10 @@ use Rattle.dc_talk.specs.declared.say.Say.{Say}
 use Rattle.dc_talk.specs.declared.say.Say.TheVariants.{Vector}
 use Rattle.dc_talk.specs.declared.log.Deed.{Deed}
 use Rattle.dc_talk.specs.declared.line.Line.{Line}
-use Rattle.script_text.specs.declared.rounds.TheConstants.{MOST_MAILED}
-use Rattle.script_text.specs.Carrying.{Route, route, Tells}
-use Rattle.script_text.specs.Orders.{Orders}
-use Rattle.script_text.specs.Rounds.{others, records_in, AfterNeeded, Mails, SenderDeeds, Brings, ReceiverDeeds, ReporterDeeds, is_prune_round, PrunerDeeds}
+use Rattle.script_core.specs.declared.rounds.TheConstants.{MOST_MAILED}
+use Rattle.script_core.specs.Carrying.{Route, route, Tells}
+use Rattle.script_core.specs.Orders.{Orders}
+use Rattle.script_core.specs.Rounds.{others, records_in, AfterNeeded, Mails, SenderDeeds, Brings, ReceiverDeeds, ReporterDeeds, is_prune_round, PrunerDeeds}
 use Rattle.run_forks.specs.Forks.{AreOneOrFork}
 use Rattle.run_forks.proofs.Forks.{OneWith, Same, one_or_fork, both_are}
 use Rattle.run_forks.proofs.OperatorForks.{nothing, begun, tells_fork, plain, turns_fork, orders_fork}

@@ -2,11 +2,11 @@
 ghost use Rattle.std.specs.Prelude.{◌≡◌, ℕ, List};
 ghost use Rattle.dc_talk.specs.declared.sent.Sent.{Sent};
 ghost use Rattle.dc_talk.specs.declared.log.Deed.{Deed};
-ghost use Rattle.script_text.specs.declared.steps.ClientStep.{ClientStep};
-ghost use Rattle.script_text.specs.declared.steps.OperatorStep.{OperatorStep};
-ghost use Rattle.script_text.specs.Deeds.{Progress, StepDeeds};
-ghost use Rattle.script_text.specs.Orders.{OperatorDeeds};
-ghost use Rattle.script_text.specs.Rounds.{SenderDeeds, ReceiverDeeds, ReporterDeeds, PrunerDeeds};
+ghost use Rattle.script_core.specs.declared.steps.ClientStep.{ClientStep};
+ghost use Rattle.script_core.specs.declared.steps.OperatorStep.{OperatorStep};
+ghost use Rattle.script_core.specs.Deeds.{Progress, StepDeeds};
+ghost use Rattle.script_core.specs.Orders.{OperatorDeeds};
+ghost use Rattle.script_core.specs.Rounds.{SenderDeeds, ReceiverDeeds, ReporterDeeds, PrunerDeeds};
 ghost use Rattle.run_book.specs.Setups.{Setup};
 ghost use Rattle.run_book.specs.Happenings.{Happened};
 ghost use Rattle.run_book.specs.Moves.{Move};

@@ -6,7 +6,7 @@ use Rattle.std.proofs.lemmas.List.{map-append}
 use Rattle.vv_core.specs.Vectors.{most}
 use Rattle.dc_talk.specs.declared.log.Note.{Note}
 use Rattle.dc_talk.specs.Logs.{Logged}
-use Rattle.script_text.specs.declared.script.Script.{Script}
+use Rattle.script_core.specs.declared.script.Script.{Script}
 use Rattle.run_book.specs.declared.book.Book.{Book}
 use Rattle.run_book.specs.Parts.{idle_log}
 use Rattle.print_text.specs.Text.{section_text, operator_last, last_section, lines_in, text_of}

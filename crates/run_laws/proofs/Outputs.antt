@@ -2,8 +2,8 @@
 use Rattle.std.proofs.Common.{◌≡◌, ◌≢◌, inl, inr, ℕ, Bool, true, false, List, ◌++◌, Option, Some, refl, sym, ap, ◌∙◌, subst}
 use Rattle.io_edge.specs.Streams.{puts_behind}
 use Rattle.std.specs.Prelude.{Ok}
-use Rattle.script_text.specs.declared.script.Script.{Script}
-use Rattle.script_text.specs.Scripts.{IsInRange}
+use Rattle.script_core.specs.declared.script.Script.{Script}
+use Rattle.script_core.specs.Scripts.{IsInRange}
 use Rattle.script_reader.specs.declared.fault.Cause.{Cause}
 use Rattle.script_reader.specs.Scripts.{script_read}
 use Rattle.script_reader.proofs.ScriptRanges.{script_in_range}

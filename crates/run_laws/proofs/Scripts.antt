@@ -4,7 +4,7 @@ use Rattle.std.specs.Prelude.{Some, Ok, Err}
 use Rattle.command_line.specs.declared.form.Form.{Form}
 use Rattle.script_reader.specs.declared.fault.Cause.{Cause}
 use Rattle.script_reader.specs.declared.fault.ScriptFault.TheVariants.{Refused}
-use Rattle.script_text.specs.declared.script.Script.{Script}
+use Rattle.script_core.specs.declared.script.Script.{Script}
 use Rattle.script_reader.specs.Scripts.{script_read}
 use Rattle.run_book.specs.declared.book.Book.{Book}
 use Rattle.top_call.specs.Runs.{IsCausalRun, IsRead, IsRefusedAt, refusal_text}

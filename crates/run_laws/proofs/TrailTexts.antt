@@ -10,7 +10,7 @@ use Rattle.dc_talk.specs.Records.{own}
 use Rattle.dc_talk.specs.Rule.{client_after}
 use Rattle.dc_talk.specs.Trails.{applied}
 use Rattle.dc_talk.specs.declared.log.Note.{Note}
-use Rattle.script_text.specs.declared.script.Script.{Script}
+use Rattle.script_core.specs.declared.script.Script.{Script}
 use Rattle.run_book.specs.declared.book.Book.{Book}
 use Rattle.run_book.specs.Graphs.{own_dots}
 use Rattle.run_book.specs.Parts.{notes_of, trail_of}

@@ -4,7 +4,7 @@ use Rattle.command_line.specs.declared.form.Form.{Form}
 use Rattle.command_line.specs.declared.form.Form.TheVariants.{Run, Load}
 use Rattle.command_line.specs.Forms.{spelled}
 use Rattle.io_edge.specs.Streams.{puts_behind}
-use Rattle.script_text.specs.declared.script.Script.{Script}
+use Rattle.script_core.specs.declared.script.Script.{Script}
 use Rattle.script_reader.specs.Scripts.{script_read}
 use Rattle.run_sections.specs.Runs.{HasNoPhase}
 use Rattle.top_call.specs.Runs.{Given, IsDone, IsRefusal, IsUsage, Wrote}

@@ -1,7 +1,7 @@
 // The laws of runs. Each is a function with nothing to do, whose contract is the law.
 ghost use Rattle.std.specs.Prelude.{◌≡◌, ℕ, Bool, List, Ok, Option};
-ghost use Rattle.script_text.specs.declared.script.Script.{Script};
-ghost use Rattle.script_text.specs.Scripts.{IsInRange};
+ghost use Rattle.script_core.specs.declared.script.Script.{Script};
+ghost use Rattle.script_core.specs.Scripts.{IsInRange};
 ghost use Rattle.script_reader.specs.Scripts.{script_read};
 ghost use Rattle.command_line.specs.declared.form.Form.TheVariants.{Run, Serial};
 ghost use Rattle.command_line.specs.Forms.{spelled};

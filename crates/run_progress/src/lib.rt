@@ -2,7 +2,7 @@
 #![tactic(auto)]
 
 use io_edge::FreeGate;
-use script_text::Script;
+use script_core::Script;
 
 /// How much of a script there is to play.
 #[derive(Clone, Copy)]

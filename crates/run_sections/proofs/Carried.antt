@@ -14,9 +14,9 @@ use Rattle.dc_talk.specs.Entries.{Entry}
 use Rattle.dc_talk.specs.Sents.{with_hops}
 use Rattle.dc_talk.specs.Logs.{exchanged_in}
 use Rattle.dc_talk.specs.Answers.{History}
-use Rattle.script_text.specs.declared.script.Script.{Script}
-use Rattle.script_text.specs.Steps.{IsCount}
-use Rattle.script_text.specs.Provenance.{HasAnswer as HasBrought, WasSent as WasBrought, Carries, CarriesAll}
+use Rattle.script_core.specs.declared.script.Script.{Script}
+use Rattle.script_core.specs.Steps.{IsCount}
+use Rattle.script_core.specs.Provenance.{HasAnswer as HasBrought, WasSent as WasBrought, Carries, CarriesAll}
 use Rattle.run_book.specs.Setups.{setup_of, settings_among}
 use Rattle.run_book.specs.Parts.{exchanged, entries_by}
 use Rattle.run_book.specs.Happenings.{GoesToOneOf, HasAnswer, WasSent, CarrierAsks, CarrierAllows}

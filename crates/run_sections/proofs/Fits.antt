@@ -21,9 +21,9 @@ use Rattle.dc_talk.specs.Sents.{with_hops}
 use Rattle.dc_talk.specs.Logs.{Logged}
 use Rattle.dc_talk.specs.Answers.{History}
 use Rattle.dc_talk.specs.Rule.{Follows, commits_of}
-use Rattle.script_text.specs.declared.script.Script.{Script}
-use Rattle.script_text.specs.Scripts.{IsInRange}
-use Rattle.script_text.specs.Steps.{IsCount}
+use Rattle.script_core.specs.declared.script.Script.{Script}
+use Rattle.script_core.specs.Scripts.{IsInRange}
+use Rattle.script_core.specs.Steps.{IsCount}
 use Rattle.run_book.specs.declared.book.Book.{Book}
 use Rattle.run_book.specs.Setups.{setup_of, settings_among, centre_settings}
 use Rattle.run_book.specs.Parts.{trail_of, idle_log, notes_of, entries_by, exchanged, IsClient}

@@ -15,19 +15,19 @@ use Rattle.dc_talk.specs.declared.say.Say.{Say}
 use Rattle.dc_talk.specs.declared.log.Note.{Note}
 use Rattle.dc_talk.specs.Entries.{Entry}
 use Rattle.dc_talk.specs.Logs.{Logged, entry_for}
-use Rattle.script_text.specs.declared.script.Script.{Script}
-use Rattle.script_text.specs.declared.steps.ClientStep.{ClientStep}
-use Rattle.script_text.specs.declared.steps.OperatorStep.{OperatorStep}
-use Rattle.script_text.specs.declared.steps.Step.{Step}
-use Rattle.script_text.specs.declared.steps.Step.TheVariants.{Client, Operator}
-use Rattle.script_text.specs.declared.steps.Section.{Section}
-use Rattle.script_text.specs.declared.rounds.Role.{Role}
-use Rattle.script_text.specs.declared.rounds.Role.TheVariants.{Sender, Receiver, Reporter, Pruner}
-use Rattle.script_text.specs.Deeds.{Progress, StepDeeds, stepped}
-use Rattle.script_text.specs.Rounds.{worker_of}
-use Rattle.script_text.specs.Rows.{section_of, IsSection}
-use Rattle.script_text.specs.Scripts.{header_of, IsInRange}
-use Rattle.script_text.specs.Steps.{IsCount, IsStepOf}
+use Rattle.script_core.specs.declared.script.Script.{Script}
+use Rattle.script_core.specs.declared.steps.ClientStep.{ClientStep}
+use Rattle.script_core.specs.declared.steps.OperatorStep.{OperatorStep}
+use Rattle.script_core.specs.declared.steps.Step.{Step}
+use Rattle.script_core.specs.declared.steps.Step.TheVariants.{Client, Operator}
+use Rattle.script_core.specs.declared.steps.Section.{Section}
+use Rattle.script_core.specs.declared.rounds.Role.{Role}
+use Rattle.script_core.specs.declared.rounds.Role.TheVariants.{Sender, Receiver, Reporter, Pruner}
+use Rattle.script_core.specs.Deeds.{Progress, StepDeeds, stepped}
+use Rattle.script_core.specs.Rounds.{worker_of}
+use Rattle.script_core.specs.Rows.{section_of, IsSection}
+use Rattle.script_core.specs.Scripts.{header_of, IsInRange}
+use Rattle.script_core.specs.Steps.{IsCount, IsStepOf}
 use Rattle.run_book.specs.declared.book.Book.{Book}
 use Rattle.run_book.specs.Parts.{trail_of, idle_log, notes_of, exchanged, entries_by}
 use Rattle.run_book.specs.Happenings.{Happened, note_by, notes_by, entry_in, trail_in, happening}

@@ -11,9 +11,9 @@ use Rattle.dc_talk.specs.declared.log.Deed.{Deed}
 use Rattle.dc_talk.specs.declared.log.Note.{Note}
 use Rattle.dc_talk.specs.Clients.{Client, new_client}
 use Rattle.dc_talk.specs.Rule.{Allows, Follows, after, client_after}
-use Rattle.script_text.specs.declared.steps.ClientStep.{ClientStep}
-use Rattle.script_text.specs.Deeds.{Progress}
-use Rattle.script_text.specs.Steps.{IsStep}
+use Rattle.script_core.specs.declared.steps.ClientStep.{ClientStep}
+use Rattle.script_core.specs.Deeds.{Progress}
+use Rattle.script_core.specs.Steps.{IsStep}
 use Rattle.run_book.specs.Happenings.{GoesToOneOf, IsLinkWithin, ClientDoes}
 use Rattle.run_book.proofs.Happenings.Reach.{AllGo, step_go, after_within}
 use Rattle.run_sections.specs.Orders.{deeds_of, InOrder, none_left, one_first, ClientGoes}

@@ -8,12 +8,12 @@ use Rattle.vv_core.specs.Vectors.{centres}
 use Rattle.dc_talk.specs.declared.sent.Sent.{Sent}
 use Rattle.dc_talk.specs.declared.log.Note.{Note}
 use Rattle.dc_talk.specs.Entries.{Entry}
-use Rattle.script_text.specs.declared.steps.OperatorStep.{OperatorStep}
-use Rattle.script_text.specs.declared.steps.OperatorStep.TheVariants.{Link}
-use Rattle.script_text.specs.Steps.{IsCount}
-use Rattle.script_text.specs.Links.{Inlet, arrivals, arrived_count, inlet_set}
-use Rattle.script_text.specs.Rounds.{others, Brings}
-use Rattle.script_text.proofs.Arriving.{arrivals_among}
+use Rattle.script_core.specs.declared.steps.OperatorStep.{OperatorStep}
+use Rattle.script_core.specs.declared.steps.OperatorStep.TheVariants.{Link}
+use Rattle.script_core.specs.Steps.{IsCount}
+use Rattle.script_core.specs.Links.{Inlet, arrivals, arrived_count, inlet_set}
+use Rattle.script_core.specs.Rounds.{others, Brings}
+use Rattle.script_core.proofs.Arriving.{arrivals_among}
 use Rattle.run_book.specs.Happenings.{WasSent, CarrierAllows}
 use Rattle.run_book.proofs.Happenings.WorkerRounds.{others_within, brings_sent, turns_sent}
 use Rattle.run_sections.specs.Orders.{deeds_of, InOrder, none_left, one_first, Intake, Receipt, takes_some, takes_rest, delivered_of, inlet_then, ReceiverGoes}

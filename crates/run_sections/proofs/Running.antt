@@ -14,11 +14,11 @@ use Rattle.dc_talk.specs.Clients.{Client, new_client}
 use Rattle.dc_talk.specs.Entries.{Entry}
 use Rattle.dc_talk.specs.Answers.{History, answer}
 use Rattle.dc_talk.specs.Rule.{Allows, Follows, after, client_after}
-use Rattle.script_text.specs.declared.script.Script.{Script}
-use Rattle.script_text.specs.declared.steps.Section.{Section}
-use Rattle.script_text.specs.Rows.{IsSection}
-use Rattle.script_text.specs.Scripts.{header_of, IsInRange}
-use Rattle.script_text.specs.Steps.{IsCount}
+use Rattle.script_core.specs.declared.script.Script.{Script}
+use Rattle.script_core.specs.declared.steps.Section.{Section}
+use Rattle.script_core.specs.Rows.{IsSection}
+use Rattle.script_core.specs.Scripts.{header_of, IsInRange}
+use Rattle.script_core.specs.Steps.{IsCount}
 use Rattle.run_book.specs.Setups.{setup_of, settings_among}
 use Rattle.run_book.specs.Happenings.{ClientDoes}
 use Rattle.run_sections.specs.Apart.{AreApart, StandsAt, notes_then, trails_then}

@@ -13,15 +13,15 @@ use Rattle.dc_talk.specs.Entries.{Entry}
 use Rattle.dc_talk.specs.Logs.{exchanged_in}
 use Rattle.dc_talk.specs.Answers.{History}
 use Rattle.dc_talk.specs.Rule.{after}
-use Rattle.script_text.specs.declared.script.Script.{Script}
-use Rattle.script_text.specs.declared.steps.Section.{Section}
-use Rattle.script_text.specs.declared.rounds.Role.{Role}
-use Rattle.script_text.specs.declared.rounds.Role.TheVariants.{Sender, Receiver, Reporter, Pruner}
-use Rattle.script_text.specs.Links.{Inlet}
-use Rattle.script_text.specs.Rows.{IsSection}
-use Rattle.script_text.specs.Rounds.{worker_of}
-use Rattle.script_text.specs.Scripts.{header_of}
-use Rattle.script_text.specs.Steps.{IsCount}
+use Rattle.script_core.specs.declared.script.Script.{Script}
+use Rattle.script_core.specs.declared.steps.Section.{Section}
+use Rattle.script_core.specs.declared.rounds.Role.{Role}
+use Rattle.script_core.specs.declared.rounds.Role.TheVariants.{Sender, Receiver, Reporter, Pruner}
+use Rattle.script_core.specs.Links.{Inlet}
+use Rattle.script_core.specs.Rows.{IsSection}
+use Rattle.script_core.specs.Rounds.{worker_of}
+use Rattle.script_core.specs.Scripts.{header_of}
+use Rattle.script_core.specs.Steps.{IsCount}
 use Rattle.dc_worker.proofs.Mailing.{mailed_sent}
 use Rattle.dc_worker.proofs.RoundDeeds.{sender_carries, reporter_carries, pruner_carries}
 use Rattle.run_book.specs.Setups.{setup_of, settings_among}

@@ -3,14 +3,14 @@ use Rattle.std.specs.Prelude.{◌≡◌, ◌≢◌, ◌≤◌, ℕ, ◌+◌, map
 use Rattle.dc_talk.specs.declared.sent.Sent.{Sent}
 use Rattle.dc_talk.specs.declared.log.Deed.{Deed}
 use Rattle.dc_talk.specs.declared.log.Note.{Note}
-use Rattle.script_text.specs.declared.steps.ClientStep.{ClientStep}
-use Rattle.script_text.specs.declared.steps.OperatorStep.{OperatorStep}
-use Rattle.script_text.specs.declared.rounds.TheConstants.{MOST_MAILED}
-use Rattle.script_text.specs.Steps.{IsCount}
-use Rattle.script_text.specs.Deeds.{Progress, StepDeeds, stepped}
-use Rattle.script_text.specs.Orders.{OperatorDeeds}
-use Rattle.script_text.specs.Links.{Inlet, arrivals, arrived, inlet_after, inlet_closed}
-use Rattle.script_text.specs.Rounds.{SenderDeeds, ReceiverDeeds, ReporterDeeds, PrunerDeeds}
+use Rattle.script_core.specs.declared.steps.ClientStep.{ClientStep}
+use Rattle.script_core.specs.declared.steps.OperatorStep.{OperatorStep}
+use Rattle.script_core.specs.declared.rounds.TheConstants.{MOST_MAILED}
+use Rattle.script_core.specs.Steps.{IsCount}
+use Rattle.script_core.specs.Deeds.{Progress, StepDeeds, stepped}
+use Rattle.script_core.specs.Orders.{OperatorDeeds}
+use Rattle.script_core.specs.Links.{Inlet, arrivals, arrived, inlet_after, inlet_closed}
+use Rattle.script_core.specs.Rounds.{SenderDeeds, ReceiverDeeds, ReporterDeeds, PrunerDeeds}
 use Rattle.run_book.specs.Played.{IsAt}
 
 -- the deeds of notes

@@ -1,8 +1,8 @@
 -- When a book has the steps of a script that were played section by section, with threads in its phases.
 use Rattle.std.specs.Prelude.{◌≡◌, ℕ, ◌+◌, false, flat_map, All, List, [], ◌∷◌}
-use Rattle.script_text.specs.declared.script.Script.{Script}
-use Rattle.script_text.specs.declared.steps.Section.{Section}
-use Rattle.script_text.specs.Steps.{IsCount}
+use Rattle.script_core.specs.declared.script.Script.{Script}
+use Rattle.script_core.specs.declared.steps.Section.{Section}
+use Rattle.script_core.specs.Steps.{IsCount}
 use Rattle.run_book.specs.declared.book.Book.{Book}
 use Rattle.run_book.specs.Setups.{setup_of}
 use Rattle.run_book.specs.Parts.{trail_of, notes_of}

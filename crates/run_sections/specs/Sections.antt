@@ -6,15 +6,15 @@ use Rattle.list_core.specs.Members.{In}
 use Rattle.dc_talk.specs.declared.sent.Sent.{Sent}
 use Rattle.dc_talk.specs.declared.log.Note.{Note}
 use Rattle.dc_talk.specs.Entries.{Entry}
-use Rattle.script_text.specs.declared.script.Script.{Script}
-use Rattle.script_text.specs.declared.steps.OperatorStep.{OperatorStep}
-use Rattle.script_text.specs.declared.steps.OperatorStep.TheVariants.{Link}
-use Rattle.script_text.specs.declared.steps.Section.{Section}
-use Rattle.script_text.specs.declared.rounds.Role.TheVariants.{Sender, Receiver, Reporter, Pruner}
-use Rattle.script_text.specs.Steps.{IsCount}
-use Rattle.script_text.specs.Deeds.{Progress}
-use Rattle.script_text.specs.Links.{Inlet, clean_inlet, inlet_set}
-use Rattle.script_text.specs.Rounds.{worker_of, mailed}
+use Rattle.script_core.specs.declared.script.Script.{Script}
+use Rattle.script_core.specs.declared.steps.OperatorStep.{OperatorStep}
+use Rattle.script_core.specs.declared.steps.OperatorStep.TheVariants.{Link}
+use Rattle.script_core.specs.declared.steps.Section.{Section}
+use Rattle.script_core.specs.declared.rounds.Role.TheVariants.{Sender, Receiver, Reporter, Pruner}
+use Rattle.script_core.specs.Steps.{IsCount}
+use Rattle.script_core.specs.Deeds.{Progress}
+use Rattle.script_core.specs.Links.{Inlet, clean_inlet, inlet_set}
+use Rattle.script_core.specs.Rounds.{worker_of, mailed}
 use Rattle.run_book.specs.Parts.{exchanged, entries_by}
 use Rattle.run_book.specs.Moves.{client_steps, operator_steps}
 use Rattle.run_book.specs.Played.{new_progress}

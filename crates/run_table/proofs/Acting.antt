@@ -3,7 +3,7 @@ use Rattle.std.proofs.Common.{◌≡◌, ◌≤◌, ◌<◌, ℕ, suc, ◌+◌, 
 use Rattle.std.specs.Prelude.{slice_get, slice_set}
 use Rattle.std.proofs.lemmas.Option.{get_or_from_slice_get, slice_get_read}
 use Rattle.std.proofs.lemmas.List.Elements.{All-nil, All-cons}
-use Rattle.hist_lock.specs.History.{entry}
+use Rattle.machine_trail.specs.History.{entry}
 use Rattle.dc_talk.specs.declared.ask.Ask.{Ask}
 use Rattle.dc_talk.specs.declared.say.Say.{Say}
 use Rattle.dc_talk.specs.declared.log.Fate.TheVariants.{Unheard}
@@ -15,7 +15,7 @@ use Rattle.dc_talk.proofs.Doors.{done_ask}
 use Rattle.dc_host.specs.declared.kept_door.KeptPlace.{KeptPlace}
 use Rattle.dc_host.specs.Centres.{CentreTrail}
 use Rattle.dc_host.specs.KeptDoors.{KeptView, shown_of, place_of, begun}
-use Rattle.script_text.specs.declared.steps.ClientStep.{ClientStep}
+use Rattle.script_core.specs.declared.steps.ClientStep.{ClientStep}
 use Rattle.dc_talk.specs.Acting.{IsAskBehind, acting}
 use Rattle.run_book.specs.Moves.{Does}
 use Rattle.client_stub.specs.Playing.{StubView, IsLinkBehind, Takes, beside}

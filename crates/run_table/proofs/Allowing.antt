@@ -12,14 +12,14 @@ use Rattle.dc_talk.specs.declared.log.Note.{Note}
 use Rattle.dc_talk.specs.Logs.{Logged, marked, noted}
 use Rattle.dc_talk.specs.Clients.{Client}
 use Rattle.dc_talk.specs.Rule.{after}
-use Rattle.script_text.specs.declared.script.Header.{Header}
-use Rattle.script_text.specs.declared.steps.ClientStep.{ClientStep}
-use Rattle.script_text.specs.declared.steps.OperatorStep.{OperatorStep}
-use Rattle.script_text.specs.declared.steps.Step.{Step}
-use Rattle.script_text.specs.declared.steps.Step.TheVariants.{Client as ClientOf, Operator}
-use Rattle.script_text.specs.declared.steps.Section.{Section}
-use Rattle.script_text.specs.Rows.{IsPhase, IsInPhase}
-use Rattle.script_text.specs.Steps.{IsCount, IsStep, IsOperatorStep, IsStepOf}
+use Rattle.script_core.specs.declared.script.Header.{Header}
+use Rattle.script_core.specs.declared.steps.ClientStep.{ClientStep}
+use Rattle.script_core.specs.declared.steps.OperatorStep.{OperatorStep}
+use Rattle.script_core.specs.declared.steps.Step.{Step}
+use Rattle.script_core.specs.declared.steps.Step.TheVariants.{Client as ClientOf, Operator}
+use Rattle.script_core.specs.declared.steps.Section.{Section}
+use Rattle.script_core.specs.Rows.{IsPhase, IsInPhase}
+use Rattle.script_core.specs.Steps.{IsCount, IsStep, IsOperatorStep, IsStepOf}
 use Rattle.client_stub.specs.Playing.{AllowsAll}
 use Rattle.run_book.specs.Moves.{client_step, operator_step, client_steps, operator_steps}
 use Rattle.run_book.specs.Happenings.{ClientDoes}

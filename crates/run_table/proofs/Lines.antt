@@ -9,11 +9,11 @@ use Rattle.std.proofs.lemmas.List.Sums.{fold-append}
 use Rattle.std.proofs.lemmas.List.FromFn.{get_or-map-range_with_len, length-map-range_with_len}
 use Rattle.std.proofs.lemmas.List.Elements.{filter_map-append, All-nil, All-cons, All-head, All-tail}
 use Rattle.list_core.specs.Choices.{when}
-use Rattle.script_text.specs.declared.steps.ClientStep.{ClientStep}
-use Rattle.script_text.specs.declared.steps.OperatorStep.{OperatorStep}
-use Rattle.script_text.specs.declared.steps.Step.{Step}
-use Rattle.script_text.specs.declared.steps.Step.TheVariants.{Client, Operator}
-use Rattle.script_text.specs.declared.steps.Section.{Section}
+use Rattle.script_core.specs.declared.steps.ClientStep.{ClientStep}
+use Rattle.script_core.specs.declared.steps.OperatorStep.{OperatorStep}
+use Rattle.script_core.specs.declared.steps.Step.{Step}
+use Rattle.script_core.specs.declared.steps.Step.TheVariants.{Client, Operator}
+use Rattle.script_core.specs.declared.steps.Section.{Section}
 use Rattle.run_book.specs.Moves.{client_step, operator_step, client_steps, operator_steps, most_steps}
 use Rattle.run_table.specs.declared.dealing.Dealt.{Dealt}
 use Rattle.run_table.specs.Dealing.{IsDealt, line_of}

@@ -7,14 +7,14 @@ use Rattle.dc_talk.specs.declared.links.LinkFault.{LinkFault}
 use Rattle.dc_talk.specs.declared.log.Deed.{Deed}
 use Rattle.dc_talk.specs.Acting.{Acting}
 use Rattle.dc_talk.specs.declared.sent.Sent.{Sent}
-use Rattle.script_text.specs.declared.steps.OperatorStep.TheVariants.{Link}
-use Rattle.script_text.specs.declared.rounds.Role.TheVariants.{Sender, Receiver, Reporter, Pruner}
-use Rattle.script_text.specs.Steps.{IsCount}
-use Rattle.script_text.specs.Mail.{Post, post_set, due_in_round, post_after_round, due_at_close, post_closed}
-use Rattle.script_text.specs.Rounds.{ReporterDeeds, PrunerDeeds}
+use Rattle.script_core.specs.declared.steps.OperatorStep.TheVariants.{Link}
+use Rattle.script_core.specs.declared.rounds.Role.TheVariants.{Sender, Receiver, Reporter, Pruner}
+use Rattle.script_core.specs.Steps.{IsCount}
+use Rattle.script_core.specs.Mail.{Post, post_set, due_in_round, post_after_round, due_at_close, post_closed}
+use Rattle.script_core.specs.Rounds.{ReporterDeeds, PrunerDeeds}
 use Rattle.dc_talk.specs.declared.ask.Ask.TheVariants.{Prune}
-use Rattle.script_text.specs.declared.rounds.TheConstants.{ROUNDS_BETWEEN_PRUNES}
-use Rattle.script_text.specs.Orders.{Orders}
+use Rattle.script_core.specs.declared.rounds.TheConstants.{ROUNDS_BETWEEN_PRUNES}
+use Rattle.script_core.specs.Orders.{Orders}
 use Rattle.dc_worker.specs.Work.{AddsSuch, CarriesSuch}
 use Rattle.dc_worker.proofs.Work.{adds_none}
 use Rattle.dc_mail.specs.Posts.{post_at, IsCentre, HasSet}

@@ -1,14 +1,14 @@
 -- The steps of a phase, dealt to its actors.
 use Rattle.std.specs.Prelude.{◌≡◌, ◌≤◌, ℕ, ◌-◌, List, [], length, map, slice_index_or}
 use Rattle.std.specs.List.{filter_map}
-use Rattle.script_text.specs.declared.steps.ClientStep.{ClientStep}
-use Rattle.script_text.specs.declared.steps.Step.{Step}
-use Rattle.script_text.specs.declared.steps.Step.TheVariants.{Client, Operator}
-use Rattle.script_text.specs.declared.steps.Section.{Section}
-use Rattle.script_text.specs.declared.script.Script.{Script}
-use Rattle.script_text.specs.Steps.{IsCount}
-use Rattle.script_text.specs.Rows.{IsPhase}
-use Rattle.script_text.specs.Scripts.{header_of, IsInRange}
+use Rattle.script_core.specs.declared.steps.ClientStep.{ClientStep}
+use Rattle.script_core.specs.declared.steps.Step.{Step}
+use Rattle.script_core.specs.declared.steps.Step.TheVariants.{Client, Operator}
+use Rattle.script_core.specs.declared.steps.Section.{Section}
+use Rattle.script_core.specs.declared.script.Script.{Script}
+use Rattle.script_core.specs.Steps.{IsCount}
+use Rattle.script_core.specs.Rows.{IsPhase}
+use Rattle.script_core.specs.Scripts.{header_of, IsInRange}
 use Rattle.run_book.specs.Moves.{client_step, operator_step}
 use Rattle.run_table.specs.declared.dealing.Dealt.{Dealt}
 

@@ -12,12 +12,12 @@ use Rattle.dc_talk.specs.declared.log.Deed.{Deed}
 use Rattle.dc_talk.specs.Acting.{Acting, Leaves, acting}
 use Rattle.dc_host.specs.Centres.{CentreTrail, new_centres}
 use Rattle.dc_host.specs.KeptDoors.{shown_of, begun}
-use Rattle.script_text.specs.declared.script.Script.{Script}
-use Rattle.script_text.specs.declared.steps.ClientStep.{ClientStep}
-use Rattle.script_text.specs.declared.steps.OperatorStep.{OperatorStep}
-use Rattle.script_text.specs.Steps.{IsCount}
+use Rattle.script_core.specs.declared.script.Script.{Script}
+use Rattle.script_core.specs.declared.steps.ClientStep.{ClientStep}
+use Rattle.script_core.specs.declared.steps.OperatorStep.{OperatorStep}
+use Rattle.script_core.specs.Steps.{IsCount}
 use Rattle.client_stub.specs.Playing.{StubView, Takes, Operates, beside}
-use Rattle.script_text.specs.Mail.{Post}
+use Rattle.script_core.specs.Mail.{Post}
 use Rattle.dc_mail.specs.Posts.{post_at, new_posts}
 use Rattle.run_book.specs.Parts.{idle_log}
 use Rattle.run_book.specs.Moves.{Does, operator_does}

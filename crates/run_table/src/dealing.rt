@@ -1,14 +1,14 @@
 // The steps of a phase, dealt to its actors.
 ghost use Rattle.std.specs.Prelude.{◌≡◌, ◌≤◌, ◌<◌, ℕ, List, ◌+◌, ◌-◌, ◌∷◌, ◌++◌, [], All, length, OnOk, IfOk, slice_get};
 ghost use Rattle.ids_core.specs.declared.limits.TheConstants.{MOST_CLIENTS};
-ghost use Rattle.script_text.specs.declared.steps.Step.{Step as StepOf};
-ghost use Rattle.script_text.specs.declared.steps.Section.{Section as SectionOf};
+ghost use Rattle.script_core.specs.declared.steps.Step.{Step as StepOf};
+ghost use Rattle.script_core.specs.declared.steps.Section.{Section as SectionOf};
 ghost use Rattle.run_book.specs.Moves.{most_steps, client_steps, operator_steps};
 ghost use Rattle.run_table.specs.Dealing.{IsDealt, IsOf, line_of};
 
 use dc_talk::Change;
 use ids_core::NoMemory;
-use script_text::{ClientStep, OperatorStep, Section, Step};
+use script_core::{ClientStep, OperatorStep, Section, Step};
 use std::alloc::Global;
 
 /// The steps of each client, in order, and those of the operator.

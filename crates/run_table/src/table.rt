@@ -1,10 +1,10 @@
 // The table of a run, and the steps that change it.
 ghost use Rattle.std.specs.Prelude.{◌≡◌, ◌≤◌, ◌<◌, ℕ, ◌+◌, ◌-◌, ◌*◌, List, length, Some, IfOk, OnOk, slice_get};
 ghost use Rattle.ids_core.specs.declared.limits.TheConstants.{MOST_CENTRES, MOST_CLIENTS};
-ghost use Rattle.script_text.specs.Steps.{IsStep, IsOperatorStep};
+ghost use Rattle.script_core.specs.Steps.{IsStep, IsOperatorStep};
 ghost use Rattle.client_stub.specs.Playing.{StubView, IsLinkBehind};
 ghost use Rattle.dc_host.specs.KeptDoors.{shown_of};
-ghost use Rattle.script_text.specs.Scripts.{IsInRange};
+ghost use Rattle.script_core.specs.Scripts.{IsInRange};
 ghost use Rattle.run_table.specs.Tables.{new_stubs, new_logs, IsNew, HasStepped, HasOperated, HasMadeRound, HasAskedOnce, HasPosts};
 ghost use Rattle.run_table.specs.Works.{work_of};
 ghost use Rattle.run_book.specs.Moves.{actor_of, operator_does};
@@ -17,7 +17,7 @@ use dc_host::{KeptDoor, centres_of};
 use dc_mail::Posts;
 use dc_talk::{Ask, Deed, Door, Fate, Log};
 use ids_core::NoMemory;
-use script_text::{ClientStep, OperatorStep, Script};
+use script_core::{ClientStep, OperatorStep, Script};
 use std::alloc::Global;
 
 /// The centres behind their door, the clients in order, the logs of all actors, and what lies on the links.

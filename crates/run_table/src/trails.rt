@@ -3,8 +3,8 @@ ghost use Rattle.std.specs.Prelude.{◌≡◌, map, IfOk};
 ghost use Rattle.dc_host.specs.Centres.{all_seen};
 
 use dc_centre::Centre;
-use hist_lock::Kept;
 use ids_core::NoMemory;
+use machine_trail::Kept;
 use run_book::Trails;
 use std::alloc::Global;
 

@@ -4,7 +4,7 @@ ghost use Rattle.ids_core.specs.declared.limits.TheConstants.{MOST_CENTRES, MOST
 ghost use Rattle.dc_talk.specs.Acting.{acting};
 ghost use Rattle.dc_talk.specs.Doors.{IsBehind};
 ghost use Rattle.run_book.specs.Moves.{actor_of};
-ghost use Rattle.script_text.specs.Rounds.{role_number, PrunerDeeds};
+ghost use Rattle.script_core.specs.Rounds.{role_number, PrunerDeeds};
 ghost use Rattle.dc_worker.specs.Work.{AddsSuch};
 ghost use Rattle.run_table.specs.Works.{work_of};
 ghost use Rattle.run_table.specs.Tables.{HasWorked};
@@ -13,7 +13,7 @@ use dc_mail::{Posts, close_all, receive_all, report_all, send_all};
 use dc_talk::{Door, Log};
 use dc_worker::prune_round;
 use ids_core::NoMemory;
-use script_text::{ROUNDS_BETWEEN_PRUNES, Role};
+use script_core::{ROUNDS_BETWEEN_PRUNES, Role};
 use std::alloc::Global;
 
 /// What a worker does: a round in its role, or the closing round of a receiver.

@@ -18,9 +18,9 @@ mod run_forks_tests;
 #[cfg(test)]
 mod run_laws_tests;
 #[cfg(test)]
-mod script_reader_tests;
+mod script_core_tests;
 #[cfg(test)]
-mod script_text_tests;
+mod script_reader_tests;
 #[cfg(test)]
 mod thread_run_tests;
 #[cfg(test)]

@@ -2,8 +2,8 @@
 use crate::world_core_tests::played;
 use dc_centre::Centre;
 use dc_talk::Log;
-use hist_lock::Trail;
 use ids_core::{Dot, NoMemory};
+use machine_trail::Trail;
 use print_text::text_of;
 use run_book::{
     Book, Logs, Trails, law_agree, law_causal, law_closed, law_known, law_numbers, law_one_list,

@@ -1,8 +1,8 @@
 // Which bytes are a script and of which settings and steps, and of others the line at fault and the cause. The texts, lines and causes follow the rules
 // of the language, and were not taken from the reader.
 use dc_talk::Change;
+use script_core::{ClientStep, OperatorStep, Section, Step};
 use script_reader::{Cause, ScriptFault, law_script_in_range, parse};
-use script_text::{ClientStep, OperatorStep, Section, Step};
 use std::alloc::Global;
 use std::test::Fail;
 

@@ -1,8 +1,8 @@
 // A machine that lets guests in.
 ghost use Rattle.std.specs.Prelude.{◌≡◌};
 
-use hist_lock::Machine;
 use ids_core::NoMemory;
+use machine_trail::Machine;
 
 /// A gate lets the first so many guests in, and says of each whether it let them in.
 #[derive(Drop)]

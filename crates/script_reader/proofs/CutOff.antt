@@ -4,10 +4,10 @@ use Rattle.std.specs.Prelude.{◌==◌, nat_lt, cond, Option, Result, Ok, Err}
 use Rattle.std.proofs.lemmas.Bool.{lt-ltb, cond-true, cond-false}
 use Rattle.std.proofs.lemmas.List.Elements.{All-head, All-tail}
 use Rattle.std.proofs.lemmas.List.Sums.{sum_by-cons}
-use Rattle.script_text.specs.Limits.{line_feeds, IsOfOneLine, PassesLimits}
-use Rattle.script_text.specs.Lines.{lines_of, onto_first}
-use Rattle.script_text.specs.declared.limits.TheConstants.{MAX_LINE, MAX_LINES}
-use Rattle.script_text.specs.declared.script.Script.{Script}
+use Rattle.script_core.specs.Limits.{line_feeds, IsOfOneLine, PassesLimits}
+use Rattle.script_core.specs.Lines.{lines_of, onto_first}
+use Rattle.script_core.specs.declared.limits.TheConstants.{MAX_LINE, MAX_LINES}
+use Rattle.script_core.specs.declared.script.Script.{Script}
 use Rattle.script_reader.specs.declared.fault.Cause.{Cause}
 use Rattle.script_reader.specs.declared.fault.Cause.TheVariants.{Many, Long}
 use Rattle.script_reader.specs.declared.fault.ScriptFault.{ScriptFault}

@@ -2,9 +2,9 @@
 use Rattle.std.proofs.Common.{◌≡◌, ◌≤◌, ◌+◌, ℕ, Bool, true, false, List, ◌∷◌, refl, ap, sym, ◌∙◌}
 use Rattle.std.specs.Prelude.{nat_lt, Option, Result, Ok, Err}
 use Rattle.std.proofs.lemmas.Bool.{ltb-false, cond-true}
-use Rattle.script_text.specs.declared.limits.TheConstants.{MAX_LINES}
-use Rattle.script_text.specs.declared.script.Header.{Header}
-use Rattle.script_text.specs.declared.script.Script.{Script}
+use Rattle.script_core.specs.declared.limits.TheConstants.{MAX_LINES}
+use Rattle.script_core.specs.declared.script.Header.{Header}
+use Rattle.script_core.specs.declared.script.Script.{Script}
 use Rattle.script_reader.specs.declared.fault.Cause.TheVariants.{Many}
 use Rattle.script_reader.specs.declared.fault.ScriptFault.{ScriptFault}
 use Rattle.script_reader.specs.declared.fault.ScriptFault.TheVariants.{Refused}

@@ -5,12 +5,12 @@ use Rattle.std.specs.List.{list_any}
 use Rattle.std.proofs.lemmas.Bool.{and_parts}
 use Rattle.ids_core.specs.Same.{same_sort-true}
 use Rattle.ids_core.specs.declared.limits.TheConstants.{MOST_CENTRES, MOST_CLIENTS, MOST_CACHED, MOST_RECORDS}
-use Rattle.script_text.specs.Steps.{IsCount, IsDetour, IsHeader, IsRoute, IsStepOf}
-use Rattle.script_text.specs.declared.limits.TheConstants.{MAX_LINE, MAX_LINES}
-use Rattle.script_text.specs.declared.script.Header.{Header}
+use Rattle.script_core.specs.Steps.{IsCount, IsDetour, IsHeader, IsRoute, IsStepOf}
+use Rattle.script_core.specs.declared.limits.TheConstants.{MAX_LINE, MAX_LINES}
+use Rattle.script_core.specs.declared.script.Header.{Header}
 use Rattle.script_reader.specs.declared.fault.Cause.{Cause}
 use Rattle.script_reader.specs.declared.fault.Cause.TheVariants as cause
-use Rattle.script_text.specs.declared.script.TheConstants.{MOST_THREADS, MOST_ROUNDS}
+use Rattle.script_core.specs.declared.script.TheConstants.{MOST_THREADS, MOST_ROUNDS}
 use Rattle.script_reader.specs.declared.form.Form.{Form}
 use Rattle.script_reader.specs.declared.form.Form.TheVariants as form
 use Rattle.script_reader.specs.declared.form.Word.TheVariants as word

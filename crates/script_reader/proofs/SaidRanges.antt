@@ -8,8 +8,8 @@ use Rattle.ids_core.specs.Name.{IsName}
 use Rattle.ids_core.specs.declared.limits.TheConstants.{MOST_CENTRES, MOST_NUMBER, MOST_DELTA}
 use Rattle.ids_core.specs.declared.object.ObjectId.{ObjectId}
 use Rattle.ids_core.specs.declared.object.Sort.{Sort}
-use Rattle.script_text.specs.Steps.{IsCount, IsDelta, IsHeader}
-use Rattle.script_text.specs.declared.script.Header.{Header}
+use Rattle.script_core.specs.Steps.{IsCount, IsDelta, IsHeader}
+use Rattle.script_core.specs.declared.script.Header.{Header}
 use Rattle.script_reader.specs.declared.fault.Cause.{Cause}
 use Rattle.script_reader.specs.declared.fault.Cause.TheVariants as cause
 use Rattle.script_reader.specs.declared.form.Word.{Word}

@@ -1,7 +1,7 @@
 -- Words that are said one after another.
 use Rattle.std.proofs.Common.{◌≡◌, List, [], ◌∷◌, refl}
 use Rattle.std.specs.Prelude.{Option, Ok}
-use Rattle.script_text.specs.declared.script.Header.{Header}
+use Rattle.script_core.specs.declared.script.Header.{Header}
 use Rattle.script_reader.specs.declared.form.Part.{Part}
 use Rattle.script_reader.specs.declared.said.Said.{Said}
 use Rattle.script_reader.specs.Said.{said_words}

@@ -6,16 +6,16 @@ use Rattle.std.proofs.lemmas.Bool.{and_parts}
 use Rattle.std.proofs.lemmas.List.{length_push}
 use Rattle.std.proofs.lemmas.List.Elements.{All-nil, All-push}
 use Rattle.ids_core.specs.declared.limits.TheConstants.{MOST_CENTRES, MOST_CLIENTS, MOST_CACHED, MOST_RECORDS}
-use Rattle.script_text.specs.Steps.{IsCount, IsHeader, IsStepOf}
-use Rattle.script_text.specs.Rows.{IsInPhase, IsSection, may_do_in_phase, phase_of, section_of}
-use Rattle.script_text.specs.Scripts.{IsInRange}
-use Rattle.script_text.specs.Lines.{lines_of}
-use Rattle.script_text.specs.declared.limits.TheConstants.{MAX_LINES}
-use Rattle.script_text.specs.declared.script.TheConstants.{MOST_THREADS, MOST_ROUNDS}
-use Rattle.script_text.specs.declared.script.Header.{Header}
-use Rattle.script_text.specs.declared.script.Script.{Script}
-use Rattle.script_text.specs.declared.steps.Step.{Step}
-use Rattle.script_text.specs.declared.steps.Section.{Section}
+use Rattle.script_core.specs.Steps.{IsCount, IsHeader, IsStepOf}
+use Rattle.script_core.specs.Rows.{IsInPhase, IsSection, may_do_in_phase, phase_of, section_of}
+use Rattle.script_core.specs.Scripts.{IsInRange}
+use Rattle.script_core.specs.Lines.{lines_of}
+use Rattle.script_core.specs.declared.limits.TheConstants.{MAX_LINES}
+use Rattle.script_core.specs.declared.script.TheConstants.{MOST_THREADS, MOST_ROUNDS}
+use Rattle.script_core.specs.declared.script.Header.{Header}
+use Rattle.script_core.specs.declared.script.Script.{Script}
+use Rattle.script_core.specs.declared.steps.Step.{Step}
+use Rattle.script_core.specs.declared.steps.Section.{Section}
 use Rattle.script_reader.specs.declared.fault.Cause.{Cause}
 use Rattle.script_reader.specs.declared.fault.Cause.TheVariants as cause
 use Rattle.script_reader.specs.declared.fault.ScriptFault.{ScriptFault}

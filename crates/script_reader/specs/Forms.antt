@@ -2,7 +2,7 @@
 use Rattle.std.specs.Prelude.{◌==◌, ◌&&◌, ℕ, Bool, true, cond, nat_lt, List, [], ◌∷◌, length, drop, slice_index, find, Option, Some, None, Result, Ok, Err, codes, bytes_eq}
 use Rattle.std.specs.List.{list_all, list_any}
 use Rattle.ids_core.specs.declared.limits.TheConstants.{MOST_CACHED, MOST_CLIENTS}
-use Rattle.script_text.specs.declared.script.TheConstants.{MOST_THREADS, MOST_ROUNDS}
+use Rattle.script_core.specs.declared.script.TheConstants.{MOST_THREADS, MOST_ROUNDS}
 use Rattle.script_reader.specs.declared.fault.Cause.{Cause}
 use Rattle.script_reader.specs.declared.fault.Cause.TheVariants as cause
 use Rattle.script_reader.specs.declared.form.TheConstants.{MOST_COUNTED}

@@ -1,8 +1,8 @@
 -- How far lines came, and what may stand behind them.
 use Rattle.std.specs.Prelude.{◌==◌, ◌&&◌, ◌++◌, ℕ, Bool, true, List, [], ◌∷◌, length, is_some, is_none, Option, Some, None}
-use Rattle.script_text.specs.declared.script.Header.{Header}
-use Rattle.script_text.specs.Rows.{section_of, phase_of, may_do_in_phase}
-use Rattle.script_text.specs.declared.steps.Step.{Step}
+use Rattle.script_core.specs.declared.script.Header.{Header}
+use Rattle.script_core.specs.Rows.{section_of, phase_of, may_do_in_phase}
+use Rattle.script_core.specs.declared.steps.Step.{Step}
 use Rattle.script_reader.specs.declared.row.Row.{Row}
 use Rattle.script_reader.specs.declared.row.Row.TheVariants as row
 use Rattle.script_reader.specs.declared.reading.Group.{Group}

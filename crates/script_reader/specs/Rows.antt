@@ -6,14 +6,14 @@ use Rattle.dc_talk.specs.declared.calls.Change.TheVariants as change
 use Rattle.dc_talk.specs.Calls.{sort_of_change}
 use Rattle.dc_talk.specs.declared.links.LinkFault.{LinkFault}
 use Rattle.dc_talk.specs.declared.links.LinkFault.TheVariants as link
-use Rattle.script_text.specs.declared.limits.TheConstants.{MAX_LINE, MAX_LINES}
-use Rattle.script_text.specs.declared.script.Header.{Header}
-use Rattle.script_text.specs.declared.steps.AskFault.TheVariants as fault
-use Rattle.script_text.specs.declared.steps.ClientStep.{ClientStep}
-use Rattle.script_text.specs.declared.steps.ClientStep.TheVariants.{Connect, Begin, Change, Read, Commit, Abort, Push, Flush, Refresh, Again, Arm}
-use Rattle.script_text.specs.declared.steps.OperatorStep.{OperatorStep}
-use Rattle.script_text.specs.declared.steps.OperatorStep.TheVariants.{Down, Up, ShipOne, Ship, Relay, Tell, Prune, Link, Settle}
-use Rattle.script_text.specs.declared.steps.Step.TheVariants.{Client, Operator}
+use Rattle.script_core.specs.declared.limits.TheConstants.{MAX_LINE, MAX_LINES}
+use Rattle.script_core.specs.declared.script.Header.{Header}
+use Rattle.script_core.specs.declared.steps.AskFault.TheVariants as fault
+use Rattle.script_core.specs.declared.steps.ClientStep.{ClientStep}
+use Rattle.script_core.specs.declared.steps.ClientStep.TheVariants.{Connect, Begin, Change, Read, Commit, Abort, Push, Flush, Refresh, Again, Arm}
+use Rattle.script_core.specs.declared.steps.OperatorStep.{OperatorStep}
+use Rattle.script_core.specs.declared.steps.OperatorStep.TheVariants.{Down, Up, ShipOne, Ship, Relay, Tell, Prune, Link, Settle}
+use Rattle.script_core.specs.declared.steps.Step.TheVariants.{Client, Operator}
 use Rattle.script_reader.specs.declared.fault.Cause.{Cause}
 use Rattle.script_reader.specs.declared.fault.Cause.TheVariants as cause
 use Rattle.script_reader.specs.declared.form.Form.{Form}

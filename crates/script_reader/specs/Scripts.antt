@@ -2,11 +2,11 @@
 use Rattle.std.specs.Prelude.{◌+◌, ℕ, List, [], ◌∷◌, Option, Some, None, Result, Ok, Err}
 use Rattle.std.specs.Option.{unwrap_or}
 use Rattle.ids_core.specs.declared.limits.TheConstants.{MOST_RECORDS}
-use Rattle.script_text.specs.declared.script.TheConstants.{DEFAULT_CACHE, DEFAULT_THREADS, DEFAULT_ROUNDS}
-use Rattle.script_text.specs.declared.script.Header.{Header}
-use Rattle.script_text.specs.declared.script.Script.{Script}
-use Rattle.script_text.specs.declared.steps.Step.{Step}
-use Rattle.script_text.specs.Lines.{lines_of}
+use Rattle.script_core.specs.declared.script.TheConstants.{DEFAULT_CACHE, DEFAULT_THREADS, DEFAULT_ROUNDS}
+use Rattle.script_core.specs.declared.script.Header.{Header}
+use Rattle.script_core.specs.declared.script.Script.{Script}
+use Rattle.script_core.specs.declared.steps.Step.{Step}
+use Rattle.script_core.specs.Lines.{lines_of}
 use Rattle.script_reader.specs.declared.fault.Cause.TheVariants as cause
 use Rattle.script_reader.specs.declared.fault.ScriptFault.{ScriptFault}
 use Rattle.script_reader.specs.declared.fault.ScriptFault.TheVariants.{Refused}

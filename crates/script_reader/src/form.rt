@@ -3,7 +3,7 @@ ghost use Rattle.std.specs.Prelude.{◌≡◌};
 ghost use Rattle.script_reader.specs.Forms.{parts_of, word_text};
 
 use ids_core::{MOST_CACHED, MOST_CLIENTS, MOST_RECORDS};
-use script_text::{MOST_ROUNDS, MOST_THREADS};
+use script_core::{MOST_ROUNDS, MOST_THREADS};
 
 /// The most transactions of a centre, the greatest number of a record, and the rarest fault of a link.
 pub const MOST_COUNTED: u32 = MOST_RECORDS as u32;

@@ -1,7 +1,7 @@
 // The law of scripts: a function with nothing to do, whose contract is the law.
 ghost use Rattle.std.specs.Prelude.{◌≡◌, ℕ, List, Ok};
-ghost use Rattle.script_text.specs.declared.script.Script.{Script};
-ghost use Rattle.script_text.specs.Scripts.{IsInRange};
+ghost use Rattle.script_core.specs.declared.script.Script.{Script};
+ghost use Rattle.script_core.specs.Scripts.{IsInRange};
 ghost use Rattle.script_reader.specs.Scripts.{script_read};
 
 /// Whatever bytes are a script, its numbers are in their ranges, and each of its sections is one step, or a phase with

@@ -1,6 +1,6 @@
 // Cuts a text at its line feeds.
 ghost use Rattle.std.specs.Prelude.{◌≡◌, ◌≢◌, ◌<◌, [], ◌∷◌, ◌++◌, All, length, IfSome, IfNone};
-ghost use Rattle.script_text.specs.Lines.{lines_of};
+ghost use Rattle.script_core.specs.Lines.{lines_of};
 
 // What stands before and behind the first line feed.
 fn at_feed(text: &[u8]) -> Option<(&[u8], &[u8])>

@@ -5,13 +5,13 @@ ghost use Rattle.script_reader.specs.declared.fault.Cause.{Cause as CauseOf};
 ghost use Rattle.script_reader.specs.declared.reading.LineFault.TheVariants.{NoMemory as no_memory};
 ghost use Rattle.script_reader.specs.Lines.{line_taken};
 ghost use Rattle.script_reader.specs.Readings.{header_in, may_do, may_set, may_stand, nothing_read, phase_read, read_more, step_read};
-ghost use Rattle.script_text.specs.Rows.{may_do_in_phase, section_of};
+ghost use Rattle.script_core.specs.Rows.{may_do_in_phase, section_of};
 
 use crate::fault::Cause;
 use crate::row::{Row, row_in};
 use dc_talk::Change;
 use list_core::List;
-use script_text::{ClientStep, Header, OperatorStep, Section, Sections, Step, Steps};
+use script_core::{ClientStep, Header, OperatorStep, Section, Sections, Step, Steps};
 use std::alloc::{AllocError, Global};
 
 /// How many centres there are, and how many of them make an update stable.

@@ -9,7 +9,7 @@ use crate::form::{Form, parts};
 use crate::said::{Said, said_words};
 use crate::words::{is_plain_text, is_skipped, without_return};
 use dc_talk::{Change, LinkFault};
-use script_text::{AskFault, ClientStep, Header, MAX_LINE, MAX_LINES, OperatorStep, Step};
+use script_core::{AskFault, ClientStep, Header, MAX_LINE, MAX_LINES, OperatorStep, Step};
 
 /// What a line says.
 #[derive(Clone, Copy)]

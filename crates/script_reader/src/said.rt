@@ -10,7 +10,7 @@ use crate::names::{name_said, object_named};
 use crate::numbers::{delta_in, is_number, number_in, u8_in, u32_in};
 use crate::words::first_word;
 use ids_core::{MOST_CENTRES, MOST_NUMBER, Name, ObjectId, Sort};
-use script_text::Header;
+use script_core::Header;
 
 /// What the words of a line say, each in its place. What no word says stands as it does before a line.
 #[derive(Clone, Copy)]

@@ -1,7 +1,7 @@
 // Reads a script.
 ghost use Rattle.std.specs.Prelude.{◌≡◌, ◌≢◌, ◌++◌, ℕ, List, Err, IfOk};
-ghost use Rattle.script_text.specs.Limits.{PassesLimits};
-ghost use Rattle.script_text.specs.Scripts.{IsInRange};
+ghost use Rattle.script_core.specs.Limits.{PassesLimits};
+ghost use Rattle.script_core.specs.Scripts.{IsInRange};
 ghost use Rattle.script_reader.specs.Readings.{header_in};
 ghost use Rattle.script_reader.specs.Scripts.{ended, script_read, script_with};
 
@@ -9,7 +9,7 @@ use crate::fault::{Cause, ScriptFault};
 use crate::lines::first_line;
 use crate::reading::{LineFault, Reading};
 use ids_core::MOST_RECORDS;
-use script_text::{DEFAULT_CACHE, DEFAULT_ROUNDS, DEFAULT_THREADS, Header, Script};
+use script_core::{DEFAULT_CACHE, DEFAULT_ROUNDS, DEFAULT_THREADS, Header, Script};
 use std::alloc::Global;
 
 /// The script that bytes are. It is `Refused` where they are none, with the first line at fault and why it is, and

@@ -28,7 +28,7 @@ use Rattle.dc_talk.specs.Trails.{carried, applied, stopped, horizon}
 use Rattle.dc_talk.specs.Answers.{fits, part_of, send_answer, row, answer, History}
 use Rattle.dc_talk.specs.Laws.{IsInOrder}
 use Rattle.dc_talk.proofs.Counts.{count_more, own_length}
-use Rattle.script_text.specs.Carrying.{route, detour, Delivers, AfterSend, AfterReport, Supplies, Sends, own_need, origin_need, Passes, is_news}
+use Rattle.script_core.specs.Carrying.{route, detour, Delivers, AfterSend, AfterReport, Supplies, Sends, own_need, origin_need, Passes, is_news}
 use Rattle.dc_worker.specs.Settled.{Centres, AreNumbered, behind_deeds, IsAlike}
 use Rattle.dc_worker.proofs.Alike.{IsCarried, alike_answer}
 use Rattle.dc_worker.proofs.Repeating.{Runs, EndsWell, asked, next_entry, answer_first, goes_on, or_false, run_begins, passed_alike}

@@ -11,7 +11,7 @@ use Rattle.list_core.proofs.Ranges.{In_range}
 use Rattle.vv_core.specs.Vectors.{centres}
 use Rattle.dc_talk.specs.declared.log.Deed.{Deed}
 use Rattle.dc_talk.specs.declared.line.ShipEnd.{ShipEnd}
-use Rattle.script_text.specs.Carrying.{Route, route, routes, Detour, detour, detours, Ships, Relays, InTurn, next_turn, Passes, is_news}
+use Rattle.script_core.specs.Carrying.{Route, route, routes, Detour, detour, detours, Ships, Relays, InTurn, next_turn, Passes, is_news}
 use Rattle.dc_worker.specs.Settled.{Centres}
 use Rattle.dc_worker.proofs.Repeating.{Runs, EndsWell, Both, BothWell, BothRun, IsRoute, IsDetour, Repeatable, parts_quiet, routes_between, detours_between, twice_turns, twice_ships, twice_relays}
 

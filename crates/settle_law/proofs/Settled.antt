@@ -23,7 +23,7 @@ use Rattle.dc_talk.specs.Trails.{applied, stopped, horizon}
 use Rattle.dc_talk.specs.Answers.{History}
 use Rattle.dc_talk.proofs.Counts.{stamp_counted}
 use Rattle.dc_talk.proofs.Places.{have_stamp}
-use Rattle.script_text.specs.Carrying.{Passes, Settles, last_pass, one_pass, is_news}
+use Rattle.script_core.specs.Carrying.{Passes, Settles, last_pass, one_pass, is_news}
 use Rattle.run_book.specs.declared.book.Book.{Book}
 use Rattle.run_book.specs.Setups.{Setup, centre_settings, settings_among}
 use Rattle.run_book.specs.Parts.{trail_of, log_of}

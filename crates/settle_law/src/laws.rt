@@ -2,7 +2,7 @@
 ghost use Rattle.std.specs.Prelude.{◌≡◌, ℕ, false, List, ◌++◌, map};
 ghost use Rattle.std.specs.List.{list_any};
 ghost use Rattle.dc_talk.specs.declared.log.Note.{Note};
-ghost use Rattle.script_text.specs.Carrying.{Passes, Settles, is_news};
+ghost use Rattle.script_core.specs.Carrying.{Passes, Settles, is_news};
 ghost use Rattle.run_book.specs.Setups.{Setup};
 ghost use Rattle.run_book.specs.Happenings.{Happened, happening, AreTogether, InRange};
 ghost use Rattle.settle_law.specs.Settled.{AreSettled};

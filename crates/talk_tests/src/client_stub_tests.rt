@@ -3,7 +3,7 @@ ghost use Rattle.std.specs.Prelude.{◌≡◌, IfOk};
 ghost use Rattle.ids_core.specs.declared.limits.TheConstants.{MOST_CENTRES};
 ghost use Rattle.ids_core.specs.Name.{IsName};
 ghost use Rattle.dc_talk.specs.ListDoors.{shown_of};
-ghost use Rattle.script_text.specs.Steps.{IsStep};
+ghost use Rattle.script_core.specs.Steps.{IsStep};
 ghost use Rattle.client_stub.specs.Playing.{IsLinkBehind};
 
 use crate::printed::tells;
@@ -12,7 +12,7 @@ use client_stub::Stub;
 use dc_talk::{Change, ListDoor, Log, Say};
 use ids_core::{Name, NoMemory, ObjectId, Sort};
 use samples::{pair, single};
-use script_text::ClientStep;
+use script_core::ClientStep;
 use std::alloc::Global;
 use std::test::Fail;
 use tx_core::State;

@@ -1,7 +1,7 @@
 // A centre that is kept with its trail.
 use dc_centre::Centre;
 use dc_talk::{Ask, Entry, Say};
-use hist_lock::Kept;
+use machine_trail::Kept;
 use samples::{pair, single};
 use std::process::Abort;
 use std::test::Fail;

@@ -4,8 +4,8 @@ ghost use Rattle.std.specs.Prelude.{◌≡◌, length};
 use dc_centre::Centre;
 use dc_host::{KeptDoor, centres_of};
 use dc_talk::{Ask, Door, Say};
-use hist_lock::Kept;
 use ids_core::NoMemory;
+use machine_trail::Kept;
 use std::test::Fail;
 
 // Asks centre 1 and then both, the second time for another actor.

@@ -4,8 +4,8 @@ ghost use Rattle.ids_core.specs.declared.limits.TheConstants.{MOST_CENTRES};
 
 use dc_centre::Centre;
 use dc_talk::{Ask, Door, ListDoor, Say, SharedRecord, belongs, law_history};
-use hist_lock::Trail;
 use ids_core::{Dot, NoMemory};
+use machine_trail::Trail;
 use samples::{counter, inc_tx, pair, single};
 use std::alloc::Global;
 use std::test::Fail;

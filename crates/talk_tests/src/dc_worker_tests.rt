@@ -2,14 +2,14 @@
 // on.
 ghost use Rattle.std.specs.Prelude.{◌≡◌, IfOk};
 ghost use Rattle.ids_core.specs.declared.limits.TheConstants.{MOST_CENTRES};
-ghost use Rattle.script_text.specs.Steps.{IsOperatorStep};
+ghost use Rattle.script_core.specs.Steps.{IsOperatorStep};
 
 use crate::printed::tells;
 use client_stub::operate;
 use dc_talk::{Ask, ListDoor, Log, Records, Say, Sent, SharedRecord};
 use ids_core::{Dot, MOST_CENTRES};
 use samples::{counter, inc_tx, pair};
-use script_text::OperatorStep;
+use script_core::OperatorStep;
 use std::alloc::Global;
 use std::test::Fail;
 use tx_core::Record;

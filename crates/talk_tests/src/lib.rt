@@ -23,7 +23,7 @@ mod dc_talk_tests;
 #[cfg(test)]
 mod dc_worker_tests;
 #[cfg(test)]
-mod hist_lock_tests;
+mod machine_trail_tests;
 #[cfg(test)]
 mod printed;
 #[cfg(test)]

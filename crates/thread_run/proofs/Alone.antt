@@ -14,13 +14,13 @@ use Rattle.dc_talk.specs.Logs.{Logged, marked, entries_made}
 use Rattle.dc_talk.specs.Acting.{noted_all}
 use Rattle.dc_host.specs.KeptDoors.{trail_at, settings_of}
 use Rattle.dc_mail.specs.Posts.{post_at}
-use Rattle.script_text.specs.declared.script.Script.{Script}
-use Rattle.script_text.specs.declared.steps.Step.{Step}
-use Rattle.script_text.specs.declared.rounds.Role.{Role}
-use Rattle.script_text.specs.declared.rounds.Role.TheVariants.{Sender, Receiver, Reporter, Pruner}
-use Rattle.script_text.specs.Rounds.{worker_of}
-use Rattle.script_text.specs.Rows.{section_of}
-use Rattle.script_text.specs.Steps.{IsCount}
+use Rattle.script_core.specs.declared.script.Script.{Script}
+use Rattle.script_core.specs.declared.steps.Step.{Step}
+use Rattle.script_core.specs.declared.rounds.Role.{Role}
+use Rattle.script_core.specs.declared.rounds.Role.TheVariants.{Sender, Receiver, Reporter, Pruner}
+use Rattle.script_core.specs.Rounds.{worker_of}
+use Rattle.script_core.specs.Rows.{section_of}
+use Rattle.script_core.specs.Steps.{IsCount}
 use Rattle.run_book.specs.Happenings.{ClientDoes, notes_by, trail_in, entry_in, happening}
 use Rattle.run_book.specs.Moves.{client_steps, operator_steps}
 use Rattle.run_book.specs.Played.{IsAt}

@@ -21,17 +21,17 @@ use Rattle.dc_host.proofs.Rows.{are_dealt}
 use Rattle.dc_links.specs.Links.{rows_of as ends_of, AreGivers, AreTakers, AreGiverRows, AreTakerRows, put_between, taken_between}
 use Rattle.mail_link.specs.Ends.{GiverView, TakerView}
 use Rattle.dc_talk.specs.declared.sent.Sent.{Sent}
-use Rattle.script_text.specs.declared.steps.Section.{Section}
-use Rattle.script_text.specs.declared.steps.Step.{Step}
-use Rattle.script_text.specs.declared.steps.Step.TheVariants.{Client, Operator}
-use Rattle.script_text.specs.declared.rounds.Role.{Role}
-use Rattle.script_text.specs.declared.rounds.Role.TheVariants.{Sender, Receiver, Reporter, Pruner}
-use Rattle.script_text.specs.Deeds.{Progress}
-use Rattle.script_text.specs.Steps.{IsCount, IsStepOf}
-use Rattle.script_text.specs.Rows.{IsPhase, IsInPhase}
-use Rattle.script_text.specs.Rounds.{worker_of}
-use Rattle.script_text.specs.Scripts.{header_of, IsInRange}
-use Rattle.script_text.specs.declared.script.Script.{Script}
+use Rattle.script_core.specs.declared.steps.Section.{Section}
+use Rattle.script_core.specs.declared.steps.Step.{Step}
+use Rattle.script_core.specs.declared.steps.Step.TheVariants.{Client, Operator}
+use Rattle.script_core.specs.declared.rounds.Role.{Role}
+use Rattle.script_core.specs.declared.rounds.Role.TheVariants.{Sender, Receiver, Reporter, Pruner}
+use Rattle.script_core.specs.Deeds.{Progress}
+use Rattle.script_core.specs.Steps.{IsCount, IsStepOf}
+use Rattle.script_core.specs.Rows.{IsPhase, IsInPhase}
+use Rattle.script_core.specs.Rounds.{worker_of}
+use Rattle.script_core.specs.Scripts.{header_of, IsInRange}
+use Rattle.script_core.specs.declared.script.Script.{Script}
 use Rattle.run_book.specs.Happenings.{IsLinkWithin}
 use Rattle.run_book.specs.Played.{new_progress}
 use Rattle.run_book.proofs.Happenings.WorkerRounds.{worker_carries}

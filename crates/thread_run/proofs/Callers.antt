@@ -11,9 +11,9 @@ use Rattle.dc_talk.specs.Logs.{entries_made}
 use Rattle.dc_talk.specs.Acting.{Acting}
 use Rattle.dc_talk.proofs.Doors.{made_then}
 use Rattle.mail_link.specs.Ends.{GiverView}
-use Rattle.script_text.specs.declared.rounds.Role.{Role}
-use Rattle.script_text.specs.declared.rounds.Role.TheVariants.{Sender, Receiver, Reporter, Pruner}
-use Rattle.script_text.specs.Rounds.{worker_of}
+use Rattle.script_core.specs.declared.rounds.Role.{Role}
+use Rattle.script_core.specs.declared.rounds.Role.TheVariants.{Sender, Receiver, Reporter, Pruner}
+use Rattle.script_core.specs.Rounds.{worker_of}
 use Rattle.run_sections.specs.Orders.{deeds_of}
 use Rattle.phase_actors.specs.declared.callers.Caller.{Caller}
 use Rattle.phase_actors.specs.declared.receivers.ReceiverEnd.{ReceiverEnd}

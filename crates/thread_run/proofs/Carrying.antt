@@ -14,16 +14,16 @@ use Rattle.dc_talk.specs.declared.sent.Sent.{Sent}
 use Rattle.dc_talk.specs.declared.log.Deed.{Deed}
 use Rattle.dc_talk.specs.declared.log.Note.{Note}
 use Rattle.mail_link.specs.Ends.{GiverView}
-use Rattle.script_text.specs.declared.script.Header.{Header}
-use Rattle.script_text.specs.declared.steps.OperatorStep.{OperatorStep}
-use Rattle.script_text.specs.declared.steps.OperatorStep.TheVariants.{Down, Up, ShipOne, Ship, Relay, Tell, Prune, Link, Settle}
-use Rattle.script_text.specs.declared.steps.Step.{Step}
-use Rattle.script_text.specs.declared.steps.Step.TheVariants.{Client, Operator}
-use Rattle.script_text.specs.Steps.{IsCount, IsStepOf}
-use Rattle.script_text.specs.Rows.{may_order_in_phase, IsInPhase}
-use Rattle.script_text.specs.Links.{Inlet}
-use Rattle.script_text.specs.Carrying.{InTurn, no_turn, next_turn}
-use Rattle.script_text.specs.Rounds.{others, Brings, ReceiverDeeds}
+use Rattle.script_core.specs.declared.script.Header.{Header}
+use Rattle.script_core.specs.declared.steps.OperatorStep.{OperatorStep}
+use Rattle.script_core.specs.declared.steps.OperatorStep.TheVariants.{Down, Up, ShipOne, Ship, Relay, Tell, Prune, Link, Settle}
+use Rattle.script_core.specs.declared.steps.Step.{Step}
+use Rattle.script_core.specs.declared.steps.Step.TheVariants.{Client, Operator}
+use Rattle.script_core.specs.Steps.{IsCount, IsStepOf}
+use Rattle.script_core.specs.Rows.{may_order_in_phase, IsInPhase}
+use Rattle.script_core.specs.Links.{Inlet}
+use Rattle.script_core.specs.Carrying.{InTurn, no_turn, next_turn}
+use Rattle.script_core.specs.Rounds.{others, Brings, ReceiverDeeds}
 use Rattle.run_book.specs.Moves.{operator_step}
 use Rattle.run_book.proofs.Happenings.WorkerRounds.{others_within}
 use Rattle.run_sections.specs.Orders.{deeds_of, InOrder, Intake, intake, Receipt, takes_some, takes_rest, delivered_of, inlet_then, ReceiverGoes}

@@ -17,8 +17,8 @@ use Rattle.dc_host.specs.HostDoors.{CentreHost, CentrePass, bare}
 use Rattle.dc_host.specs.Hosts.{bare_rows, rows_of, new_rows, AreClosed}
 use Rattle.dc_links.specs.Links.{rows_of as ends_of, AreGivers, AreTakers, AreGiverRows, AreTakerRows}
 use Rattle.mail_link.specs.Ends.{GiverView, TakerView}
-use Rattle.script_text.specs.Links.{Inlet}
-use Rattle.script_text.specs.Steps.{IsCount}
+use Rattle.script_core.specs.Links.{Inlet}
+use Rattle.script_core.specs.Steps.{IsCount}
 use Rattle.run_table.specs.declared.table.Table.{Table}
 use Rattle.run_sections.specs.Sections.{actors_of}
 use Rattle.phase_actors.specs.declared.callers.Caller.{Caller}

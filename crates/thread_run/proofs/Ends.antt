@@ -7,9 +7,9 @@ use Rattle.std.proofs.lemmas.Bool.{cases_eq, cases_lt, eq-eqb, ne_eqb}
 use Rattle.std.proofs.lemmas.List.{get_or_append_left, map-append, length-map}
 use Rattle.ids_core.specs.declared.limits.TheConstants.{MOST_CENTRES}
 use Rattle.dc_talk.specs.declared.sent.Sent.{Sent}
-use Rattle.script_text.specs.Links.{Inlet, clean_inlet}
-use Rattle.script_text.specs.Mail.{Post}
-use Rattle.script_text.specs.Steps.{IsCount}
+use Rattle.script_core.specs.Links.{Inlet, clean_inlet}
+use Rattle.script_core.specs.Mail.{Post}
+use Rattle.script_core.specs.Steps.{IsCount}
 use Rattle.dc_mail.specs.Posts.{post_at, IsCentre, HasSet}
 use Rattle.dc_links.specs.Links.{inlet_from}
 use Rattle.thread_run.specs.Lending.{row_inlet, AreInletsTo, AreInlets, HaveInletsTo, HaveInlets}

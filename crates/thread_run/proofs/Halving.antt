@@ -14,7 +14,7 @@ use Rattle.vv_core.specs.Vectors.{centres}
 use Rattle.dc_talk.specs.declared.sent.Sent.{Sent}
 use Rattle.mail_link.specs.Ends.{GiverView}
 use Rattle.client_stub.specs.Playing.{StubView}
-use Rattle.script_text.specs.Steps.{IsCount}
+use Rattle.script_core.specs.Steps.{IsCount}
 use Rattle.dc_links.specs.Links.{AreGiverRows, AreGivers, rows_of, row_of}
 use Rattle.phase_actors.specs.declared.callers.Caller.{Caller}
 use Rattle.phase_actors.specs.declared.receivers.ReceiverEnd.{ReceiverEnd}

@@ -24,13 +24,13 @@ use Rattle.dc_host.specs.KeptDoors.{entries_of, trail_at, settings_of}
 use Rattle.dc_mail.specs.Posts.{post_at, place_of}
 use Rattle.vv_core.specs.Vectors.{centres}
 use Rattle.ids_core.specs.declared.limits.TheConstants.{MOST_CENTRES}
-use Rattle.script_text.specs.declared.script.Script.{Script}
-use Rattle.script_text.specs.declared.steps.Section.{Section}
-use Rattle.script_text.specs.Deeds.{Progress}
-use Rattle.script_text.specs.Mail.{Post, new_post}
-use Rattle.script_text.specs.Rows.{IsSection}
-use Rattle.script_text.specs.Scripts.{header_of, IsInRange}
-use Rattle.script_text.specs.Steps.{IsCount}
+use Rattle.script_core.specs.declared.script.Script.{Script}
+use Rattle.script_core.specs.declared.steps.Section.{Section}
+use Rattle.script_core.specs.Deeds.{Progress}
+use Rattle.script_core.specs.Mail.{Post, new_post}
+use Rattle.script_core.specs.Rows.{IsSection}
+use Rattle.script_core.specs.Scripts.{header_of, IsInRange}
+use Rattle.script_core.specs.Steps.{IsCount}
 use Rattle.client_stub.specs.Playing.{StubView}
 use Rattle.run_book.specs.declared.book.Book.{Book}
 use Rattle.run_book.specs.Setups.{setup_of, settings_among}

@@ -13,7 +13,7 @@ use Rattle.dc_host.specs.HostDoors.{CentreHost, CentrePass}
 use Rattle.dc_host.specs.Hosts.{rows_of, new_rows, column}
 use Rattle.dc_host.specs.KeptDoors.{trail_at, settings_of}
 use Rattle.dc_host.proofs.Passes.{zip_long}
-use Rattle.script_text.specs.Steps.{IsCount}
+use Rattle.script_core.specs.Steps.{IsCount}
 use Rattle.run_book.specs.Parts.{entries_by, exchanged}
 use Rattle.run_sections.specs.Orders.{deeds_of}
 use Rattle.run_sections.specs.Sections.{PlaysSection, actors_of}

@@ -12,11 +12,11 @@ use Rattle.dc_host.specs.Centres.{CentreTrail, KeptCentre, all_seen}
 use Rattle.dc_host.specs.Hosts.{AreFor, rows_of, new_rows, IsHostOf, AreClosed}
 use Rattle.dc_host.specs.KeptDoors.{trail_at}
 use Rattle.mail_link.specs.Ends.{GiverView}
-use Rattle.script_text.specs.declared.rounds.Role.{Role}
-use Rattle.script_text.specs.Steps.{IsCount}
-use Rattle.script_text.specs.Rows.{IsPhase}
-use Rattle.script_text.specs.Rounds.{worker_of}
-use Rattle.script_text.specs.Scripts.{header_of, IsInRange}
+use Rattle.script_core.specs.declared.rounds.Role.{Role}
+use Rattle.script_core.specs.Steps.{IsCount}
+use Rattle.script_core.specs.Rows.{IsPhase}
+use Rattle.script_core.specs.Rounds.{worker_of}
+use Rattle.script_core.specs.Scripts.{header_of, IsInRange}
 use Rattle.dc_links.specs.Links.{IsAmong, rows_of as ends_of, AreGiverRows, AreTakerRows, put_between, taken_between}
 use Rattle.run_book.specs.Parts.{idle_log}
 use Rattle.run_book.specs.Setups.{setup_of, settings_among}

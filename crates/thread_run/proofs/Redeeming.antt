@@ -30,7 +30,7 @@ use Rattle.dc_host.specs.KeptDoors.{entries_of, trail_at, settings_of}
 use Rattle.dc_host.proofs.Rows.{bare_new}
 use Rattle.dc_host.proofs.Passes.{zip_long}
 use Rattle.dc_host.proofs.Trails.{trail_found}
-use Rattle.script_text.specs.Steps.{IsCount}
+use Rattle.script_core.specs.Steps.{IsCount}
 use Rattle.run_book.specs.Parts.{exchanged, entries_by}
 use Rattle.run_table.specs.Tables.{AreHistories}
 use Rattle.run_table.proofs.Numbered.{get_below}

@@ -7,11 +7,11 @@ use Rattle.dc_talk.specs.declared.log.Note.{Note}
 use Rattle.dc_talk.specs.Logs.{Logged}
 use Rattle.dc_links.specs.Links.{rows_of as ends_of, put_to, put_between, taken_from, taken_between, inlet_from}
 use Rattle.dc_mail.specs.Posts.{post_at}
-use Rattle.script_text.specs.declared.rounds.Role.TheVariants.{Sender, Receiver, Reporter, Pruner}
-use Rattle.script_text.specs.Deeds.{Progress}
-use Rattle.script_text.specs.Steps.{IsCount}
-use Rattle.script_text.specs.Rounds.{worker_of, mailed}
-use Rattle.script_text.specs.Scripts.{header_of}
+use Rattle.script_core.specs.declared.rounds.Role.TheVariants.{Sender, Receiver, Reporter, Pruner}
+use Rattle.script_core.specs.Deeds.{Progress}
+use Rattle.script_core.specs.Steps.{IsCount}
+use Rattle.script_core.specs.Rounds.{worker_of, mailed}
+use Rattle.script_core.specs.Scripts.{header_of}
 use Rattle.run_book.specs.Moves.{client_steps, operator_steps}
 use Rattle.run_book.specs.Happenings.{ClientDoes}
 use Rattle.run_book.specs.Played.{new_progress}

@@ -21,17 +21,17 @@ use Rattle.dc_talk.specs.Rule.{after}
 use Rattle.dc_host.specs.Centres.{CentreTrail}
 use Rattle.dc_host.specs.KeptDoors.{trail_at, shown_of}
 use Rattle.dc_mail.specs.Posts.{post_at}
-use Rattle.script_text.specs.declared.script.Script.{Script}
-use Rattle.script_text.specs.declared.steps.ClientStep.{ClientStep}
-use Rattle.script_text.specs.declared.steps.OperatorStep.{OperatorStep}
-use Rattle.script_text.specs.declared.steps.OperatorStep.TheVariants.{Link}
-use Rattle.script_text.specs.declared.steps.Step.TheVariants.{Client as ByClient, Operator as ByOperator}
-use Rattle.script_text.specs.Deeds.{Progress, StepDeeds, armed_after, stepped}
-use Rattle.script_text.specs.Links.{inlet_set}
-use Rattle.script_text.specs.Mail.{Post, post_set}
-use Rattle.script_text.specs.Orders.{OperatorDeeds}
-use Rattle.script_text.specs.Rows.{section_of}
-use Rattle.script_text.specs.Steps.{IsCount}
+use Rattle.script_core.specs.declared.script.Script.{Script}
+use Rattle.script_core.specs.declared.steps.ClientStep.{ClientStep}
+use Rattle.script_core.specs.declared.steps.OperatorStep.{OperatorStep}
+use Rattle.script_core.specs.declared.steps.OperatorStep.TheVariants.{Link}
+use Rattle.script_core.specs.declared.steps.Step.TheVariants.{Client as ByClient, Operator as ByOperator}
+use Rattle.script_core.specs.Deeds.{Progress, StepDeeds, armed_after, stepped}
+use Rattle.script_core.specs.Links.{inlet_set}
+use Rattle.script_core.specs.Mail.{Post, post_set}
+use Rattle.script_core.specs.Orders.{OperatorDeeds}
+use Rattle.script_core.specs.Rows.{section_of}
+use Rattle.script_core.specs.Steps.{IsCount}
 use Rattle.client_stub.specs.Playing.{StubView, IsLinkBehind}
 use Rattle.run_book.specs.Setups.{setup_of, settings_among}
 use Rattle.run_book.specs.Happenings.{ClientDoes, IsLinkWithin}

@@ -7,7 +7,7 @@ use Rattle.dc_talk.specs.declared.sent.Sent.{Sent}
 use Rattle.dc_talk.specs.Logs.{Logged}
 use Rattle.dc_host.specs.HostDoors.{CentrePass}
 use Rattle.mail_link.specs.Ends.{GiverView, TakerView}
-use Rattle.script_text.specs.Links.{Inlet}
+use Rattle.script_core.specs.Links.{Inlet}
 use Rattle.client_stub.specs.Playing.{StubView}
 use Rattle.phase_actors.specs.declared.callers.Caller.{Caller}
 use Rattle.phase_play.specs.declared.crews.Crew.{Crew}

@@ -3,7 +3,7 @@ use Rattle.std.specs.Prelude.{◌≡◌, map, List, [], ◌∷◌, ◌++◌}
 use Rattle.std.specs.List.{AllZip}
 use Rattle.dc_talk.specs.declared.sent.Sent.{Sent}
 use Rattle.mail_link.specs.Ends.{GiverView}
-use Rattle.script_text.specs.Steps.{IsCount}
+use Rattle.script_core.specs.Steps.{IsCount}
 use Rattle.phase_actors.specs.declared.callers.Caller.{Caller}
 use Rattle.phase_actors.specs.declared.receivers.ReceiverEnd.{ReceiverEnd}
 use Rattle.phase_play.specs.declared.crews.Crew.{Crew}

@@ -2,9 +2,9 @@
 use Rattle.std.specs.Prelude.{◌≡◌, ◌≢◌, ℕ, ◌-◌, length, List, [], slice_index_or, map}
 use Rattle.std.specs.Global.{Vec}
 use Rattle.dc_talk.specs.declared.sent.Sent.{Sent}
-use Rattle.script_text.specs.Links.{Inlet}
-use Rattle.script_text.specs.Mail.{Post}
-use Rattle.script_text.specs.Steps.{IsCount}
+use Rattle.script_core.specs.Links.{Inlet}
+use Rattle.script_core.specs.Mail.{Post}
+use Rattle.script_core.specs.Steps.{IsCount}
 use Rattle.dc_mail.specs.Posts.{IsCentre, post_at}
 use Rattle.dc_links.specs.Links.{inlet_from}
 

@@ -1,9 +1,9 @@
 -- A run of the first sections of a script.
 use Rattle.std.specs.Prelude.{◌≡◌, ℕ, flat_map, List}
 use Rattle.dc_host.specs.KeptDoors.{trail_at}
-use Rattle.script_text.specs.declared.script.Script.{Script}
-use Rattle.script_text.specs.declared.steps.Section.{Section}
-use Rattle.script_text.specs.Steps.{IsCount}
+use Rattle.script_core.specs.declared.script.Script.{Script}
+use Rattle.script_core.specs.declared.steps.Section.{Section}
+use Rattle.script_core.specs.Steps.{IsCount}
 use Rattle.run_table.specs.declared.table.Table.{Table}
 use Rattle.run_sections.specs.Sections.{Between, first_between, Left, actors_of}
 use Rattle.run_sections.specs.Runs.{PlaysSections}

@@ -5,10 +5,10 @@ use Rattle.dc_talk.specs.declared.log.Note.{Note}
 use Rattle.dc_host.specs.KeptDoors.{trail_at, settings_of}
 use Rattle.dc_mail.specs.Posts.{post_at}
 use Rattle.vv_core.specs.Vectors.{centres}
-use Rattle.script_text.specs.declared.script.Script.{Script}
-use Rattle.script_text.specs.declared.steps.Section.{Section}
-use Rattle.script_text.specs.Steps.{IsCount}
-use Rattle.script_text.specs.Deeds.{Progress}
+use Rattle.script_core.specs.declared.script.Script.{Script}
+use Rattle.script_core.specs.declared.steps.Section.{Section}
+use Rattle.script_core.specs.Steps.{IsCount}
+use Rattle.script_core.specs.Deeds.{Progress}
 use Rattle.client_stub.specs.Playing.{StubView}
 use Rattle.run_book.specs.Setups.{setup_of, settings_among}
 use Rattle.run_book.specs.Happenings.{ClientDoes, IsLinkWithin}

@@ -1,7 +1,7 @@
 // A phase, played with threads.
 ghost use Rattle.std.specs.Prelude.{IfOk};
-ghost use Rattle.script_text.specs.Rows.{IsPhase};
-ghost use Rattle.script_text.specs.Scripts.{header_of, IsInRange};
+ghost use Rattle.script_core.specs.Rows.{IsPhase};
+ghost use Rattle.script_core.specs.Scripts.{header_of, IsInRange};
 ghost use Rattle.thread_run.specs.Tables.{IsTableOf, AreLinked, HasPlayed};
 
 use crate::casting::cast_of;
@@ -15,7 +15,7 @@ use io_edge::Gate;
 use phase_actors::Scene;
 use phase_play::play_in_threads;
 use run_table::{Table, deal};
-use script_text::{Script, Section};
+use script_core::{Script, Section};
 use std::alloc::Global;
 use std::sync::Wait;
 use std::thread::Threads;

@@ -1,9 +1,9 @@
 // A script, section by section.
 ghost use Rattle.std.specs.Prelude.{IfOk, OnOk};
 ghost use Rattle.dc_host.specs.KeptDoors.{trail_at};
-ghost use Rattle.script_text.specs.Rows.{section_of, IsLine, IsSection};
-ghost use Rattle.script_text.specs.Scripts.{header_of, IsInRange};
-ghost use Rattle.script_text.specs.Steps.{IsStepOf};
+ghost use Rattle.script_core.specs.Rows.{section_of, IsLine, IsSection};
+ghost use Rattle.script_core.specs.Scripts.{header_of, IsInRange};
+ghost use Rattle.script_core.specs.Steps.{IsStepOf};
 ghost use Rattle.run_sections.specs.Apart.{IsBookWith};
 ghost use Rattle.run_sections.specs.Runs.{IsSectionRunOf};
 ghost use Rattle.thread_run.specs.Tables.{notes_at, IsTableOf, AreLinked, HasPlayed};
@@ -15,7 +15,7 @@ use io_edge::Gate;
 use run_book::{Book, Logs};
 use run_progress::{Extent, Progress};
 use run_table::{Table, trails_of};
-use script_text::{Script, Section, Step};
+use script_core::{Script, Section, Step};
 use std::alloc::Global;
 use std::sync::Wait;
 use std::thread::Threads;

@@ -4,10 +4,10 @@ use Rattle.std.specs.Prelude.{Ok, Err}
 use Rattle.std.proofs.lemmas.List.{append-nil}
 use Rattle.std.proofs.lemmas.Option.{none-some}
 use Rattle.io_edge.specs.Streams.{TookFront, puts_back, puts_behind}
-use Rattle.script_text.specs.Limits.{PassesLimits}
+use Rattle.script_core.specs.Limits.{PassesLimits}
 use Rattle.script_reader.specs.declared.fault.Cause.{Cause}
 use Rattle.script_reader.specs.declared.fault.ScriptFault.TheVariants.{Refused as RefusedAt}
-use Rattle.script_text.specs.declared.script.Script.{Script}
+use Rattle.script_core.specs.declared.script.Script.{Script}
 use Rattle.script_reader.specs.Scripts.{script_read}
 use Rattle.script_reader.proofs.CutOff.{cut_off, past_is_none}
 use Rattle.run_book.specs.Fit.{FitsWith}

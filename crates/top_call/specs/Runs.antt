@@ -9,7 +9,7 @@ use Rattle.command_line.specs.Texts.{help_text, usage_text, version_text}
 use Rattle.io_edge.specs.Streams.{TookFront, puts_behind}
 use Rattle.script_reader.specs.declared.fault.Cause.{Cause}
 use Rattle.script_reader.specs.declared.fault.ScriptFault.TheVariants.{Refused as RefusedAt}
-use Rattle.script_text.specs.declared.script.Script.{Script}
+use Rattle.script_core.specs.declared.script.Script.{Script}
 use Rattle.script_reader.specs.Causes.{cause_text}
 use Rattle.script_reader.specs.Scripts.{script_read}
 use Rattle.run_book.specs.declared.book.Book.{Book}

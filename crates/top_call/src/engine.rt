@@ -4,7 +4,7 @@ ghost use Rattle.command_line.specs.Forms.{IsForm};
 ghost use Rattle.command_line.specs.declared.form.Form.TheVariants.{Load};
 ghost use Rattle.run_book.specs.Fit.{FitsWith};
 ghost use Rattle.run_book.specs.Setups.{Setup, setup_of};
-ghost use Rattle.script_text.specs.Scripts.{IsInRange};
+ghost use Rattle.script_core.specs.Scripts.{IsInRange};
 ghost use Rattle.top_call.specs.Runs.{IsBookOf, IsOwed, IsPlay, IsRead, empty_book, form_text, given_form, refusal_text, run_text};
 
 use crate::refusal::refusal_line;
@@ -16,8 +16,8 @@ use load_text::load_text;
 use print_text::text_of;
 use run_book::Book;
 use run_progress::Progress;
+use script_core::Script;
 use script_reader::{Cause, ScriptFault, parse};
-use script_text::Script;
 use std::alloc::Global;
 use std::sync::Wait;
 use std::thread::Threads;

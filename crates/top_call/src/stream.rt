@@ -1,12 +1,12 @@
 // Reads an input to its end or past the limits of a script, and writes a text.
 ghost use Rattle.std.specs.Prelude.{◌≡◌, ◌≢◌, ◌↔◌, [], false, IsTrue, IfOk, IfSome, OnOk, OnErr};
 ghost use Rattle.io_edge.specs.Streams.{HasRisen, TookFront, LeftBehind, puts_back, puts_behind};
-ghost use Rattle.script_text.specs.Limits.{PassesLimits, IsWithinBut};
+ghost use Rattle.script_core.specs.Limits.{PassesLimits, IsWithinBut};
 ghost use Rattle.top_call.specs.declared.stream.ReadFault.TheVariants.{NoMemory, Failed as ReadFailed};
 
 use ids_core::NoMemory as OutOfMemory;
 use io_edge::{Failed, Sink, Source, WriteFault};
-use script_text::LineCount;
+use script_core::LineCount;
 use std::alloc::{AllocError, Global};
 
 /// The most bytes that one read takes.

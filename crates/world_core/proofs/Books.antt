@@ -5,7 +5,7 @@ use Rattle.std.proofs.lemmas.List.{length-map}
 use Rattle.dc_talk.specs.Entries.{Entry}
 use Rattle.dc_talk.specs.Logs.{Logged}
 use Rattle.dc_host.specs.Centres.{CentreTrail}
-use Rattle.script_text.specs.declared.script.Script.{Script}
+use Rattle.script_core.specs.declared.script.Script.{Script}
 use Rattle.run_book.specs.declared.book.Book.{Book}
 use Rattle.run_book.specs.Setups.{setup_of}
 use Rattle.run_book.specs.Happenings.{Happened, InRange, IsBookOf}
@@ -15,7 +15,7 @@ use Rattle.run_book.proofs.Happenings.Fits.{fits}
 use Rattle.run_book.proofs.Happenings.Timely.{timely}
 use Rattle.run_book.proofs.Happenings.Playing.{scripted}
 use Rattle.world_core.specs.Worlds.{WorldView, IsWorld}
-use Rattle.script_text.specs.Scripts.{IsInRange}
+use Rattle.script_core.specs.Scripts.{IsInRange}
 use Rattle.world_core.specs.Runs.{IsSound, IsWorldBook, HasPlayed, IsRunOf}
 use Rattle.run_table.proofs.Reading.{trails_match, logs_match}
 use Rattle.world_core.proofs.Worlds.{centre_count}

@@ -4,8 +4,8 @@ use Rattle.std.proofs.lemmas.List.{get_or-replicate}
 use Rattle.ids_core.specs.declared.limits.TheConstants.{MOST_CENTRES}
 use Rattle.list_core.specs.Members.{In}
 use Rattle.dc_talk.specs.declared.log.Deed.{Deed}
-use Rattle.script_text.specs.Steps.{IsCount}
-use Rattle.script_text.specs.Mail.{Post, new_post, lying}
+use Rattle.script_core.specs.Steps.{IsCount}
+use Rattle.script_core.specs.Mail.{Post, new_post, lying}
 use Rattle.dc_worker.proofs.Mailing.{mailed_sent}
 use Rattle.dc_mail.specs.Posts.{place_of, post_at, new_posts, IsCentre}
 use Rattle.dc_mail.proofs.Places.{place_within}

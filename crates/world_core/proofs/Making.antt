@@ -10,13 +10,13 @@ use Rattle.dc_talk.specs.declared.log.Note.{Note}
 use Rattle.dc_talk.specs.Logs.{marked}
 use Rattle.dc_talk.specs.Clients.{Client, new_client}
 use Rattle.dc_talk.specs.Rule.{after}
-use Rattle.script_text.specs.declared.script.Script.{Script}
-use Rattle.script_text.specs.declared.steps.ClientStep.{ClientStep}
-use Rattle.script_text.specs.declared.steps.OperatorStep.{OperatorStep}
-use Rattle.script_text.specs.declared.rounds.Role.TheVariants.{Sender, Receiver, Reporter, Pruner}
-use Rattle.script_text.specs.Steps.{IsCount}
-use Rattle.script_text.specs.Deeds.{Progress, StepDeeds, after_all, armed_after, stepped}
-use Rattle.script_text.specs.Mail.{due_in_round, due_at_close}
+use Rattle.script_core.specs.declared.script.Script.{Script}
+use Rattle.script_core.specs.declared.steps.ClientStep.{ClientStep}
+use Rattle.script_core.specs.declared.steps.OperatorStep.{OperatorStep}
+use Rattle.script_core.specs.declared.rounds.Role.TheVariants.{Sender, Receiver, Reporter, Pruner}
+use Rattle.script_core.specs.Steps.{IsCount}
+use Rattle.script_core.specs.Deeds.{Progress, StepDeeds, after_all, armed_after, stepped}
+use Rattle.script_core.specs.Mail.{due_in_round, due_at_close}
 use Rattle.dc_talk.specs.declared.sent.Sent.{Sent}
 use Rattle.client_stub.specs.Playing.{StubView}
 use Rattle.ids_core.specs.declared.limits.TheConstants.{MOST_CENTRES}
@@ -26,8 +26,8 @@ use Rattle.run_book.specs.Moves.{Does, Move, move, client_does, operator_does, a
 use Rattle.run_book.specs.Played.{Stage, new_progress, first_stage, DoesSo, come_after, post_after, stage_after, HavePlayed}
 use Rattle.run_book.proofs.Happenings.Entries.{own_then, other_then, deeds_marked}
 use Rattle.run_book.proofs.Happenings.Playing.{played_none as none_played, played_more, all_at}
-use Rattle.script_text.specs.Rounds.{ReceiverDeeds, Brings, others}
-use Rattle.script_text.specs.Carrying.{InTurn, no_turn, next_turn}
+use Rattle.script_core.specs.Rounds.{ReceiverDeeds, Brings, others}
+use Rattle.script_core.specs.Carrying.{InTurn, no_turn, next_turn}
 use Rattle.list_core.specs.Members.{In}
 use Rattle.run_book.proofs.Happenings.WorkerRounds.{others_within}
 use Rattle.run_table.specs.declared.works.Work.{Work}

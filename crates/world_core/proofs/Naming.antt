@@ -10,15 +10,15 @@ use Rattle.list_core.specs.Choices.{when}
 use Rattle.list_core.specs.Members.{In}
 use Rattle.list_core.proofs.Gets.{get_In, In_get, all_get}
 use Rattle.list_core.proofs.Passing.{In_from_filter_map}
-use Rattle.script_text.specs.declared.script.Script.{Script}
-use Rattle.script_text.specs.declared.steps.ClientStep.{ClientStep}
-use Rattle.script_text.specs.declared.steps.OperatorStep.{OperatorStep}
-use Rattle.script_text.specs.declared.steps.Section.{Section}
-use Rattle.script_text.specs.declared.steps.Step.{Step}
-use Rattle.script_text.specs.declared.steps.Step.TheVariants.{Client, Operator}
-use Rattle.script_text.specs.Steps.{IsCount, IsStep, IsOperatorStep, IsStepOf}
-use Rattle.script_text.specs.Rows.{IsLine, IsInPhase, IsPhase, IsSection}
-use Rattle.script_text.specs.Scripts.{header_of}
+use Rattle.script_core.specs.declared.script.Script.{Script}
+use Rattle.script_core.specs.declared.steps.ClientStep.{ClientStep}
+use Rattle.script_core.specs.declared.steps.OperatorStep.{OperatorStep}
+use Rattle.script_core.specs.declared.steps.Section.{Section}
+use Rattle.script_core.specs.declared.steps.Step.{Step}
+use Rattle.script_core.specs.declared.steps.Step.TheVariants.{Client, Operator}
+use Rattle.script_core.specs.Steps.{IsCount, IsStep, IsOperatorStep, IsStepOf}
+use Rattle.script_core.specs.Rows.{IsLine, IsInPhase, IsPhase, IsSection}
+use Rattle.script_core.specs.Scripts.{header_of}
 use Rattle.run_book.specs.Moves.{client_step, operator_step, client_steps, operator_steps}
 use Rattle.world_core.specs.Events.{numbered, step_named}
 

@@ -4,10 +4,10 @@ use Rattle.std.specs.Prelude.{◌==◌, nat_le, flat_map, slice_get}
 use Rattle.std.specs.List.{filter_map, range_with_len}
 use Rattle.std.specs.Option.{option_map}
 use Rattle.std.proofs.lemmas.Bool.{eq-eqb, ne_eqb, le-leb, lt-leb}
-use Rattle.script_text.specs.declared.steps.ClientStep.{ClientStep}
-use Rattle.script_text.specs.declared.steps.OperatorStep.{OperatorStep}
-use Rattle.script_text.specs.declared.steps.Section.{Section}
-use Rattle.script_text.specs.declared.rounds.Role.TheVariants.{Sender, Receiver, Reporter, Pruner}
+use Rattle.script_core.specs.declared.steps.ClientStep.{ClientStep}
+use Rattle.script_core.specs.declared.steps.OperatorStep.{OperatorStep}
+use Rattle.script_core.specs.declared.steps.Section.{Section}
+use Rattle.script_core.specs.declared.rounds.Role.TheVariants.{Sender, Receiver, Reporter, Pruner}
 use Rattle.run_book.specs.Moves.{Move, move, client_does, operator_does, worker_does, closes, client_steps, operator_steps, client_turn, operator_turn, one_or_none, worker_turn}
 use Rattle.run_book.proofs.Moves.{counted_more, client_more}
 use Rattle.run_table.specs.declared.dealing.Dealt.{Dealt}

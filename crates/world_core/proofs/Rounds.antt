@@ -6,11 +6,11 @@ use Rattle.dc_talk.specs.declared.log.Deed.{Deed}
 use Rattle.dc_talk.specs.declared.log.Note.{Note}
 use Rattle.dc_talk.specs.Rule.{client_after}
 use Rattle.dc_host.specs.KeptDoors.{shown_of, begun}
-use Rattle.script_text.specs.declared.script.Script.{Script}
-use Rattle.script_text.specs.declared.rounds.Role.TheVariants.{Sender, Receiver, Reporter, Pruner}
-use Rattle.script_text.specs.Steps.{IsCount}
-use Rattle.script_text.specs.Mail.{due_in_round, due_at_close}
-use Rattle.script_text.proofs.Arriving.{due_lies, close_lies}
+use Rattle.script_core.specs.declared.script.Script.{Script}
+use Rattle.script_core.specs.declared.rounds.Role.TheVariants.{Sender, Receiver, Reporter, Pruner}
+use Rattle.script_core.specs.Steps.{IsCount}
+use Rattle.script_core.specs.Mail.{due_in_round, due_at_close}
+use Rattle.script_core.proofs.Arriving.{due_lies, close_lies}
 use Rattle.dc_worker.proofs.RoundDeeds.{sender_carries, reporter_carries, pruner_carries}
 use Rattle.dc_mail.specs.Posts.{post_at}
 use Rattle.client_stub.specs.Playing.{StubView}

@@ -2,11 +2,11 @@
 use Rattle.std.proofs.Common.{◌≡◌, ◌<◌, ⊎_elim, ℕ, ◌+◌, true, false, cond, true≢false, List, [], ◌∷◌, ◌++◌, map, length, take, get_or, sym, ap, ◌∙◌, subst, arith}
 use Rattle.std.specs.Prelude.{All}
 use Rattle.std.proofs.lemmas.List.{take_more, length-take-le}
-use Rattle.script_text.specs.declared.script.Script.{Script}
-use Rattle.script_text.specs.declared.script.Header.{Header}
-use Rattle.script_text.specs.declared.steps.Section.{Section}
-use Rattle.script_text.specs.Rows.{IsLine, IsPhase, IsSection}
-use Rattle.script_text.specs.Scripts.{header_of}
+use Rattle.script_core.specs.declared.script.Script.{Script}
+use Rattle.script_core.specs.declared.script.Header.{Header}
+use Rattle.script_core.specs.declared.steps.Section.{Section}
+use Rattle.script_core.specs.Rows.{IsLine, IsPhase, IsSection}
+use Rattle.script_core.specs.Scripts.{header_of}
 use Rattle.run_book.specs.Moves.{phase_moves, section_moves, moves_from, step_move}
 use Rattle.run_book.proofs.Moves.{section_more}
 use Rattle.world_core.specs.Worlds.{WorldView}

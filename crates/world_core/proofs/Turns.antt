@@ -20,12 +20,12 @@ use Rattle.dc_talk.specs.Clients.{Client, new_client}
 use Rattle.dc_talk.specs.Rule.{after, client_after}
 use Rattle.dc_host.specs.Centres.{CentreTrail}
 use Rattle.dc_host.specs.KeptDoors.{shown_of, begun, trail_at}
-use Rattle.script_text.specs.declared.script.Script.{Script}
-use Rattle.script_text.specs.declared.steps.ClientStep.{ClientStep}
-use Rattle.script_text.specs.declared.steps.OperatorStep.{OperatorStep}
-use Rattle.script_text.specs.Steps.{IsOperatorStep}
-use Rattle.script_text.specs.Deeds.{StepDeeds, after_all}
-use Rattle.script_text.specs.Orders.{OperatorDeeds}
+use Rattle.script_core.specs.declared.script.Script.{Script}
+use Rattle.script_core.specs.declared.steps.ClientStep.{ClientStep}
+use Rattle.script_core.specs.declared.steps.OperatorStep.{OperatorStep}
+use Rattle.script_core.specs.Steps.{IsOperatorStep}
+use Rattle.script_core.specs.Deeds.{StepDeeds, after_all}
+use Rattle.script_core.specs.Orders.{OperatorDeeds}
 use Rattle.client_stub.specs.Playing.{StubView, AllowsAll, IsLinkBehind}
 use Rattle.run_book.specs.Setups.{setup_of}
 use Rattle.run_book.specs.Happenings.{Happened, notes_by, happening, GoesToOneOf, IsLinkWithin, ClientDoes, AreTogether}

@@ -18,8 +18,8 @@ use Rattle.dc_talk.specs.Rule.{client_after}
 use Rattle.dc_host.specs.Centres.{CentreTrail}
 use Rattle.dc_host.specs.KeptDoors.{entries_of, trail_at}
 use Rattle.ids_core.specs.declared.limits.TheConstants.{MOST_CENTRES}
-use Rattle.script_text.specs.declared.script.Script.{Script}
-use Rattle.script_text.specs.Scripts.{IsInRange}
+use Rattle.script_core.specs.declared.script.Script.{Script}
+use Rattle.script_core.specs.Scripts.{IsInRange}
 use Rattle.client_stub.specs.Playing.{StubView}
 use Rattle.run_book.specs.Setups.{Setup, setup_of, settings_among}
 use Rattle.run_book.specs.Parts.{idle_log}

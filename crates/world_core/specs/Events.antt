@@ -13,14 +13,14 @@ use Rattle.dc_talk.specs.declared.log.Deed.{Deed}
 use Rattle.dc_talk.specs.declared.log.Deed.TheVariants.{Asked}
 use Rattle.dc_talk.specs.Logs.{marked}
 use Rattle.dc_host.specs.KeptDoors.{trail_at}
-use Rattle.script_text.specs.declared.script.Script.{Script}
-use Rattle.script_text.specs.declared.steps.Section.{Section}
-use Rattle.script_text.specs.declared.steps.ClientStep.{ClientStep}
-use Rattle.script_text.specs.declared.steps.OperatorStep.{OperatorStep}
-use Rattle.script_text.specs.declared.rounds.Role.{Role}
-use Rattle.script_text.specs.declared.rounds.Role.TheVariants.{Sender, Receiver, Reporter, Pruner}
-use Rattle.script_text.specs.Deeds.{StepDeeds, after_all, armed_after}
-use Rattle.script_text.specs.Orders.{OperatorDeeds}
+use Rattle.script_core.specs.declared.script.Script.{Script}
+use Rattle.script_core.specs.declared.steps.Section.{Section}
+use Rattle.script_core.specs.declared.steps.ClientStep.{ClientStep}
+use Rattle.script_core.specs.declared.steps.OperatorStep.{OperatorStep}
+use Rattle.script_core.specs.declared.rounds.Role.{Role}
+use Rattle.script_core.specs.declared.rounds.Role.TheVariants.{Sender, Receiver, Reporter, Pruner}
+use Rattle.script_core.specs.Deeds.{StepDeeds, after_all, armed_after}
+use Rattle.script_core.specs.Orders.{OperatorDeeds}
 use Rattle.client_stub.specs.Playing.{StubView}
 use Rattle.run_book.specs.Moves.{Does, operator_does, worker_does, closes, actor_of, client_steps, operator_steps}
 use Rattle.run_book.specs.Played.{DoesSo}

@@ -1,8 +1,8 @@
 -- What runs of scripts on one thread leave.
 use Rattle.std.specs.Prelude.{◌≡◌, ℕ, List, ◌++◌, map, Some}
-use Rattle.script_text.specs.declared.script.Script.{Script}
-use Rattle.script_text.specs.Steps.{IsCount}
-use Rattle.script_text.specs.Scripts.{IsInRange}
+use Rattle.script_core.specs.declared.script.Script.{Script}
+use Rattle.script_core.specs.Steps.{IsCount}
+use Rattle.script_core.specs.Scripts.{IsInRange}
 use Rattle.dc_mail.specs.Posts.{post_at}
 use Rattle.client_stub.specs.Playing.{StubView}
 use Rattle.run_book.specs.declared.book.Book.{Book}

@@ -10,10 +10,10 @@ use Rattle.dc_talk.specs.Logs.{Logged, marked, entries_made}
 use Rattle.dc_talk.specs.Rule.{client_after}
 use Rattle.dc_host.specs.Centres.{CentreTrail}
 use Rattle.dc_host.specs.KeptDoors.{trail_at}
-use Rattle.script_text.specs.declared.script.Script.{Script}
-use Rattle.script_text.specs.Steps.{IsCount}
-use Rattle.script_text.specs.Deeds.{Progress}
-use Rattle.script_text.specs.Mail.{Post, lying}
+use Rattle.script_core.specs.declared.script.Script.{Script}
+use Rattle.script_core.specs.Steps.{IsCount}
+use Rattle.script_core.specs.Deeds.{Progress}
+use Rattle.script_core.specs.Mail.{Post, lying}
 use Rattle.dc_mail.specs.Posts.{post_at}
 use Rattle.client_stub.specs.Playing.{StubView}
 use Rattle.run_book.specs.Setups.{setup_of, settings_among}

@@ -11,10 +11,10 @@ ghost use Rattle.world_core.specs.Events.{numbered, step_named, role_of, work_in
 
 use crate::world::World;
 use dc_talk::{Ask, Deed, Log, Note, Say};
-use hist_lock::Entry;
 use ids_core::NoMemory;
+use machine_trail::Entry;
 use run_table::Work;
-use script_text::{ClientStep, OperatorStep, Role, Script, Section, Step};
+use script_core::{ClientStep, OperatorStep, Role, Script, Section, Step};
 
 // What a client does in a step, where the step is the client's.
 fn client_step(step: &Step, client: u32) -> Option<ClientStep>

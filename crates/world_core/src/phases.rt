@@ -2,8 +2,8 @@
 ghost use Rattle.std.specs.Prelude.{◌≡◌, ◌≤◌, false, flat_map, OnOk};
 ghost use Rattle.std.specs.List.{filter_map, range_with_len};
 ghost use Rattle.vv_core.specs.Vectors.{centres};
-ghost use Rattle.script_text.specs.Rows.{IsPhase};
-ghost use Rattle.script_text.specs.Scripts.{header_of, IsInRange};
+ghost use Rattle.script_core.specs.Rows.{IsPhase};
+ghost use Rattle.script_core.specs.Scripts.{header_of, IsInRange};
 ghost use Rattle.run_book.specs.Moves.{client_turn, operator_turn, one_or_none, worker_turn, turn_moves, phase_moves};
 ghost use Rattle.run_table.specs.Dealing.{IsDealtPhase};
 ghost use Rattle.world_core.specs.Runs.{MakesMoves};
@@ -11,7 +11,7 @@ ghost use Rattle.world_core.specs.Runs.{MakesMoves};
 use crate::world::World;
 use ids_core::NoMemory;
 use run_table::{Dealt, Work, deal};
-use script_text::{Role, Section};
+use script_core::{Role, Section};
 use std::alloc::Global;
 
 // The clients that have a step of a turn's number take it, in ascending order.

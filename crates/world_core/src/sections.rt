@@ -1,8 +1,8 @@
 // A script, played section by section.
 ghost use Rattle.std.specs.Prelude.{◌≡◌, false, [], ◌∷◌, IfOk, OnOk};
-ghost use Rattle.script_text.specs.Rows.{IsLine, IsSection};
-ghost use Rattle.script_text.specs.Scripts.{header_of, IsInRange};
-ghost use Rattle.script_text.specs.Steps.{IsStepOf};
+ghost use Rattle.script_core.specs.Rows.{IsLine, IsSection};
+ghost use Rattle.script_core.specs.Scripts.{header_of, IsInRange};
+ghost use Rattle.script_core.specs.Steps.{IsStepOf};
 ghost use Rattle.run_book.specs.Moves.{step_move, section_moves, moves_of};
 ghost use Rattle.world_core.specs.Runs.{MakesMoves, HasPlayed, IsRunOf};
 
@@ -12,7 +12,7 @@ use ids_core::NoMemory;
 use io_edge::FreeGate;
 use run_book::Book;
 use run_progress::{Extent, Progress};
-use script_text::{Script, Section, Step};
+use script_core::{Script, Section, Step};
 use std::alloc::Global;
 
 // Has the step's actor take it, as the only one of the section of a number.

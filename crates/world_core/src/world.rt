@@ -1,9 +1,9 @@
 // A world: the system on one thread.
 ghost use Rattle.std.specs.Prelude.{◌≡◌, ◌≤◌, ◌+◌, true, false, [], map, length, IfOk, OnOk, OnErr, IsErr};
-ghost use Rattle.script_text.specs.Steps.{IsStep, IsOperatorStep};
+ghost use Rattle.script_core.specs.Steps.{IsStep, IsOperatorStep};
 ghost use Rattle.world_core.specs.Worlds.{IsWorld};
 ghost use Rattle.run_table.specs.Tables.{new_stubs};
-ghost use Rattle.script_text.specs.Scripts.{IsInRange};
+ghost use Rattle.script_core.specs.Scripts.{IsInRange};
 ghost use Rattle.dc_mail.specs.Posts.{new_posts};
 ghost use Rattle.run_table.specs.Works.{work_of};
 ghost use Rattle.world_core.specs.Events.{TakesStep, TakesOrder, TakesRound, AsksOnce, MayAsk, turn_of};
@@ -13,7 +13,7 @@ use dc_talk::Ask;
 use ids_core::NoMemory;
 use run_book::{Book, Logs};
 use run_table::{Table, Work, trails_of};
-use script_text::{ClientStep, OperatorStep, Script};
+use script_core::{ClientStep, OperatorStep, Script};
 use std::alloc::Global;
 use std::marker::Model;
 

@@ -1,9 +1,9 @@
 // Events that look random, the same in each run.
 use crate::dice::Dice;
 use dc_talk::{Ask, Deed, Note, Say};
-use hist_lock::Entry;
+use machine_trail::Entry;
 use run_book::Book;
-use script_text::{Script, Section, Step};
+use script_core::{Script, Section, Step};
 use world_core::Event;
 
 /// How far the operator and the clients are in a script: the section and the number of the step that each took last. An

@@ -1,13 +1,13 @@
 // Some two hundred lists of events in odd orders, each played in a world, with the reads of its book looked at.
-ghost use Rattle.script_text.specs.Scripts.{IsInRange};
+ghost use Rattle.script_core.specs.Scripts.{IsInRange};
 
 use crate::chance::{Chance, Order, Plan, step_named};
 use crate::reads::count_reads;
 use crate::scripts::SCRIPTS;
 use ids_core::NoMemory;
 use run_book::Book;
+use script_core::{ClientStep, OperatorStep, Script, Step};
 use script_reader::parse;
-use script_text::{ClientStep, OperatorStep, Script, Step};
 use std::alloc::Global;
 use std::process::Abort;
 use std::test::Fail;

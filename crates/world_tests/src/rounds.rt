@@ -1,10 +1,10 @@
 // Rounds of workers as events: those that are there, and those that are not.
-ghost use Rattle.script_text.specs.Scripts.{IsInRange};
+ghost use Rattle.script_core.specs.Scripts.{IsInRange};
 
 use crate::events::run_of;
 use ids_core::NoMemory;
+use script_core::Script;
 use script_reader::parse;
-use script_text::Script;
 use std::alloc::Global;
 use std::test::Fail;
 use world_core::Event;

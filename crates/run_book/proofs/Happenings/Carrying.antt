@@ -21,7 +21,7 @@ use Rattle.dc_talk.specs.declared.log.Note.{Note}
 use Rattle.dc_talk.specs.Entries.{Entry}
 use Rattle.dc_talk.specs.Logs.{marked, exchanged_in, entry_for}
 use Rattle.dc_talk.specs.Answers.{answer, History}
-use Rattle.script_text.specs.Provenance.{HasAnswer as HasBrought, WasSent as WasBrought, Carries, CarriesAll}
+use Rattle.script_core.specs.Provenance.{HasAnswer as HasBrought, WasSent as WasBrought, Carries, CarriesAll}
 use Rattle.run_book.specs.Setups.{Setup, settings_among}
 use Rattle.run_book.specs.Happenings.{Happened, note_by, notes_by, entry_in, trail_in, trails_in, happening, GoesToOneOf, HasAnswer, WasSent, CarrierAllows, trails_after, CarrierDoes, IsCarrier, Happens, AreHistories, AreTogether}
 use Rattle.run_book.proofs.Happenings.Entries.{note_made, trail_more, deeds_marked}

@@ -17,14 +17,14 @@ use Rattle.dc_talk.specs.declared.log.Deed.TheVariants.{Asked}
 use Rattle.dc_talk.specs.declared.line.ShipEnd.{ShipEnd}
 use Rattle.dc_talk.specs.declared.line.Line.{Line}
 use Rattle.dc_talk.specs.Logs.{marked}
-use Rattle.script_text.specs.declared.steps.OperatorStep.{OperatorStep}
-use Rattle.script_text.specs.declared.steps.OperatorStep.TheVariants.{Down, Up, ShipOne, Ship, Relay, Tell, Prune, Link, Settle}
-use Rattle.script_text.specs.Steps.{IsCount, IsOperatorStep}
-use Rattle.script_text.specs.Deeds.{told}
-use Rattle.script_text.specs.Carrying.{Route, route, Detour, detour, detours, routes, ship_line, relay_line, is_there, delivery_end, Delivers, AfterSend, Sends, AfterReport, Supplies, own_need, origin_need, Ships, Relays, AfterTold, Tells, InTurn, no_turn, next_turn, Passes, Settles, last_pass, one_pass}
-use Rattle.script_text.specs.Orders.{base_line, OperatorDeeds}
-use Rattle.script_text.specs.Provenance.{CarriesAll}
-use Rattle.script_text.proofs.Provenance.{carries_both, sends_carry, ships_carry, relays_carry, tells_carry, settles_carry}
+use Rattle.script_core.specs.declared.steps.OperatorStep.{OperatorStep}
+use Rattle.script_core.specs.declared.steps.OperatorStep.TheVariants.{Down, Up, ShipOne, Ship, Relay, Tell, Prune, Link, Settle}
+use Rattle.script_core.specs.Steps.{IsCount, IsOperatorStep}
+use Rattle.script_core.specs.Deeds.{told}
+use Rattle.script_core.specs.Carrying.{Route, route, Detour, detour, detours, routes, ship_line, relay_line, is_there, delivery_end, Delivers, AfterSend, Sends, AfterReport, Supplies, own_need, origin_need, Ships, Relays, AfterTold, Tells, InTurn, no_turn, next_turn, Passes, Settles, last_pass, one_pass}
+use Rattle.script_core.specs.Orders.{base_line, OperatorDeeds}
+use Rattle.script_core.specs.Provenance.{CarriesAll}
+use Rattle.script_core.proofs.Provenance.{carries_both, sends_carry, ships_carry, relays_carry, tells_carry, settles_carry}
 use Rattle.run_book.specs.Setups.{Setup}
 use Rattle.run_book.specs.Happenings.{Happened, trails_in, happening, GoesToOneOf, CarrierDoes, AreHistories, AreTogether}
 use Rattle.run_book.proofs.Happenings.More.{operator_carries}

@@ -7,7 +7,7 @@ use Rattle.std.proofs.lemmas.List.Elements.{All-nil, All-cons}
 use Rattle.dc_talk.specs.declared.log.Deed.{Deed}
 use Rattle.dc_talk.specs.declared.log.Note.{Note}
 use Rattle.dc_talk.specs.Logs.{marked}
-use Rattle.script_text.specs.declared.script.Script.{Script}
+use Rattle.script_core.specs.declared.script.Script.{Script}
 use Rattle.run_book.specs.declared.book.Book.{Book}
 use Rattle.run_book.specs.Setups.{Setup, setup_of}
 use Rattle.run_book.specs.Parts.{trail_of, notes_of}

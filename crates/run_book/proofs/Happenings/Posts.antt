@@ -5,14 +5,14 @@ use Rattle.list_core.specs.Members.{In}
 use Rattle.dc_talk.specs.declared.sent.Sent.{Sent}
 use Rattle.dc_talk.specs.declared.log.Deed.{Deed}
 use Rattle.dc_talk.specs.Logs.{marked}
-use Rattle.script_text.specs.declared.script.Script.{Script}
-use Rattle.script_text.specs.declared.steps.OperatorStep.TheVariants.{Down, Up, ShipOne, Ship, Relay, Tell, Prune, Link, Settle}
-use Rattle.script_text.specs.declared.rounds.Role.TheVariants.{Sender, Receiver, Reporter, Pruner}
-use Rattle.script_text.specs.Steps.{IsCount}
-use Rattle.script_text.specs.Mail.{Post, post_put, post_after_round, post_closed, post_set, lying}
-use Rattle.script_text.specs.Rounds.{mailed}
-use Rattle.script_text.specs.Provenance.{WasSent as WasBrought}
-use Rattle.script_text.proofs.Arriving.{after_round_lies, closed_lies, put_lies, set_lies}
+use Rattle.script_core.specs.declared.script.Script.{Script}
+use Rattle.script_core.specs.declared.steps.OperatorStep.TheVariants.{Down, Up, ShipOne, Ship, Relay, Tell, Prune, Link, Settle}
+use Rattle.script_core.specs.declared.rounds.Role.TheVariants.{Sender, Receiver, Reporter, Pruner}
+use Rattle.script_core.specs.Steps.{IsCount}
+use Rattle.script_core.specs.Mail.{Post, post_put, post_after_round, post_closed, post_set, lying}
+use Rattle.script_core.specs.Rounds.{mailed}
+use Rattle.script_core.specs.Provenance.{WasSent as WasBrought}
+use Rattle.script_core.proofs.Arriving.{after_round_lies, closed_lies, put_lies, set_lies}
 use Rattle.run_book.specs.Setups.{Setup}
 use Rattle.run_book.specs.Happenings.{Happened, trails_in, happening, WasSent, AreTogether}
 use Rattle.run_book.specs.Moves.{Does, client_does, operator_does, worker_does, closes}

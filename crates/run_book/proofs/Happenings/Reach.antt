@@ -26,13 +26,13 @@ use Rattle.dc_talk.specs.declared.line.Line.TheVariants as line
 use Rattle.dc_talk.specs.Clients.{Client, new_client}
 use Rattle.dc_talk.specs.Calls.{outcome_of, did}
 use Rattle.dc_talk.specs.Rule.{after, heard, takes, taken, sent_through, next_commit, hello_of, refresh_of, fetch_of, client_after}
-use Rattle.script_text.specs.declared.object_call.ObjectCall.{ObjectCall}
-use Rattle.script_text.specs.declared.steps.AskFault.{AskFault}
-use Rattle.script_text.specs.declared.steps.AskFault.TheVariants.{LoseAsk, LoseReply, Twice}
-use Rattle.script_text.specs.declared.steps.ClientStep.{ClientStep}
-use Rattle.script_text.specs.declared.steps.ClientStep.TheVariants.{Connect, Begin, Change, Read, Commit, Abort, Push, Flush, Refresh, Again, Arm}
-use Rattle.script_text.specs.Steps.{IsStep}
-use Rattle.script_text.specs.Deeds.{Progress, StepDeeds, Asks, OrTells, OverNext, Pushes, PushesOn, FetchDeeds, CallDeeds, FlushDeeds, flush_ends, flush_goes, RefreshDeeds, AgainDeeds, after_all, after_fetch, calls, call_line, change_call, read_call, commit_sent, copies, fate_of, fetch_line, goes_on, hello_line, push_line, pushed, refresh_line, again_line, told, took}
+use Rattle.script_core.specs.declared.object_call.ObjectCall.{ObjectCall}
+use Rattle.script_core.specs.declared.steps.AskFault.{AskFault}
+use Rattle.script_core.specs.declared.steps.AskFault.TheVariants.{LoseAsk, LoseReply, Twice}
+use Rattle.script_core.specs.declared.steps.ClientStep.{ClientStep}
+use Rattle.script_core.specs.declared.steps.ClientStep.TheVariants.{Connect, Begin, Change, Read, Commit, Abort, Push, Flush, Refresh, Again, Arm}
+use Rattle.script_core.specs.Steps.{IsStep}
+use Rattle.script_core.specs.Deeds.{Progress, StepDeeds, Asks, OrTells, OverNext, Pushes, PushesOn, FetchDeeds, CallDeeds, FlushDeeds, flush_ends, flush_goes, RefreshDeeds, AgainDeeds, after_all, after_fetch, calls, call_line, change_call, read_call, commit_sent, copies, fate_of, fetch_line, goes_on, hello_line, push_line, pushed, refresh_line, again_line, told, took}
 use Rattle.run_book.specs.Setups.{Setup}
 use Rattle.run_book.specs.Happenings.{Happened, notes_by, GoesToOneOf, IsLinkWithin, AreTogether}
 use Rattle.run_book.proofs.Happenings.Places.{noted}

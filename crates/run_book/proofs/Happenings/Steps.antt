@@ -8,18 +8,18 @@ use Rattle.dc_talk.specs.declared.log.Note.{Note}
 use Rattle.dc_talk.specs.Logs.{marked, entries_made}
 use Rattle.dc_talk.specs.Clients.{Client}
 use Rattle.dc_talk.specs.Rule.{client_after}
-use Rattle.script_text.specs.declared.script.Script.{Script}
-use Rattle.script_text.specs.declared.steps.ClientStep.{ClientStep}
-use Rattle.script_text.specs.declared.steps.OperatorStep.{OperatorStep}
-use Rattle.script_text.specs.declared.rounds.Role.{Role}
-use Rattle.script_text.specs.declared.rounds.Role.TheVariants.{Sender, Receiver, Reporter, Pruner}
-use Rattle.script_text.specs.Steps.{IsCount, IsStep, IsOperatorStep}
-use Rattle.script_text.specs.Mail.{due_in_round, due_at_close}
-use Rattle.script_text.specs.Rounds.{worker_of, mailed}
-use Rattle.script_text.specs.Provenance.{CarriesAll, WasSent as WasBrought}
-use Rattle.script_text.specs.Deeds.{StepDeeds}
-use Rattle.script_text.specs.Orders.{OperatorDeeds}
-use Rattle.script_text.proofs.Arriving.{due_lies, close_lies}
+use Rattle.script_core.specs.declared.script.Script.{Script}
+use Rattle.script_core.specs.declared.steps.ClientStep.{ClientStep}
+use Rattle.script_core.specs.declared.steps.OperatorStep.{OperatorStep}
+use Rattle.script_core.specs.declared.rounds.Role.{Role}
+use Rattle.script_core.specs.declared.rounds.Role.TheVariants.{Sender, Receiver, Reporter, Pruner}
+use Rattle.script_core.specs.Steps.{IsCount, IsStep, IsOperatorStep}
+use Rattle.script_core.specs.Mail.{due_in_round, due_at_close}
+use Rattle.script_core.specs.Rounds.{worker_of, mailed}
+use Rattle.script_core.specs.Provenance.{CarriesAll, WasSent as WasBrought}
+use Rattle.script_core.specs.Deeds.{StepDeeds}
+use Rattle.script_core.specs.Orders.{OperatorDeeds}
+use Rattle.script_core.proofs.Arriving.{due_lies, close_lies}
 use Rattle.run_book.specs.Setups.{setup_of}
 use Rattle.run_book.specs.Happenings.{Happened, notes_by, trail_in, trails_in, happening, GoesToOneOf, IsLinkWithin, ClientDoes, CarrierDoes, IsCarrier, AreHistories, AreTogether}
 use Rattle.run_book.specs.Moves.{Does, client_does, operator_does, worker_does, closes, Move, move, actor_of}

@@ -16,13 +16,13 @@ use Rattle.dc_talk.specs.declared.log.Deed.TheVariants.{Asked}
 use Rattle.dc_talk.specs.declared.line.Line.{Line}
 use Rattle.dc_talk.specs.Entries.{Entry}
 use Rattle.dc_talk.specs.Logs.{marked}
-use Rattle.script_text.specs.declared.rounds.TheConstants.{MOST_MAILED}
-use Rattle.script_text.specs.declared.rounds.Role.{Role}
-use Rattle.script_text.specs.declared.rounds.Role.TheVariants.{Sender, Receiver, Reporter, Pruner}
-use Rattle.script_text.specs.Steps.{IsCount}
-use Rattle.script_text.specs.Carrying.{Route, route, Tells, InTurn, no_turn, next_turn}
-use Rattle.script_text.specs.Orders.{Orders}
-use Rattle.script_text.specs.Rounds.{worker_of, others, AfterNeeded, Mails, SenderDeeds, Brings, ReceiverDeeds, ReporterDeeds, is_prune_round, PrunerDeeds}
+use Rattle.script_core.specs.declared.rounds.TheConstants.{MOST_MAILED}
+use Rattle.script_core.specs.declared.rounds.Role.{Role}
+use Rattle.script_core.specs.declared.rounds.Role.TheVariants.{Sender, Receiver, Reporter, Pruner}
+use Rattle.script_core.specs.Steps.{IsCount}
+use Rattle.script_core.specs.Carrying.{Route, route, Tells, InTurn, no_turn, next_turn}
+use Rattle.script_core.specs.Orders.{Orders}
+use Rattle.script_core.specs.Rounds.{worker_of, others, AfterNeeded, Mails, SenderDeeds, Brings, ReceiverDeeds, ReporterDeeds, is_prune_round, PrunerDeeds}
 use Rattle.run_book.specs.Happenings.{GoesToOneOf, WasSent, CarrierAllows, trails_after, CarrierDoes, IsCarrier}
 use Rattle.run_book.proofs.Happenings.Reach.{AllGo}
 use Rattle.run_book.proofs.Happenings.OperatorSteps.{IsWithin, none_go, ask_go, tells_go, turns_go}

@@ -1,6 +1,6 @@
 use Rattle.std.proofs.Common.{◌≡◌, length, nat_lt}
 use Rattle.std.specs.Prelude.{min}
-use Rattle.hist_lock.specs.History.{IsKept}
+use Rattle.machine_trail.specs.History.{IsKept}
 use Rattle.samples.specs.declared.gate.Gate.{Gate}
 use Rattle.benchmarks.proofs.lock.alone.Given as goal
 

@@ -1,6 +1,6 @@
 use Rattle.std.proofs.Common.{sym, ◌∙◌}
 use Rattle.std.proofs.lemmas.List.{at_drop_all}
-use Rattle.script_text.specs.Deeds.{commit_sent}
+use Rattle.script_core.specs.Deeds.{commit_sent}
 use Rattle.client_stub.proofs.LateCopies.{sent_found, sent_passed}
 use Rattle.client_stub.proofs.again.commit_sent.Goals as goal
 

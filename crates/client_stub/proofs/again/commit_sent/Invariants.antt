@@ -1,5 +1,5 @@
 use Rattle.std.proofs.Common.{◌≡◌, drop}
-use Rattle.script_text.specs.Deeds.{commit_sent}
+use Rattle.script_core.specs.Deeds.{commit_sent}
 use Rattle.client_stub.proofs.again.commit_sent.Given as goal
 
 abbrev pub invariant-asks : goal.invariant-asks

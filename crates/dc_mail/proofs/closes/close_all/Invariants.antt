@@ -1,6 +1,6 @@
 use Rattle.std.proofs.Common.{◌≡◌}
 use Rattle.dc_talk.specs.Acting.{acting}
-use Rattle.script_text.specs.Mail.{due_at_close, post_closed}
+use Rattle.script_core.specs.Mail.{due_at_close, post_closed}
 use Rattle.dc_mail.specs.Rounds.{HasReceived}
 use Rattle.dc_mail.proofs.closes.close_all.Given as goal
 

@@ -1,7 +1,7 @@
 use Rattle.std.proofs.Common.{rules, refl, ◌∙◌}
 use Rattle.dc_talk.specs.Acting.{acting, IsCutShort}
 use Rattle.dc_worker.proofs.Work.{cut_then}
-use Rattle.script_text.specs.Mail.{due_in_round, post_after_round}
+use Rattle.script_core.specs.Mail.{due_in_round, post_after_round}
 use Rattle.dc_mail.proofs.Rounds.{received_none, received_self, received_next}
 use Rattle.dc_mail.proofs.receives.receive_all.Goals as goal
 

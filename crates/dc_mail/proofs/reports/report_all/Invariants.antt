@@ -1,6 +1,6 @@
 use Rattle.std.proofs.Common.{◌≡◌}
 use Rattle.dc_talk.specs.Acting.{acting}
-use Rattle.script_text.specs.Rounds.{ReporterDeeds}
+use Rattle.script_core.specs.Rounds.{ReporterDeeds}
 use Rattle.dc_worker.specs.Work.{CarriesSuch}
 use Rattle.dc_mail.proofs.reports.report_all.Given as goal
 

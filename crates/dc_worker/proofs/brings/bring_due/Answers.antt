@@ -1,7 +1,7 @@
 use Rattle.std.proofs.Common.{rules, ◌++◌}
 use Rattle.std.specs.Option.{option_to_list}
 use Rattle.dc_talk.specs.Acting.{acting, IsCutShort}
-use Rattle.script_text.specs.Rounds.{Brings}
+use Rattle.script_core.specs.Rounds.{Brings}
 use Rattle.dc_worker.specs.Work.{AddsSuch}
 use Rattle.dc_worker.proofs.Work.{cut_then, on_turn, err_turn}
 use Rattle.dc_worker.proofs.Bringing.{brings_both}

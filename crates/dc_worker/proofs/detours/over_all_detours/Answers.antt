@@ -1,6 +1,6 @@
 use Rattle.std.proofs.Common.{◌≡◌, rules, refl, ◌∙◌, subst, arith}
 use Rattle.dc_talk.specs.Acting.{acting, IsCutShort}
-use Rattle.script_text.specs.Carrying.{InTurn}
+use Rattle.script_core.specs.Carrying.{InTurn}
 use Rattle.dc_worker.specs.Work.{CarriesSuch}
 use Rattle.dc_worker.specs.Rounds.{DoesRelay, detours_from, detours_of}
 use Rattle.dc_worker.proofs.Work.{cut_then}

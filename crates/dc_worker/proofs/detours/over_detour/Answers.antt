@@ -1,6 +1,6 @@
 use Rattle.std.proofs.Common.{inl, inr, sym, subst}
 use Rattle.dc_talk.specs.Acting.{acting}
-use Rattle.script_text.specs.Carrying.{detour, InTurn}
+use Rattle.script_core.specs.Carrying.{detour, InTurn}
 use Rattle.dc_worker.specs.Work.{CarriesSuch}
 use Rattle.dc_worker.specs.Rounds.{DoesRelay}
 use Rattle.dc_worker.proofs.Turns.{turns_none, does_relay, detour_none, detour_one}

@@ -1,6 +1,6 @@
 use Rattle.std.proofs.Common.{[]}
 use Rattle.dc_talk.specs.declared.ask.Ask.TheVariants.{Send}
-use Rattle.script_text.proofs.Provenance.{carries_more, carries_then, sends_carry, ships_carry, relays_carry, tells_carry, settles_carry}
+use Rattle.script_core.proofs.Provenance.{carries_more, carries_then, sends_carry, ships_carry, relays_carry, tells_carry, settles_carry}
 use Rattle.dc_worker.proofs.Bringing.{brings_carry}
 use Rattle.dc_worker.proofs.Mailing.{mails_carry}
 use Rattle.dc_worker.proofs.RoundDeeds.{sender_carries, reporter_carries, pruner_carries}

@@ -2,7 +2,7 @@ use Rattle.std.proofs.Common.{rules, ap}
 use Rattle.dc_talk.specs.declared.ask.Ask.TheVariants.{Relay}
 use Rattle.dc_talk.specs.declared.ask.TheConstants.{MOST_SENT}
 use Rattle.dc_talk.specs.Acting.{acting, IsCutShort}
-use Rattle.script_text.specs.Carrying.{route, detour, origin_need}
+use Rattle.script_core.specs.Carrying.{route, detour, origin_need}
 use Rattle.dc_worker.proofs.Work.{cut_then}
 use Rattle.dc_worker.proofs.Sending.{asks_for_vector}
 use Rattle.dc_worker.proofs.relays.relay_for.Goals as goal

@@ -1,6 +1,6 @@
 use Rattle.std.proofs.Common.{[], sym, ap}
 use Rattle.dc_talk.specs.Acting.{acting}
-use Rattle.script_text.specs.Carrying.{route}
+use Rattle.script_core.specs.Carrying.{route}
 use Rattle.dc_worker.proofs.Mailing.{items_of, mails_for}
 use Rattle.dc_worker.proofs.Taking.{posts_none}
 use Rattle.dc_worker.proofs.senders.send_round.Goals as goal

@@ -1,7 +1,7 @@
 use Rattle.std.proofs.Common.{rules, ap}
 use Rattle.dc_talk.specs.declared.ask.Ask.TheVariants.{Send}
 use Rattle.dc_talk.specs.Acting.{acting, IsCutShort}
-use Rattle.script_text.specs.Carrying.{route}
+use Rattle.script_core.specs.Carrying.{route}
 use Rattle.dc_worker.proofs.Work.{cut_then}
 use Rattle.dc_worker.specs.Sends.{own_part}
 use Rattle.dc_worker.proofs.Sending.{asks_for_vector}

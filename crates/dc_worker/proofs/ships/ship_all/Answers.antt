@@ -1,7 +1,7 @@
 use Rattle.std.proofs.Common.{None}
 use Rattle.dc_talk.specs.Acting.{acting, IsCutShort}
-use Rattle.script_text.specs.Carrying.{route, own_need, Delivers, Ships}
-use Rattle.script_text.proofs.Provenance.{ships_carry}
+use Rattle.script_core.specs.Carrying.{route, own_need, Delivers, Ships}
+use Rattle.script_core.proofs.Provenance.{ships_carry}
 use Rattle.dc_worker.specs.Work.{AddsSuch, CarriesSuch}
 use Rattle.dc_worker.proofs.Work.{cut_then, ok_turn, err_turn}
 use Rattle.dc_worker.proofs.Sending.{supplies_items, supplies_ended}

@@ -2,7 +2,7 @@ use Rattle.std.proofs.Common.{◌-◌, Some, sym, ◌∙◌}
 use Rattle.dc_talk.specs.declared.ask.Ask.TheVariants.{Send}
 use Rattle.dc_talk.specs.declared.line.ShipEnd.TheVariants.{Absent}
 use Rattle.dc_talk.specs.Acting.{acting, IsCutShort}
-use Rattle.script_text.specs.Carrying.{route, Delivers, Sends}
+use Rattle.script_core.specs.Carrying.{route, Delivers, Sends}
 use Rattle.dc_worker.specs.Work.{AddsSuch, CarriesSuch}
 use Rattle.dc_worker.proofs.Work.{cut_then, ok_turn, err_turn}
 use Rattle.dc_worker.proofs.Sending.{sends_items, sends_ended}

@@ -1,6 +1,6 @@
 use Rattle.std.proofs.Common.{rules}
 use Rattle.dc_talk.specs.Acting.{acting, IsCutShort}
-use Rattle.script_text.specs.Carrying.{route}
+use Rattle.script_core.specs.Carrying.{route}
 use Rattle.dc_worker.proofs.Work.{cut_then}
 use Rattle.dc_worker.proofs.Telling.{tells_vector, tells_none}
 use Rattle.dc_worker.proofs.tells.tell.Goals as goal

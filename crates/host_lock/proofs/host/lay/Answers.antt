@@ -1,5 +1,5 @@
 use Rattle.std.proofs.Common.{rules, arith, ◌≡◌, ◌∷◌, [], Some, sym, subst, length, refl, List, Option}
-use Rattle.hist_lock.specs.declared.machine.Kept.{Kept}
+use Rattle.machine_trail.specs.declared.machine.Kept.{Kept}
 use Rattle.host_lock.specs.Law.{maker, Holds}
 use Rattle.atomic_table.specs.Table.{opening}
 use Rattle.host_lock.proofs.Steps.{starts}

@@ -1,6 +1,6 @@
 use Rattle.std.proofs.Common.{◌≡◌, ◌+◌, ◌^◌, ◌<◌, List, [], ◌∷◌, ◌++◌, length, Some, ap, sym, ◌∙◌, subst, append_assoc, length-append, arith}
-use Rattle.hist_lock.specs.declared.machine.Entry.{Entry}
-use Rattle.hist_lock.specs.History.{entry, IsKept}
+use Rattle.machine_trail.specs.declared.machine.Entry.{Entry}
+use Rattle.machine_trail.specs.History.{entry, IsKept}
 use Rattle.host_lock.specs.Steps.{holding, grown, MayNote, MaySwapIn, trail_of}
 use Rattle.host_lock.proofs.turns.call_at_turn.Goals as goal
 

@@ -1,7 +1,7 @@
 use Rattle.std.proofs.Common.{◌≡◌, ◌≤◌, ℕ, List, length, map, subst, arith}
 use Rattle.std.specs.List.{AllZip}
 use Rattle.std.proofs.lemmas.Result.{IfOk-weaker}
-use Rattle.script_text.specs.Steps.{IsCount}
+use Rattle.script_core.specs.Steps.{IsCount}
 use Rattle.run_book.specs.Moves.{client_steps, most_steps}
 use Rattle.run_table.proofs.Lines.{most_few}
 use Rattle.phase_actors.specs.Clients.{SeatView, seat_of, HasStood}

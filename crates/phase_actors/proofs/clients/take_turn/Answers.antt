@@ -1,7 +1,7 @@
 use Rattle.std.proofs.Common.{◌≡◌, ◌-◌, Some, None, sym, subst, rules}
 use Rattle.std.specs.Prelude.{slice_get}
-use Rattle.script_text.specs.Scripts.{header_of}
-use Rattle.script_text.specs.Steps.{IsStep}
+use Rattle.script_core.specs.Scripts.{header_of}
+use Rattle.script_core.specs.Steps.{IsStep}
 use Rattle.run_book.specs.Moves.{client_steps}
 use Rattle.run_table.specs.Dealing.{line_of}
 use Rattle.run_table.proofs.Allowing.{client_step_in}

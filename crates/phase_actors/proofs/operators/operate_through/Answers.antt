@@ -1,5 +1,5 @@
 use Rattle.std.proofs.Common.{◌≡◌, arith}
-use Rattle.script_text.specs.Scripts.{header_of}
+use Rattle.script_core.specs.Scripts.{header_of}
 use Rattle.run_book.specs.Moves.{operator_steps}
 use Rattle.phase_actors.proofs.Passing.{door_width, orders_fit, orders_few}
 use Rattle.phase_actors.proofs.operators.operate_through.Goals as goal

@@ -1,7 +1,7 @@
 use Rattle.std.proofs.Common.{◌≡◌, ◌+◌, ◌∷◌, ◌++◌, [], length, take, get_or, refl, sym, ◌∙◌, subst, arith}
 use Rattle.std.proofs.lemmas.List.{length-take-le, take_more}
 use Rattle.dc_talk.specs.Acting.{acting}
-use Rattle.script_text.specs.declared.steps.OperatorStep.TheVariants.{Down}
+use Rattle.script_core.specs.declared.steps.OperatorStep.TheVariants.{Down}
 use Rattle.run_sections.specs.Orders.{OperatorGoes}
 use Rattle.phase_actors.specs.Workers.{PlaysOperator}
 use Rattle.phase_actors.proofs.Growing.{plays_none}

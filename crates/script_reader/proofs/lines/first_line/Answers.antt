@@ -1,6 +1,6 @@
 use Rattle.std.proofs.Common.{◌<◌, length, ap, ◌∙◌, arith}
-use Rattle.script_text.specs.Lines.{lines_of}
-use Rattle.script_text.proofs.Cuts.{first_line, only_line}
+use Rattle.script_core.specs.Lines.{lines_of}
+use Rattle.script_core.proofs.Cuts.{first_line, only_line}
 use Rattle.script_reader.proofs.lines.first_line.Goals as goal
 
 pub returns-in-Some-clause-lines : goal.returns-in-Some-clause-lines

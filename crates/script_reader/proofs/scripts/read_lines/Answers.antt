@@ -1,5 +1,5 @@
 use Rattle.std.proofs.Common.{arith}
-use Rattle.script_text.specs.Lines.{lines_of}
+use Rattle.script_core.specs.Lines.{lines_of}
 use Rattle.script_reader.specs.Scripts.{script_read}
 use Rattle.script_reader.proofs.Onward.{line_in_time, read_on}
 use Rattle.script_reader.proofs.scripts.read_lines.Goals as goal

@@ -1,6 +1,6 @@
 use Rattle.std.proofs.Common.{◌≡◌, ◌≤◌, ◌+◌, length}
-use Rattle.script_text.specs.Lines.{lines_of}
-use Rattle.script_text.specs.declared.limits.TheConstants.{MAX_LINES}
+use Rattle.script_core.specs.Lines.{lines_of}
+use Rattle.script_core.specs.declared.limits.TheConstants.{MAX_LINES}
 use Rattle.script_reader.specs.Scripts.{script_read, lines_read}
 use Rattle.script_reader.proofs.scripts.read_lines.Given as goal
 

@@ -1,7 +1,7 @@
 use Rattle.std.proofs.Common.{◌+◌, sym, subst}
-use Rattle.script_text.specs.Rows.{section_of}
-use Rattle.script_text.specs.Scripts.{header_of}
-use Rattle.script_text.specs.Steps.{IsCount, IsStep, IsStepOf}
+use Rattle.script_core.specs.Rows.{section_of}
+use Rattle.script_core.specs.Scripts.{header_of}
+use Rattle.script_core.specs.Steps.{IsCount, IsStep, IsStepOf}
 use Rattle.dc_worker.proofs.Work.{on_turn}
 use Rattle.run_table.specs.Tables.{HasStepped, HasOperated}
 use Rattle.thread_run.specs.Tables.{HasPlayed}

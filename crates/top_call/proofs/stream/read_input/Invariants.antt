@@ -1,7 +1,7 @@
 use Rattle.std.proofs.Common.{◌≡◌, ◌≤◌, vec_len}
 use Rattle.io_edge.specs.Streams.{puts_back}
-use Rattle.script_text.specs.Limits.{PassesLimits}
-use Rattle.script_text.specs.LineCounts.{Counts}
+use Rattle.script_core.specs.Limits.{PassesLimits}
+use Rattle.script_core.specs.LineCounts.{Counts}
 use Rattle.top_call.proofs.stream.read_input.Given as goal
 
 abbrev pub invariant-loop-turn : goal.invariant-loop-turn

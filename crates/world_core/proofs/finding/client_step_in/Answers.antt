@@ -1,6 +1,6 @@
 use Rattle.std.proofs.Common.{◌≡◌, ◌<◌, ◌+◌, ◌-◌, Option, Some, None, length, subst, drop, rules, arith}
 use Rattle.std.specs.List.{filter_map}
-use Rattle.script_text.specs.declared.steps.ClientStep.{ClientStep}
+use Rattle.script_core.specs.declared.steps.ClientStep.{ClientStep}
 use Rattle.run_book.specs.Moves.{client_step}
 use Rattle.world_core.specs.Events.{numbered}
 use Rattle.world_core.proofs.Naming.{passed_over, counted_one}

@@ -1,7 +1,7 @@
 use Rattle.std.proofs.Common.{◌≡◌, ◌≤◌, ◌+◌, sym, ◌∙◌, subst}
-use Rattle.script_text.specs.declared.script.Script.{Script}
-use Rattle.script_text.specs.declared.rounds.Role.TheVariants.{Sender, Receiver, Reporter, Pruner}
-use Rattle.script_text.specs.Steps.{IsCount}
+use Rattle.script_core.specs.declared.script.Script.{Script}
+use Rattle.script_core.specs.declared.rounds.Role.TheVariants.{Sender, Receiver, Reporter, Pruner}
+use Rattle.script_core.specs.Steps.{IsCount}
 use Rattle.run_table.specs.declared.works.Work.TheVariants.{Round, Close}
 use Rattle.world_core.specs.Worlds.{WorldView}
 use Rattle.world_core.proofs.Making.{round_makes}

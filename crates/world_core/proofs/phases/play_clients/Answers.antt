@@ -1,9 +1,9 @@
 use Rattle.std.proofs.Common.{◌≡◌, ◌≤◌, ◌+◌, ◌-◌, Some, None, sym, ◌∙◌, subst, rules, arith}
 use Rattle.std.specs.Prelude.{slice_get}
 use Rattle.std.specs.List.{filter_map, range_with_len}
-use Rattle.script_text.specs.declared.script.Script.{Script}
-use Rattle.script_text.specs.Scripts.{header_of}
-use Rattle.script_text.specs.Steps.{IsCount, IsStep}
+use Rattle.script_core.specs.declared.script.Script.{Script}
+use Rattle.script_core.specs.Scripts.{header_of}
+use Rattle.script_core.specs.Steps.{IsCount, IsStep}
 use Rattle.run_book.specs.Moves.{client_steps, client_turn}
 use Rattle.world_core.specs.Worlds.{WorldView}
 use Rattle.run_table.specs.Dealing.{line_of}

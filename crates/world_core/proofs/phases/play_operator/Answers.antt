@@ -1,6 +1,6 @@
 use Rattle.std.proofs.Common.{◌≡◌, ◌-◌, Some, sym, ap, ◌∙◌}
 use Rattle.std.specs.Prelude.{slice_get}
-use Rattle.script_text.specs.Scripts.{header_of}
+use Rattle.script_core.specs.Scripts.{header_of}
 use Rattle.dc_worker.proofs.Work.{on_turn}
 use Rattle.run_book.specs.Moves.{operator_steps, operator_turn, one_or_none}
 use Rattle.world_core.specs.Events.{TakesOrder}

@@ -1,5 +1,5 @@
 use Rattle.std.proofs.Common.{◌≡◌, ◌+◌, subst, arith}
-use Rattle.script_text.specs.declared.script.Script.{Script}
+use Rattle.script_core.specs.declared.script.Script.{Script}
 use Rattle.run_book.specs.Moves.{turn_moves, most_steps}
 use Rattle.world_core.specs.Runs.{MakesMoves}
 use Rattle.run_table.proofs.Lines.{most_few}

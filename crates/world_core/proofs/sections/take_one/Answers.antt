@@ -1,6 +1,6 @@
 use Rattle.std.proofs.Common.{◌+◌, ◌∷◌, [], sym, subst}
-use Rattle.script_text.specs.Scripts.{header_of}
-use Rattle.script_text.specs.Steps.{IsCount, IsStep, IsStepOf}
+use Rattle.script_core.specs.Scripts.{header_of}
+use Rattle.script_core.specs.Steps.{IsCount, IsStep, IsStepOf}
 use Rattle.dc_worker.proofs.Work.{on_turn}
 use Rattle.run_book.specs.Moves.{step_move}
 use Rattle.world_core.specs.Events.{TakesStep, TakesOrder}

@@ -1,6 +1,6 @@
 use Rattle.std.proofs.Common.{◌≡◌, refl, ap, ◌∙◌, subst}
 use Rattle.dc_talk.specs.Calls.{Ends}
-use Rattle.script_text.specs.Deeds.{call_line}
+use Rattle.script_core.specs.Deeds.{call_line}
 use Rattle.client_stub.specs.Playing.{StubView, beside}
 use Rattle.dc_talk.proofs.Acting.{cut_none}
 use Rattle.client_stub.proofs.Growth.{on_err, cut_noted}

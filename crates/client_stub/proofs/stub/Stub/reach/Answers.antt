@@ -2,8 +2,8 @@ use Rattle.std.proofs.Common.{◌≡◌, Some, refl, sym, ap, rules}
 use Rattle.dc_talk.specs.declared.say.Say.TheVariants.{Misfit}
 use Rattle.dc_talk.specs.declared.log.Fate.TheVariants.{ReplyLost, Heard}
 use Rattle.dc_talk.proofs.Doors.{done_ask, done_lost, may_asked, may_not}
-use Rattle.script_text.specs.declared.steps.AskFault.TheVariants.{LoseAsk}
-use Rattle.script_text.specs.Deeds.{fate_of}
+use Rattle.script_core.specs.declared.steps.AskFault.TheVariants.{LoseAsk}
+use Rattle.script_core.specs.Deeds.{fate_of}
 use Rattle.client_stub.proofs.Growth.{on_err}
 use Rattle.client_stub.proofs.stub.Stub.reach.Goals as goal
 

@@ -1,6 +1,6 @@
 use Rattle.std.proofs.Common.{◌≡◌, ℕ, List, [], length, refl, sym, ap, ◌∙◌, subst}
 use Rattle.vv_core.proofs.Entrywise.{length-zeros}
-use Rattle.point_law.proofs.Serving.{none_served}
+use Rattle.point_log.proofs.Serving.{none_served}
 use Rattle.dc_centre.specs.Applied.{AppliedView, IsApplied}
 use Rattle.dc_centre.proofs.Applying.{applied_none}
 use Rattle.dc_centre.proofs.applied.Applied.new.Goals as goal

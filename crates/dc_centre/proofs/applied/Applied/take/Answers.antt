@@ -2,7 +2,7 @@ use Rattle.std.proofs.Common.{◌≡◌, ◌++◌, ◌∷◌, [], ℕ, Bool, Lis
 use Rattle.std.specs.Prelude.{not}
 use Rattle.vv_core.proofs.Entrywise.{length-raised}
 use Rattle.tx_core.specs.declared.tx.Record.{Record}
-use Rattle.point_law.specs.StandFor.{with_one}
+use Rattle.point_log.specs.StandFor.{with_one}
 use Rattle.dc_centre.specs.Applied.{AppliedView, IsNext, is_fresh, IsApplied}
 use Rattle.dc_centre.proofs.Applying.{Noted, applied_more, not_logged, fresh_is, served_after}
 use Rattle.dc_centre.proofs.applied.Applied.take.Goals as goal

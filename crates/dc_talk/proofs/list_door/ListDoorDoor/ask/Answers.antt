@@ -1,5 +1,5 @@
 use Rattle.std.proofs.Common.{◌≡◌, ◌<◌, ◌+◌, ◌^◌, length, ap, ◌∙◌, subst, sym, true, arith}
-use Rattle.hist_lock.specs.History.{entry}
+use Rattle.machine_trail.specs.History.{entry}
 use Rattle.dc_talk.specs.declared.ask.Ask.{Ask}
 use Rattle.dc_talk.specs.declared.say.Say.{Say}
 use Rattle.dc_talk.specs.Entries.{Entry}

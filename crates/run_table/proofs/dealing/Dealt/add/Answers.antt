@@ -1,8 +1,8 @@
 use Rattle.std.proofs.Common.{◌≡◌, ◌-◌, List, length, [], ◌∷◌, ◌++◌, refl, sym, ap, ◌∙◌, subst}
 use Rattle.std.specs.Vec.{with_item}
-use Rattle.script_text.specs.declared.steps.ClientStep.{ClientStep}
-use Rattle.script_text.specs.declared.steps.Step.{Step}
-use Rattle.script_text.specs.Steps.{IsCount}
+use Rattle.script_core.specs.declared.steps.ClientStep.{ClientStep}
+use Rattle.script_core.specs.declared.steps.Step.{Step}
+use Rattle.script_core.specs.Steps.{IsCount}
 use Rattle.run_table.specs.declared.dealing.Dealt.{Dealt}
 use Rattle.run_table.specs.Dealing.{IsOf, IsDealt, line_of}
 use Rattle.run_table.proofs.Lines.{dealt_client, dealt_operator, line_got}

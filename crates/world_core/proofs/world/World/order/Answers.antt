@@ -1,5 +1,5 @@
 use Rattle.std.proofs.Common.{◌≡◌, ◌≤◌, false, length, sym, ap, ◌∙◌, subst, arith}
-use Rattle.script_text.specs.Steps.{IsOperatorStep}
+use Rattle.script_core.specs.Steps.{IsOperatorStep}
 use Rattle.world_core.specs.Worlds.{WorldView, seen_of}
 use Rattle.world_core.specs.Events.{TakesOrder}
 use Rattle.world_core.specs.Runs.{IsSound}

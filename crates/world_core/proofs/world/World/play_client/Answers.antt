@@ -1,5 +1,5 @@
 use Rattle.std.proofs.Common.{ap, ◌∙◌, subst}
-use Rattle.script_text.specs.Steps.{IsCount, IsStep}
+use Rattle.script_core.specs.Steps.{IsCount, IsStep}
 use Rattle.world_core.specs.Worlds.{WorldView, seen_of}
 use Rattle.world_core.specs.Runs.{IsSound}
 use Rattle.world_core.proofs.Naming.{client_named}

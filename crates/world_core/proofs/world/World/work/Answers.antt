@@ -1,5 +1,5 @@
 use Rattle.std.proofs.Common.{◌≡◌, false, sym, ap, ◌∙◌, subst}
-use Rattle.script_text.specs.Steps.{IsCount}
+use Rattle.script_core.specs.Steps.{IsCount}
 use Rattle.run_table.specs.Works.{work_of}
 use Rattle.world_core.specs.Worlds.{WorldView, seen_of}
 use Rattle.world_core.specs.Events.{TakesRound, turn_of}
