@@ -46,7 +46,9 @@ impl Write for Fickle {
 }
 
 // How many bytes a read moves, or none where it failed.
-fn read_once<S: Source>(source: &mut S) -> Option<usize> {
+fn read_once<S: Source>(source: &mut S) -> Option<usize>
+    requires { S.may_read source.old }
+{
     match source.read(&mut [0; 4]) {
         Ok(count) => Some(count),
         Err(Failed) => None,
@@ -54,7 +56,9 @@ fn read_once<S: Source>(source: &mut S) -> Option<usize> {
 }
 
 // How many bytes a write takes, or none where it failed.
-fn write_once<W: Sink>(sink: &mut W) -> Option<usize> {
+fn write_once<W: Sink>(sink: &mut W) -> Option<usize>
+    requires { W.may_write sink.old }
+{
     match sink.write(b"xyz") {
         Ok(count) => Some(count),
         Err(WriteFault::Failed) => None,

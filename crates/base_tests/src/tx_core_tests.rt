@@ -1,6 +1,6 @@
 // Transactions, their checks, and the states of objects.
 use ids_core::{Dot, Name, NoMemory, ObjectId, OpId, Sort, Tags};
-use samples::{counter, id, inc_tx, mark, pair};
+use samples::{counter, id, inc, inc_tx, mark, pair};
 use std::alloc::Global;
 use std::test::Fail;
 use tx_core::{
@@ -79,13 +79,12 @@ fn a_set_has_what_is_live(rt: HostRuntime) -> Result<(), Fail> {
 }
 
 // Whether updates are so many, each of the object.
-fn are_of(updates: &Updates, object: &ObjectId, count: usize) -> Result<bool, NoMemory> {
-    let updates = Updates::from_vec(updates.copy()?.into_vec());
+fn are_of(updates: &Updates, object: &ObjectId, count: usize) -> bool {
     let are = updates
         .as_slice()
         .iter()
         .all(|update| update.object == *object);
-    Ok(are && updates.len() == count)
+    are && updates.len() == count
 }
 
 // The transaction of client 1 that adds deltas to a counter.
@@ -100,13 +99,30 @@ fn is_copied(alloc: Global, stamp: Stamp, object: &ObjectId) -> Result<bool, NoM
     let tx = tx_of(alloc, object, &[-7, 9])?;
     let deps = pair(0, 0);
     let copy = Record { stamp, deps, tx }.copy()?;
-    Ok(copy.stamp == stamp && are_of(&copy.tx.copy()?.updates, object, 2)?)
+    Ok(copy.stamp == stamp && are_of(&copy.tx.copy()?.updates, object, 2))
 }
 
 #[test]
 fn records_are_copied_whole(rt: HostRuntime) -> Result<(), Fail> {
     let stamp = Stamp { centre: 1, seq: 4 };
     assert!(rt; is_copied(rt.alloc(), stamp, &counter("a")?)?);
+    Ok(())
+}
+
+// How many updates a shared list has after one more, and how many a copy has that was made before.
+fn counts_apart(alloc: Global, object: &ObjectId) -> Result<(usize, usize), NoMemory> {
+    let tx = tx_of(alloc, object, &[1, 2])?;
+    let Ok(mut updates) = tx.updates.copy()?.share() else {
+        return Err(NoMemory);
+    };
+    let copy = updates.copy()?;
+    updates.push(inc(object, 3))?;
+    Ok((updates.len(), copy.len()))
+}
+
+#[test]
+fn one_more_update_leaves_the_copies_as_they_are(rt: HostRuntime) -> Result<(), Fail> {
+    assert!(rt; counts_apart(rt.alloc(), &counter("a")?)? == (3, 2));
     Ok(())
 }
 

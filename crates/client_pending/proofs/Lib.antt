@@ -1,2 +1,1 @@
-mod Lines
-pub mod Ops
+mod Indexes

@@ -2,7 +2,6 @@
 //! (the pending transactions of Zawirski and others, Middleware 2015, section 4).
 #![tactic(auto)]
 
-mod index;
 mod pending;
 mod turns;
 

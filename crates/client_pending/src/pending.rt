@@ -1,18 +1,16 @@
 // Commits that are pending.
-ghost use Rattle.std.specs.Prelude.{◌≡◌, ◌≤◌, ◌++◌, ◌∷◌, [], length, drop, vec_len, flat_map, IfErr, OnOk};
+ghost use Rattle.std.specs.Prelude.{◌≡◌, ◌≤◌, ◌++◌, ◌∷◌, [], length, drop, flat_map, IfErr, OnOk};
 ghost use Rattle.std.specs.Bool.{OnFalse};
-ghost use Rattle.std.specs.Option.{option_copied};
 ghost use Rattle.ids_core.specs.declared.limits.TheConstants.{MOST_UPDATES};
 ghost use Rattle.tx_core.specs.States.{fold_of};
 ghost use Rattle.tx_core.specs.Operations.{ops_of};
 
-use crate::index::{Index, Line};
-use crate::turns::{put_tx, take_txs};
-use ids_core::{NoMemory, ObjectId};
+use crate::turns::{Index, put, take_txs};
+use ids_core::{Mark, NoMemory, ObjectId};
+use object_lists::{ObjectLists, drop_front};
 use std::alloc::Global;
-use std::collections::BTreeMap;
 use std::marker::Model;
-use tx_core::{State, Tx};
+use tx_core::{Op, State, Tx};
 
 /// The commits of a client that are not within its snapshot, seen as their list. Beside it stands for
 /// each object the list of the operations on it, so that a read costs what is pending on its object,
@@ -21,7 +19,6 @@ use tx_core::{State, Tx};
 pub struct Pending {
     txs: Vec<Tx>,
     index: Index,
-    alloc: Global,
 }
 
 impl Model for Pending {
@@ -34,7 +31,7 @@ impl Model for Pending {
 
     ghost view = { λ p. p.txs.items };
 
-    ghost invariant = { λ p. Finds p.index.entries p.txs.items × All (λ tx. length tx.updates ≤ MOST_UPDATES) p.txs.items };
+    ghost invariant = { λ p. Finds p.index p.txs.items × All (λ tx. length tx.updates ≤ MOST_UPDATES) p.txs.items };
 }
 
 impl Pending {
@@ -44,8 +41,7 @@ impl Pending {
     {
         Pending {
             txs: Vec::new(alloc),
-            index: BTreeMap::new(alloc),
-            alloc,
+            index: ObjectLists::new(alloc),
         }
     }
 
@@ -63,7 +59,7 @@ impl Pending {
         ensures ok { OnOk result (self.new ≡ self.old ++ tx ∷ []) }
         ensures err { IfErr result (λ back. (back ≡ tx) × (self.new ≡ self.old)) }
     {
-        if self.txs.reserve(1).is_err() || put_tx(&mut self.index, self.alloc, &tx).is_err() {
+        if self.txs.reserve(1).is_err() || put(&mut self.index, &tx).is_err() {
             return Err(tx);
         }
         self.txs.push_reserved(tx);
@@ -84,7 +80,7 @@ impl Pending {
     pub fn may_change(&self, object: &ObjectId) -> bool
         ensures { OnFalse result (flat_map (ops_of object.now) self.now ≡ []) }
     {
-        self.index.get(object).is_some()
+        !self.index.get(object).is_empty()
     }
 
     /// Folds the operations of all commits on an object, in their order, into its state. Where memory
@@ -92,29 +88,16 @@ impl Pending {
     pub fn fold(&self, object: &ObjectId, state: &mut State) -> Result<(), NoMemory>
         ensures { OnOk result (state.new ≡ fold_of state.old (flat_map (ops_of object.now) self.now)) }
     {
-        match self.index.get(object) {
-            None => Ok(()),
-            Some(line) => fold_line(line, state),
-        }
+        fold_all(self.index.get(object), state)
     }
 }
 
-// Folds the operations of a line, in their order.
-fn fold_line(line: &Line, state: &mut State) -> Result<(), NoMemory>
-    ensures { OnOk result (state.new ≡ fold_of state.old line.now.items) }
+// Folds marked operations into a state, in their order.
+fn fold_all(marked: &[(Mark, Op)], state: &mut State) -> Result<(), NoMemory>
+    ensures { OnOk result (state.new ≡ fold_of state.old marked.now) }
 {
-    for (mark, op) in line {
+    for (mark, op) in marked {
         state.fold(mark, op)?;
     }
     Ok(())
-}
-
-// Drops so many transactions at the front.
-fn drop_front(txs: &mut Vec<Tx>, count: usize)
-    requires { count ≤ vec_len txs.old }
-    ensures { txs.new.items ≡ drop count txs.old.items }
-{
-    let left = txs.len() - count;
-    txs.as_mut_slice().rotate_left(count);
-    txs.truncate(left);
 }

@@ -31,7 +31,7 @@ use Rattle.dc_talk.specs.declared.calls.Refusal.TheVariants.{NoMemory}
 use Rattle.tx_core.specs.Operations.{mark, ops_from, ops_of}
 use Rattle.dc_talk.specs.Clients.{Client, next_dot, next_tx, draft_updates, is_entry, same_vector, cached, promoted, kept, view}
 use Rattle.dc_talk.specs.Rule.{can_follow}
-use Rattle.client_pending.proofs.Ops.{one_more, ops_from-last}
+use Rattle.object_lists.proofs.Ops.{one_more, ops_from-last}
 use Rattle.client_session.specs.Sessions.{IsClient, IsDraft}
 use Rattle.client_session.specs.Folded.{StateEntries, HadApart, Follows, ops_behind}
 use Rattle.client_session.proofs.Found.{no_ops_from}

@@ -148,6 +148,7 @@ impl Session {
             Some(refusal) => Err(refusal),
             None => {
                 if self.has_updates() {
+                    self.share_draft()?;
                     Ok(Some(self.commit_draft()?))
                 } else {
                     self.draft = None;
@@ -221,6 +222,26 @@ impl Session {
         Dot {
             client: self.client,
             number: self.own + 1,
+        }
+    }
+
+    // Has copies share the open updates. The session stays as it is, also where there is no memory for that.
+    fn share_draft(&mut self) -> Result<(), Refusal>
+        ensures same { self.new ≡ self.old }
+        ensures err { IfErr result (λ refusal. refusal ≡ Refusal.NoMemory) }
+    {
+        match self.draft.take() {
+            None => Ok(()),
+            Some(updates) => match updates.share() {
+                Ok(updates) => {
+                    self.draft = Some(updates);
+                    Ok(())
+                }
+                Err(updates) => {
+                    self.draft = Some(updates);
+                    Err(Refusal::NoMemory)
+                }
+            },
         }
     }
 

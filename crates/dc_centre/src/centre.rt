@@ -148,12 +148,12 @@ impl Machine for Centre {
 
     type Settings = Settings;
 
-    ghost use Rattle.dc_talk.specs.Answers.{answer};
+    ghost use Rattle.dc_talk.specs.Answers.{IsAnswer};
     ghost use Rattle.dc_centre.specs.Centre.{CentreView, StandsFor};
 
     ghost settings = { λ (c : CentreView). c.settings };
 
-    ghost reply = { answer };
+    ghost reply = { IsAnswer };
 
     ghost stands = { StandsFor };
 

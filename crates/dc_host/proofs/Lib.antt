@@ -1,4 +1,2 @@
-pub mod NewCentres
-pub mod Trails
 pub mod Passes
 pub mod Rows

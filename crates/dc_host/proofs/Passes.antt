@@ -1,14 +1,14 @@
 -- The passes of a door, where a call is made with one of them.
-use Rattle.std.proofs.Common.{◌≡◌, ◌≢◌, ◌≤◌, ◌<◌, ℕ, zero, suc, ◌+◌, ◌^◌, ◌==◌, Bool, true, false, true≢false, List, [], ◌∷◌, ◌++◌, map, length, take, get_or, set, Option, Some, None, Result, Ok, Err, refl, sym, ap, ◌∙◌, subst, arith, append_assoc, length-append, length-set}
+use Rattle.std.proofs.Common.{◌≡◌, ◌≢◌, ◌≤◌, ◌<◌, ℕ, zero, suc, ◌+◌, ◌^◌, ◌==◌, Bool, true, false, true≢false, List, [], ◌∷◌, ◌++◌, map, length, take, get_or, set, Option, Some, Result, Ok, Err, refl, sym, ap, ◌∙◌, subst, arith, append_assoc, length-append, length-set}
 use Rattle.std.specs.Prelude.{IfOk, OnErr, All, slice_get}
 use Rattle.std.specs.List.{AllZip}
 use Rattle.std.proofs.Math.Seq.{map-set_same}
 use Rattle.std.proofs.lemmas.List.Elements.{All-set}
 use Rattle.std.proofs.lemmas.List.Sums.{length-filter, count_by-le-length}
-use Rattle.std.proofs.lemmas.Option.{none-some, same_Some, slice_get_within, slice_get-get_or, get_or_from_slice_get}
+use Rattle.std.proofs.lemmas.Option.{same_Some, slice_get_within, slice_get-get_or, get_or_from_slice_get}
 use mathlib.Core.Logic.{dite}
 use native.Mathlib.Decide.{ℕ_discrete}
-use Rattle.list_core.proofs.Gets.{all_get, get_seam}
+use Rattle.list_core.proofs.Gets.{all_get, get_seam, set_here, set_else}
 use Rattle.machine_trail.specs.History.{IsHistory, entry}
 use Rattle.host_lock.specs.Law.{calls_of}
 use Rattle.host_lock.specs.Hosts.{IsOf, HasCalled, seen}
@@ -16,11 +16,10 @@ use Rattle.dc_talk.specs.declared.ask.Ask.{Ask}
 use Rattle.dc_talk.specs.declared.say.Say.{Say}
 use Rattle.dc_talk.specs.declared.settings.Settings.{Settings}
 use Rattle.dc_talk.specs.Entries.{Entry}
-use Rattle.dc_talk.specs.Answers.{answer}
+use Rattle.dc_talk.specs.Answers.{IsAnswer}
 use Rattle.dc_talk.specs.Doors.{belongs, HasAsked, HasNotAsked}
 use Rattle.dc_talk.proofs.Belonging.{answer_belongs}
-use Rattle.dc_host.specs.HostDoors.{CentreHost, CentrePass, HostDoorView, pass_at, made_with, seen_with, shown_over, bare, place_over, ArePasses, HasCalledAt, HasNotCalledAt}
-use Rattle.dc_host.proofs.Trails.{set_here, set_else}
+use Rattle.dc_host.specs.HostDoors.{CentreHost, CentrePass, HostDoorView, pass_at, made_with, seen_with, shown_over, bare, ArePasses, HasCalledAt, HasNotCalledAt}
 
 -- the door of this actor with these passes
 abbrev pub door_of : ℕ → List CentrePass → HostDoorView
@@ -95,7 +94,7 @@ few_calls : (n : ℕ) (l : List Entry) → length (calls_of n l) ≤ length l
 few_calls n l = let its : Entry → Bool = λ e. e.caller == n in let same = length-filter its l in let few = count_by-le-length its l in omega (arith, same, few)
 
 -- the last answer of a history is one to its ask
-last_belongs : (s : Settings) (xs : List Entry) (e : Entry) → IsHistory (answer s) (xs ++ e ∷ []) → belongs e.ask e.say ≡ true
+last_belongs : (s : Settings) (xs : List Entry) (e : Entry) → IsHistory (IsAnswer s) (xs ++ e ∷ []) → belongs e.ask e.say ≡ true
 last_belongs s xs e history = subst (λ (say : Say). belongs e.ask say ≡ true) (sym (history.holds (length xs) e (get_seam xs e []))) (answer_belongs s (take (length xs) (xs ++ e ∷ [])) e.ask)
 
 module _ (old new : List CentrePass) (place : ℕ) (ask : Ask) (say : Say) (has : HasCalledAt old new place ask say) where
@@ -113,7 +112,7 @@ module _ (old new : List CentrePass) (place : ℕ) (ask : Ask) (say : Say) (has 
   call_belongs =
       let p = has.pass in let h = has.called.3.1 in
       let all : p.opening ++ (p.since ++ rest) ≡ ((p.opening ++ p.since) ++ has.called.0) ++ own ∷ [] = sym (append_assoc p.opening p.since rest) ∙ sym (append_assoc (p.opening ++ p.since) has.called.0 (own ∷ [])) in
-      last_belongs h.0 ((p.opening ++ p.since) ++ has.called.0) own (subst (IsHistory (answer h.0)) all h.2)
+      last_belongs h.0 ((p.opening ++ p.since) ++ has.called.0) own (subst (IsHistory (IsAnswer h.0)) all h.2)
 
   -- the door has been asked
   called_asked : (actor : ℕ) → has.pass.number ≡ actor → HasAsked (shown_over (door_of actor old)) (shown_over (door_of actor new)) (suc place) (entry actor ask say)
@@ -157,7 +156,7 @@ stands_there ps place p within is = slice_get-get_or ps place p within ∙ ap (�
 
 module _ {E : Type 0} (ps : List CentrePass) (place : ℕ) (p q : CentrePass) (within : place < length ps) (is : p ≡ get_or ps place p) where
   -- the pass at the place made a call
-  pub has_called : (ask : Ask) (r : Result Say E) → IfOk r (λ say. HasCalled answer p ask say q) → IfOk r (λ say. HasCalledAt ps (set ps place q) place ask say)
+  pub has_called : (ask : Ask) (r : Result Say E) → IfOk r (λ say. HasCalled IsAnswer p ask say q) → IfOk r (λ say. HasCalledAt ps (set ps place q) place ask say)
   has_called ask (Ok say) called = record { pass = p; now = q; there = stands_there ps place p within is; called = called; after = refl }
   has_called ask (Err e) called = tt
 

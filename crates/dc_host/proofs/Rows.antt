@@ -1,5 +1,5 @@
 -- Rows of passes: cut into columns, dealt to callers, and sorted by host at the end.
-use Rattle.std.proofs.Common.{◌≡◌, ◌≤◌, ◌<◌, ℕ, zero, suc, ◌+◌, ◌-◌, List, [], ◌∷◌, ◌++◌, map, length, drop, get_or, Option, Some, None, refl, sym, ap, ◌∙◌, subst, arith}
+use Rattle.std.proofs.Common.{◌≡◌, ◌≤◌, ◌<◌, ℕ, zero, suc, ◌+◌, ◌-◌, List, [], ◌∷◌, ◌++◌, map, length, drop, get_or, Option, Some, refl, sym, ap, ◌∙◌, subst, arith}
 use Rattle.std.specs.Prelude.{All, slice_get, remove}
 use Rattle.std.specs.List.{AllZip, cons_option, range_with_len}
 use Rattle.std.specs.Global.{Vec}
@@ -11,7 +11,7 @@ use Rattle.list_core.proofs.Gets.{all_get}
 use Rattle.host_lock.specs.Hosts.{IsOf, fresh, fresh_passes, InOrder}
 use Rattle.dc_host.specs.declared.columns.Column.{Column}
 use Rattle.dc_host.specs.declared.hosts.Opened.{Opened}
-use Rattle.dc_host.specs.Centres.{CentreTrail, KeptCentre, seen_of, all_seen}
+use Rattle.dc_door.specs.Centres.{CentreTrail, KeptCentre, seen_of, all_seen}
 use Rattle.dc_host.specs.HostDoors.{CentreHost, CentrePass, bare, ArePasses}
 use Rattle.dc_host.specs.Hosts.{AreFor, rows_of, IsHostOf, new_row, new_rows, new_columns, bare_rows, column, tails, IsColumnOf, HasRow, AreOpened, HasHost, MayClose, IsClosed, AreClosed}
 

@@ -6,7 +6,7 @@ use Rattle.dc_talk.specs.declared.ask.Ask.{Ask}
 use Rattle.dc_talk.specs.declared.say.Say.{Say}
 use Rattle.dc_talk.specs.declared.settings.Settings.{Settings}
 use Rattle.dc_talk.specs.Entries.{Entry}
-use Rattle.dc_talk.specs.Answers.{answer}
+use Rattle.dc_talk.specs.Answers.{IsAnswer}
 use Rattle.dc_talk.specs.Doors.{DoorView}
 use Rattle.dc_host.specs.declared.host_door.HostPlace.{HostPlace}
 
@@ -66,7 +66,7 @@ pub record HasCalledAt (old new : List CentrePass) (place : ℕ) (ask : Ask) (sa
   pub pass : CentrePass
   pub now : CentrePass
   pub there : slice_get old place ≡ Some pass
-  pub called : HasCalled answer pass ask say now
+  pub called : HasCalled IsAnswer pass ask say now
   pub after : new ≡ slice_set old place now
 
 -- it made none: at most its tries for the turn found others

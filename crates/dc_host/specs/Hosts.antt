@@ -1,13 +1,13 @@
 -- The centres of a system, each under a lock, and the passes of all callers: a row of passes for each caller, with one
 -- for each host, in order.
-use Rattle.std.specs.Prelude.{◌≡◌, ℕ, List, [], ◌∷◌, ◌++◌, map, length, drop, Option, Some, slice_get, All}
+use Rattle.std.specs.Prelude.{◌≡◌, ℕ, List, [], ◌∷◌, ◌++◌, map, length, drop, Some, slice_get, All}
 use Rattle.std.specs.List.{AllZip, filter_map, range_with_len}
 use Rattle.std.specs.Global.{Vec}
 use Rattle.host_lock.specs.Hosts.{fresh, fresh_passes, InOrder, IsWhole}
-use Rattle.dc_talk.specs.Answers.{answer}
+use Rattle.dc_talk.specs.Answers.{IsAnswer}
 use Rattle.dc_host.specs.declared.columns.Column.{Column}
 use Rattle.dc_host.specs.declared.hosts.Opened.{Opened}
-use Rattle.dc_host.specs.Centres.{KeptCentre, CentreTrail, IsKeptCentre}
+use Rattle.dc_door.specs.Centres.{KeptCentre, CentreTrail, IsKeptCentre}
 use Rattle.dc_host.specs.HostDoors.{CentreHost, CentrePass, bare}
 
 -- the hosts of the centres in order, and how many callers each has
@@ -79,7 +79,7 @@ pub record MayClose (hosts : List CentreHost) (rows : List (List CentrePass)) : 
 
 -- what came out of a host with these passes: a centre that stands for its trail, the host's whole history
 pub record IsClosed (host : CentreHost) (passes : List CentrePass) (kept : KeptCentre) : Type 0 where
-  pub whole : IsWhole answer host passes kept.trail.entries
+  pub whole : IsWhole IsAnswer host passes kept.trail.entries
   pub kept_at : IsKeptCentre kept
   pub settings : host.settings ≡ Some kept.machine.settings
 

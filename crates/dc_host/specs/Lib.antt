@@ -1,4 +1,2 @@
-pub mod Centres
-pub mod KeptDoors
 pub mod HostDoors
 pub mod Hosts

@@ -2,7 +2,7 @@
 ghost use Rattle.std.specs.Prelude.{◌≡◌, ◌<◌, ◌++◌, ℕ, List, length, true, IfOk, OnErr};
 ghost use Rattle.host_lock.specs.Hosts.{IsOf, HasCalled};
 ghost use Rattle.machine_trail.specs.History.{entry};
-ghost use Rattle.dc_talk.specs.Answers.{answer};
+ghost use Rattle.dc_talk.specs.Answers.{IsAnswer};
 ghost use Rattle.dc_talk.specs.Doors.{IsBehind, HasAsked, HasNotAsked, belongs};
 ghost use Rattle.dc_host.specs.HostDoors.{shown_over, place_over, ArePasses, HasCalledAt, HasNotCalledAt};
 
@@ -97,7 +97,7 @@ fn call_one<R: Wait>(
     ask: &Ask,
 ) -> Result<Say, NoMemory>
     requires { IsOf host.now pass.old }
-    ensures called { IfOk result (λ say. HasCalled answer pass.old ask.now say pass.new) }
+    ensures called { IfOk result (λ say. HasCalled IsAnswer pass.old ask.now say pass.new) }
     ensures none { OnErr result ((found : List ℕ) × (pass.new ≡ record pass.old { found = pass.old.found ++ found })) }
 {
     host.call(rt, pass, ask)

@@ -2,7 +2,7 @@
 ghost use Rattle.std.specs.Prelude.{◌≡◌, ◌≤◌, IfOk, OnOk, All, List};
 ghost use Rattle.std.specs.List.{AllZip};
 ghost use Rattle.host_lock.specs.Hosts.{fresh_passes};
-ghost use Rattle.dc_host.specs.Centres.{all_seen, seen_of, IsKeptCentre};
+ghost use Rattle.dc_door.specs.Centres.{all_seen, seen_of, IsKeptCentre};
 ghost use Rattle.dc_host.specs.HostDoors.{CentreHost};
 ghost use Rattle.dc_host.specs.Hosts.{AreFor, rows_of, bare_rows, new_rows, new_columns, IsHostOf, AreOpened, HasHost, MayClose, AreClosed};
 

@@ -1,14 +1,9 @@
-//! The centres with their trails, and the doors to them: `KeptDoor` on one thread, and `HostDoor` over centres that
-//! threads share.
+//! The centres of a system, shared by threads: their hosts, and the door of each actor to them.
 #![tactic(auto)]
 
-mod centres;
 mod columns;
 mod host_door;
 mod hosts;
-mod kept_door;
 
-pub use centres::centres_of;
 pub use host_door::{HostDoor, HostPlace};
 pub use hosts::Hosts;
-pub use kept_door::{KeptDoor, KeptPlace};

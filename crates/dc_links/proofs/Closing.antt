@@ -8,8 +8,7 @@ use Rattle.std.proofs.lemmas.Option.{slice_get_read}
 use Rattle.atomic_blocks.specs.Laid.{WebId}
 use Rattle.dc_talk.specs.declared.sent.Sent.{Sent}
 use Rattle.mail_link.specs.Ends.{GiverView, TakerView}
-use Rattle.dc_worker.specs.Links.{IsMore}
-use Rattle.dc_links.specs.Links.{rows_of, row_of, column_of, IsAmong, AreSquare, put_to, put_between, taken_from, taken_between, AreGiverRows, AreTakerRows}
+use Rattle.dc_links.specs.Links.{IsMore, rows_of, row_of, column_of, IsAmong, AreSquare, put_to, put_between, taken_from, taken_between, AreGiverRows, AreTakerRows}
 use Rattle.dc_links.specs.Laying.{giver_links, taker_links}
 use Rattle.dc_links.specs.Closing.{ClosesRow, ClosesRows}
 use Rattle.dc_links.proofs.Places.{seen_at, seen_here, seen_else, column_at, row_long}

@@ -1,5 +1,5 @@
 pub mod Places
-pub mod Turns
+pub mod OneLink
 pub mod Sending
 pub mod Taking
 pub mod Laying

@@ -1,32 +1,52 @@
 -- A sender's round over the links to the first centres, and over the next one.
-use Rattle.std.proofs.Common.{◌≡◌, ◌≢◌, ◌≤◌, ◌<◌, ◌⊎◌, inl, inr, ℕ, ◌+◌, ◌-◌, ◌==◌, cond, List, [], ◌++◌, length, get_or, set, append_assoc, sym, ap, ◌∙◌}
+use Rattle.std.proofs.Common.{◌≡◌, ◌≢◌, ◌≤◌, ◌<◌, ◌⊎◌, inl, inr, ℕ, ◌+◌, ◌-◌, ◌==◌, cond, List, [], ◌++◌, length, get_or, set, append_assoc, refl, sym, ap, ◌∙◌}
 use Rattle.std.proofs.lemmas.Bool.{cases_eq, eq-eqb, ne_eqb}
 use Rattle.std.proofs.lemmas.List.{append-nil}
 use Rattle.dc_talk.specs.declared.sent.Sent.{Sent}
 use Rattle.dc_talk.specs.Acting.{Acting}
 use Rattle.mail_link.specs.Ends.{GiverView}
-use Rattle.script_core.specs.Carrying.{route, no_turn}
-use Rattle.script_core.specs.Rounds.{mailed}
+use Rattle.script_core.specs.Carrying.{Route, route, no_turn}
+use Rattle.script_core.specs.Rounds.{Mails, mailed}
 use Rattle.script_core.proofs.Provenance.{carries_both}
-use Rattle.dc_worker.specs.Links.{Posts, outgoing}
+use Rattle.script_core.proofs.Turns.{turns_next, turns_self}
+use Rattle.script_core.proofs.Mailing.{mailed_over, mailed_then, mails_fresh}
+use Rattle.dc_worker.specs.Work.{CarriesSuch}
 use Rattle.dc_worker.proofs.Work.{adds_none, adds_then}
-use Rattle.dc_worker.proofs.Mailing.{mailed_over, mailed_then, mails_fresh}
-use Rattle.dc_links.specs.Links.{put_to}
-use Rattle.dc_links.specs.Rounds.{SendsOver, SendsTo}
+use Rattle.dc_links.specs.Links.{IsMore, put_to}
+use Rattle.dc_links.specs.Puts.{Posts, outgoing}
+use Rattle.dc_links.specs.Rounds.{SendsOver, SendsTo, PutsPart}
 use Rattle.dc_links.proofs.Places.{seen_at, seen_here, seen_else, places_apart}
-use Rattle.dc_links.proofs.Turns.{turns_next, turns_self}
 
--- what was put on one link
+-- a send without records puts nothing
+pub posts_none : (r : Route) (a b : Acting) (put : List Sent) → CarriesSuch (λ deeds. Mails r deeds []) a b → Posts r 0 (outgoing a put) (outgoing b put)
+posts_none r a b put mails = record { items = []; mails = mails; put = sym (append-nil put); count = refl }
+
+-- ---- one link
+
+-- what was put on it
+put_more : (to : ℕ) (givers : List (GiverView Sent)) (giver new : GiverView Sent) (items : List Sent) → 1 ≤ to → to - 1 < length givers → giver ≡ get_or givers (to - 1) giver → new.put ≡ giver.put ++ items → put_to (set givers (to - 1) new) to ≡ put_to givers to ++ items
+put_more to givers giver new items low lt is more =
+    let put : GiverView Sent → List Sent = λ (giver : GiverView Sent). giver.put in
+    seen_here put [] givers (to - 1) new lt ∙ (more ∙ ap (λ before. before ++ items) (sym (seen_at put [] givers (to - 1) giver lt is)))
+
+-- on the others nothing was
+put_rest : (to : ℕ) (givers : List (GiverView Sent)) (new : GiverView Sent) → 1 ≤ to → (j : ℕ) → 1 ≤ j → j ≢ to → put_to (set givers (to - 1) new) j ≡ put_to givers j
+put_rest to givers new low j least other = seen_else (λ (giver : GiverView Sent). giver.put) [] givers (to - 1) (j - 1) new (places_apart to j low least other)
+
+-- the records of a round
 pub sends_to : (i to number : ℕ) (givers : List (GiverView Sent)) (giver new : GiverView Sent) (a b : Acting) → 1 ≤ to → to - 1 < length givers → giver ≡ get_or givers (to - 1) giver → Posts (route i to) number (outgoing a giver.put) (outgoing b new.put) → SendsTo i to givers (set givers (to - 1) new) a b
 sends_to i to number givers giver new a b low lt is posts = record {
   items = posts.items;
   mails = posts.mails;
-  put = seen_here put [] givers (to - 1) new lt ∙ (posts.put ∙ ap (λ before. before ++ posts.items) (sym (seen_at put [] givers (to - 1) giver lt is)));
-  rest = λ j least other. seen_else put [] givers (to - 1) (j - 1) new (places_apart to j low least other);
+  put = put_more to givers giver new posts.items low lt is posts.put;
+  rest = put_rest to givers new low;
 }
-  where
-    put : GiverView Sent → List Sent
-    put giver = giver.put
+
+-- some first ones of the records for one centre
+pub puts_part : (to : ℕ) (givers : List (GiverView Sent)) (giver new : GiverView Sent) → 1 ≤ to → to - 1 < length givers → giver ≡ get_or givers (to - 1) giver → IsMore giver.put new.put → PutsPart to givers (set givers (to - 1) new)
+puts_part to givers giver new low lt is more = record { more = (more.0, put_more to givers giver new more.0 low lt is more.1); rest = put_rest to givers new low }
+
+-- ---- the first links
 
 -- over no links
 pub sent_none : (i : ℕ) (givers : List (GiverView Sent)) (a : Acting) → SendsOver 0 i givers givers a a

@@ -9,17 +9,24 @@ use Rattle.script_core.specs.declared.rounds.TheConstants.{MOST_MAILED}
 use Rattle.script_core.specs.Carrying.{no_turn}
 use Rattle.script_core.specs.Links.{Inlet, clean_inlet, arrivals, arrived, inlet_after, inlet_closed}
 use Rattle.script_core.specs.Rounds.{Brings}
+use Rattle.script_core.proofs.Turns.{turns_among, turns_next, turns_self}
 use Rattle.dc_worker.specs.Work.{AddsSuch}
-use Rattle.dc_worker.specs.Links.{Receives, Closes, incoming}
+use Rattle.dc_worker.specs.Brings.{Receives, Closes, ReceivesPart, incoming}
 use Rattle.dc_worker.proofs.Work.{adds_none, adds_then}
 use Rattle.dc_links.specs.Links.{IsOther, taken_from, inlet_from, put_between}
-use Rattle.dc_links.specs.Rounds.{Due, Later, Inward, inward, TakesOver, TakesFrom, ReceivesOver, ReceivesFrom, DrainsOver, DrainsFrom}
+use Rattle.dc_links.specs.Rounds.{Due, Later, Inward, inward, TakesOver, TakesFrom, ReceivesOver, ReceivesFrom, DrainsOver, DrainsFrom, StopsFrom}
 use Rattle.dc_links.proofs.Places.{seen_at, seen_here, seen_else, places_apart}
-use Rattle.dc_links.proofs.Turns.{turns_among, turns_next, turns_self}
 
 -- ---- one link
 
--- what was taken of one link, and its inlet
+-- the others are as they were
+others_rest : (from : ℕ) (takers : List (TakerView Sent)) (now : TakerView Sent) (inlets : List (Inlet Sent)) (after : Inlet Sent) → 1 ≤ from → (i : ℕ) → 1 ≤ i → i ≢ from → (taken_from (set takers (from - 1) now) i ≡ taken_from takers i) × (inlet_from (set inlets (from - 1) after) i ≡ inlet_from inlets i)
+others_rest from takers now inlets after low i least other = (
+  seen_else (λ (taker : TakerView Sent). taker.taken) [] takers (from - 1) (i - 1) now (places_apart from i low least other),
+  get_or-set_other inlets (from - 1) (i - 1) after clean_inlet (λ same. places_apart from i low least other same),
+)
+
+-- what was taken of it, and its inlet
 pub takes_from : (due : Due) (later : Later) (from j : ℕ) (items : List Sent) (takers : List (TakerView Sent)) (taker now : TakerView Sent) (inlets : List (Inlet Sent)) (inlet after : Inlet Sent) (a b : Acting) → 1 ≤ from → from - 1 < length takers → from - 1 < length inlets → taker ≡ get_or takers (from - 1) taker → inlet ≡ get_or inlets (from - 1) inlet → now.taken ≡ taker.taken ++ items → AddsSuch (Brings j (due inlet items)) a b → after ≡ later inlet items
     → TakesFrom due later from j (inward takers inlets) (inward (set takers (from - 1) now) (set inlets (from - 1) after)) a b
 takes_from due later from j items takers taker now inlets inlet after a b low lt within is there more brings then = record {
@@ -27,7 +34,7 @@ takes_from due later from j items takers taker now inlets inlet after a b low lt
   brings = subst (λ inlet. AddsSuch (Brings j (due inlet items)) a b) (sym here) brings;
   taken = seen_here taken [] takers (from - 1) now lt ∙ (more ∙ ap (λ before. before ++ items) (sym (seen_at taken [] takers (from - 1) taker lt is)));
   inlet = get_or-set_same inlets (from - 1) after clean_inlet within ∙ (then ∙ ap (λ inlet. later inlet items) (sym here));
-  rest = λ i least other. (seen_else taken [] takers (from - 1) (i - 1) now (places_apart from i low least other), get_or-set_other inlets (from - 1) (i - 1) after clean_inlet (λ same. places_apart from i low least other same));
+  rest = others_rest from takers now inlets after low;
 }
   where
     taken : TakerView Sent → List Sent
@@ -52,6 +59,26 @@ drained_from from j number givers takers taker now inlets inlet after a b low lt
   takes = takes_from arrivals inlet_closed from j got.items takers taker now inlets inlet after a b low lt within is there got.taken got.brings got.inlet;
   all = ap length (seen_here (λ (taker : TakerView Sent). taker.taken) [] takers (from - 1) now lt) ∙ all;
 }
+
+-- and by what an early end leaves
+pub stops_from : (from j : ℕ) (takers : List (TakerView Sent)) (taker now : TakerView Sent) (inlets : List (Inlet Sent)) (inlet after : Inlet Sent) (a b : Acting) → 1 ≤ from → from - 1 < length takers → from - 1 < length inlets → taker ≡ get_or takers (from - 1) taker → inlet ≡ get_or inlets (from - 1) inlet → ReceivesPart j (incoming a inlet taker.taken) (incoming b after now.taken)
+    → StopsFrom from j (inward takers inlets) (inward (set takers (from - 1) now) (set inlets (from - 1) after)) a b
+stops_from from j takers taker now inlets inlet after a b low lt within is there got = record {
+  part = subst (λ old. ReceivesPart j old (incoming b (inlet_from (set inlets (from - 1) after) from) (taken_from (set takers (from - 1) now) from))) (sym before) (subst (λ new. ReceivesPart j (incoming a inlet taker.taken) new) (sym behind) got);
+  rest = others_rest from takers now inlets after low;
+}
+  where
+    taken : TakerView Sent → List Sent
+    taken taker = taker.taken
+
+    held : inlet_from inlets from ≡ inlet
+    held = get_or_default inlets (from - 1) clean_inlet inlet within ∙ sym there
+
+    before : incoming a (inlet_from inlets from) (taken_from takers from) ≡ incoming a inlet taker.taken
+    before = λ i. incoming a (held i) (seen_at taken [] takers (from - 1) taker lt is i)
+
+    behind : incoming b (inlet_from (set inlets (from - 1) after) from) (taken_from (set takers (from - 1) now) from) ≡ incoming b after now.taken
+    behind = λ i. incoming b (get_or-set_same inlets (from - 1) after clean_inlet within i) (seen_here taken [] takers (from - 1) now lt i)
 
 -- ---- the first links
 

@@ -2,8 +2,7 @@
 use Rattle.std.specs.Prelude.{◌≡◌, ◌<◌, ℕ, List, length, drop}
 use Rattle.dc_talk.specs.declared.sent.Sent.{Sent}
 use Rattle.mail_link.specs.Ends.{GiverView, TakerView}
-use Rattle.dc_worker.specs.Links.{IsMore}
-use Rattle.dc_links.specs.Links.{row_of, IsAmong, put_to, put_between, taken_from, taken_between}
+use Rattle.dc_links.specs.Links.{IsMore, row_of, IsAmong, put_to, put_between, taken_from, taken_between}
 
 -- the links from a centre to the first k were taken out of use, each with the first end of its receiver's row
 pub record ClosesRow (k : ℕ) (givers : List (GiverView Sent)) (old new : List (List (TakerView Sent))) : Type 0 where

@@ -1,4 +1,5 @@
 pub mod Links
+pub mod Puts
 pub mod Rounds
 pub mod Laying
 pub mod Closing

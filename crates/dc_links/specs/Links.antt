@@ -1,5 +1,5 @@
 -- The links between centres and their ends, by the numbers of the centres, which are counted from 1.
-use Rattle.std.specs.Prelude.{◌≡◌, ◌≢◌, ◌≤◌, ℕ, ◌-◌, List, [], map, length, slice_get, slice_index_or, All}
+use Rattle.std.specs.Prelude.{◌≡◌, ◌≢◌, ◌≤◌, ℕ, ◌-◌, List, [], ◌++◌, map, length, slice_get, slice_index_or, All}
 use Rattle.std.specs.List.{filter_map}
 use Rattle.std.specs.Global.{Vec}
 use Rattle.atomic_blocks.specs.Laid.{WebId}
@@ -27,6 +27,10 @@ IsAmong n i = (1 ≤ i) × (i ≤ n)
 -- the number of another one of them
 abbrev pub IsOther : ℕ → ℕ → ℕ → Type 0
 IsOther n i j = IsAmong n j × (j ≢ i)
+
+-- a list of records has grown at its end, or is as it was
+abbrev pub IsMore : List Sent → List Sent → Type 0
+IsMore old new = (more : List Sent) × (new ≡ old ++ more)
 
 -- there are as many links in each row as there are rows
 abbrev pub AreSquare : List (List WebId) → Type 0

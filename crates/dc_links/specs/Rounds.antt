@@ -1,8 +1,8 @@
 -- What a round of a sender or a receiver leaves in its log and at its ends of the links.
-use Rattle.std.specs.Prelude.{◌≡◌, ◌≢◌, ◌≤◌, ◌<◌, ◌⊎◌, ℕ, List, [], ◌++◌, length}
+use Rattle.std.specs.Prelude.{◌≡◌, ◌≢◌, ◌≤◌, ◌<◌, ◌⊎◌, ℕ, ◌+◌, List, [], ◌++◌, length}
 use Rattle.dc_talk.specs.declared.sent.Sent.{Sent}
 use Rattle.dc_talk.specs.declared.log.Deed.{Deed}
-use Rattle.dc_talk.specs.Acting.{Acting}
+use Rattle.dc_talk.specs.Acting.{Acting, IsCutShort}
 use Rattle.mail_link.specs.Ends.{GiverView, TakerView}
 use Rattle.script_core.specs.declared.rounds.TheConstants.{MOST_MAILED}
 use Rattle.script_core.specs.Carrying.{route}
@@ -10,7 +10,8 @@ use Rattle.script_core.specs.Provenance.{CarriesAll}
 use Rattle.script_core.specs.Links.{Inlet, arrivals, arrived, inlet_after, inlet_closed}
 use Rattle.script_core.specs.Rounds.{SenderDeeds, Mails, mailed, Brings, ReceiverDeeds}
 use Rattle.dc_worker.specs.Work.{Adds, AddsSuch, CarriesSuch}
-use Rattle.dc_links.specs.Links.{IsOther, put_to, put_between, taken_from, inlet_from}
+use Rattle.dc_worker.specs.Brings.{ReceivesPart, incoming}
+use Rattle.dc_links.specs.Links.{IsMore, IsOther, put_to, put_between, taken_from, inlet_from}
 
 -- what a link makes due of records that are taken
 abbrev pub Due : Type 0
@@ -37,6 +38,23 @@ pub record SendsTo (i to : ℕ) (old new : List (GiverView Sent)) (a b : Acting)
   pub mails : CarriesSuch (λ deeds. Mails (route i to) deeds items) a b
   pub put : put_to new to ≡ put_to old to ++ items
   pub rest : (j : ℕ) → 1 ≤ j → j ≢ to → put_to new j ≡ put_to old j
+
+-- some first ones of the records for one centre were put on its link
+pub record PutsPart (to : ℕ) (old new : List (GiverView Sent)) : Type 0 where
+  pub more : IsMore (put_to old to) (put_to new to)
+  pub rest : (j : ℕ) → 1 ≤ j → j ≢ to → put_to new j ≡ put_to old j
+
+-- a round that came to an early end: it was made over the links to the others of some first centres, and over the link to
+-- the next one in part
+pub record SendsPart (n i : ℕ) (old new : List (GiverView Sent)) (a b : Acting) : Type 0 where
+  pub before : ℕ
+  pub few : before < n
+  pub other : before + 1 ≢ i
+  pub mid : List (GiverView Sent)
+  pub between : Acting
+  pub sends : SendsOver before i old mid a between
+  pub puts : PutsPart (before + 1) mid new
+  pub short : IsCutShort between b
 
 -- ---- a receiver
 
@@ -88,3 +106,21 @@ pub record DrainsOver (n j : ℕ) (givers : List (List (GiverView Sent))) (old n
 pub record DrainsFrom (from j : ℕ) (givers : List (List (GiverView Sent))) (old new : Inward) (a b : Acting) : Type 0 where
   pub takes : TakesFrom arrivals inlet_closed from j old new a b
   pub all : length (taken_from new.takers from) ≡ length (put_between givers from j)
+
+-- ---- an early end of a receiver
+
+-- it took some records of one link, and delivered a part of what comes of them
+pub record StopsFrom (from j : ℕ) (old new : Inward) (a b : Acting) : Type 0 where
+  pub part : ReceivesPart j (incoming a (inlet_from old.inlets from) (taken_from old.takers from)) (incoming b (inlet_from new.inlets from) (taken_from new.takers from))
+  pub rest : (i : ℕ) → 1 ≤ i → i ≢ from → (taken_from new.takers i ≡ taken_from old.takers i) × (inlet_from new.inlets i ≡ inlet_from old.inlets i)
+
+-- a round that came to an early end: it was made over the links from the others of some first centres, and over the link
+-- from the next one in part
+pub record TakesPart (due : Due) (later : Later) (n j : ℕ) (old new : Inward) (a b : Acting) : Type 0 where
+  pub before : ℕ
+  pub few : before < n
+  pub other : before + 1 ≢ j
+  pub mid : Inward
+  pub between : Acting
+  pub takes : TakesOver due later before j old mid a between
+  pub stops : StopsFrom (before + 1) j mid new between b

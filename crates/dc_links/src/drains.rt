@@ -2,12 +2,14 @@
 ghost use Rattle.std.specs.Prelude.{◌≡◌, length, OnOk, OnErr};
 ghost use Rattle.dc_talk.specs.Acting.{acting, IsCutShort};
 ghost use Rattle.dc_talk.specs.Doors.{IsBehind};
+ghost use Rattle.script_core.specs.Links.{arrivals, inlet_closed};
 ghost use Rattle.dc_links.specs.Links.{IsAmong, rows_of, AreGiverRows, AreTakers};
-ghost use Rattle.dc_links.specs.Rounds.{inward, DrainsOver, DrainsFrom};
+ghost use Rattle.dc_links.specs.Rounds.{inward, DrainsOver, DrainsFrom, TakesPart, StopsFrom};
 
 use crate::links::Links;
+use crate::takes::drain_round;
 use dc_talk::{Door, Log, Sent};
-use dc_worker::{Inlet, drain_round};
+use dc_worker::Inlet;
 use ids_core::NoMemory;
 use mail_link::{Giver, Taker};
 use std::sync::Wait;
@@ -15,7 +17,7 @@ use std::sync::Wait;
 /// Takes from the link from each other centre of the `n` behind the door all that was put there, where no more is put,
 /// and delivers to this one what comes of it and what is held. It is given the ends of all senders. It ends when the
 /// links give what lies on them. An `Err` is want of memory, or that 2^64 - 1 records were taken from a link since its
-/// fault was set: a part of the round may have been made.
+/// fault was set: the round was made over the links from some first centres, and over the next one in part.
 pub fn drain_all<R: Wait, D: Door>(
     rt: &R,
     door: &mut D,
@@ -38,6 +40,7 @@ pub fn drain_all<R: Wait, D: Door>(
     ensures inlets { length inlets.new.items ≡ n }
     ensures drains { OnOk result (DrainsOver n to (rows_of givers.now) (inward takers.old.items inlets.old.items) (inward takers.new.items inlets.new.items) (acting (D.shown door.old) log.old) (acting (D.shown door.new) log.new)) }
     ensures short { OnErr result (IsCutShort (acting (D.shown door.old) log.old) (acting (D.shown door.new) log.new)) }
+    ensures part { OnErr result (TakesPart arrivals inlet_closed n to (inward takers.old.items inlets.old.items) (inward takers.new.items inlets.new.items) (acting (D.shown door.old) log.old) (acting (D.shown door.new) log.new)) }
 {
     'others: for before in 0..n {
         let from = before + 1;
@@ -72,6 +75,7 @@ fn drain_over<R: Wait, D: Door>(
     ensures inlets { length inlets.new.items ≡ length inlets.old.items }
     ensures drains { OnOk result (DrainsFrom from to (rows_of givers.now) (inward takers.old.items inlets.old.items) (inward takers.new.items inlets.new.items) (acting (D.shown door.old) log.old) (acting (D.shown door.new) log.new)) }
     ensures short { OnErr result (IsCutShort (acting (D.shown door.old) log.old) (acting (D.shown door.new) log.new)) }
+    ensures stops { OnErr result (StopsFrom from to (inward takers.old.items inlets.old.items) (inward takers.new.items inlets.new.items) (acting (D.shown door.old) log.old) (acting (D.shown door.new) log.new)) }
 {
     let link = links.between(from, to);
     let place = usize::from(from) - 1;

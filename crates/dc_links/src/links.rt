@@ -1,7 +1,6 @@
 // The links between the centres of a system.
 ghost use Rattle.std.specs.Prelude.{◌≡◌, ◌-◌, [], ℕ, Some, length, slice_get, IfOk};
-ghost use Rattle.dc_worker.specs.Links.{IsMore};
-ghost use Rattle.dc_links.specs.Links.{IsAmong, rows_of, row_of, column_of, AreGiverRows, AreTakerRows, put_between, taken_between};
+ghost use Rattle.dc_links.specs.Links.{IsMore, IsAmong, rows_of, row_of, column_of, AreGiverRows, AreTakerRows, put_between, taken_between};
 
 use crate::rows::{close_rows, lay_row, no_rows};
 use dc_talk::Sent;

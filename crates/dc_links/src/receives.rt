@@ -2,19 +2,21 @@
 ghost use Rattle.std.specs.Prelude.{◌≡◌, length, OnOk, OnErr};
 ghost use Rattle.dc_talk.specs.Acting.{acting, IsCutShort};
 ghost use Rattle.dc_talk.specs.Doors.{IsBehind};
+ghost use Rattle.script_core.specs.Links.{arrived, inlet_after};
 ghost use Rattle.dc_links.specs.Links.{IsAmong, AreTakers};
-ghost use Rattle.dc_links.specs.Rounds.{inward, ReceivesOver, ReceivesFrom};
+ghost use Rattle.dc_links.specs.Rounds.{inward, ReceivesOver, ReceivesFrom, TakesPart, StopsFrom};
 
 use crate::links::Links;
+use crate::takes::take_round;
 use dc_talk::{Door, Log, Sent};
-use dc_worker::{Inlet, take_round};
+use dc_worker::Inlet;
 use ids_core::NoMemory;
 use mail_link::Taker;
 use std::sync::Wait;
 
 /// Takes from the link from each other centre of the `n` behind the door at most 64 records, and delivers to this one
 /// what comes of them. An `Err` is want of memory, or that 2^64 - 1 records were taken from a link since its fault was
-/// set: a part of the round may have been made.
+/// set: the round was made over the links from some first centres, and over the next one in part.
 pub fn receive_all<R: Wait, D: Door>(
     rt: &R,
     door: &mut D,
@@ -35,6 +37,7 @@ pub fn receive_all<R: Wait, D: Door>(
     ensures inlets { length inlets.new.items ≡ n }
     ensures receives { OnOk result (ReceivesOver n to (inward takers.old.items inlets.old.items) (inward takers.new.items inlets.new.items) (acting (D.shown door.old) log.old) (acting (D.shown door.new) log.new)) }
     ensures short { OnErr result (IsCutShort (acting (D.shown door.old) log.old) (acting (D.shown door.new) log.new)) }
+    ensures part { OnErr result (TakesPart arrived inlet_after n to (inward takers.old.items inlets.old.items) (inward takers.new.items inlets.new.items) (acting (D.shown door.old) log.old) (acting (D.shown door.new) log.new)) }
 {
     'others: for before in 0..n {
         let from = before + 1;
@@ -67,6 +70,7 @@ fn receive_over<R: Wait, D: Door>(
     ensures inlets { length inlets.new.items ≡ length inlets.old.items }
     ensures receives { OnOk result (ReceivesFrom from to (inward takers.old.items inlets.old.items) (inward takers.new.items inlets.new.items) (acting (D.shown door.old) log.old) (acting (D.shown door.new) log.new)) }
     ensures short { OnErr result (IsCutShort (acting (D.shown door.old) log.old) (acting (D.shown door.new) log.new)) }
+    ensures stops { OnErr result (StopsFrom from to (inward takers.old.items inlets.old.items) (inward takers.new.items inlets.new.items) (acting (D.shown door.old) log.old) (acting (D.shown door.new) log.new)) }
 {
     let link = links.between(from, to);
     let place = usize::from(from) - 1;

@@ -1,7 +1,6 @@
 // Rows of links with their ends.
 ghost use Rattle.std.specs.Prelude.{◌≡◌, ◌-◌, [], ℕ, Some, length, drop, replicate, slice_get, IfOk, OnOk};
-ghost use Rattle.dc_worker.specs.Links.{IsMore};
-ghost use Rattle.dc_links.specs.Links.{IsAmong, rows_of, row_of, AreSquare, AreGiverRows, AreTakerRows, taken_from, put_between, taken_between};
+ghost use Rattle.dc_links.specs.Links.{IsMore, IsAmong, rows_of, row_of, AreSquare, AreGiverRows, AreTakerRows, taken_from, put_between, taken_between};
 ghost use Rattle.dc_links.specs.Laying.{ends, giver_links, taker_links, HasLink, LaysRow};
 ghost use Rattle.dc_links.specs.Closing.{ClosesRow};
 

@@ -3,17 +3,18 @@ ghost use Rattle.std.specs.Prelude.{◌≡◌, length, OnOk, OnErr};
 ghost use Rattle.dc_talk.specs.Acting.{acting, IsCutShort};
 ghost use Rattle.dc_talk.specs.Doors.{IsBehind};
 ghost use Rattle.dc_links.specs.Links.{IsAmong, AreGivers};
-ghost use Rattle.dc_links.specs.Rounds.{SendsOver, SendsTo};
+ghost use Rattle.dc_links.specs.Rounds.{SendsOver, SendsTo, SendsPart, PutsPart};
 
 use crate::links::Links;
+use crate::puts::send_round;
 use dc_talk::{Door, Log, Sent};
-use dc_worker::send_round;
 use ids_core::NoMemory;
 use mail_link::Giver;
 use std::sync::Wait;
 
 /// Puts on the link from a centre to each other one of the `n` behind the door what that one lacks of this centre's
-/// records, at most 64 each. An `Err` is want of memory: a part of the round may have been made.
+/// records, at most 64 each. An `Err` is want of memory: the round was made over the links to some first centres, and
+/// over the next one in part.
 pub fn send_all<R: Wait, D: Door>(
     rt: &R,
     door: &mut D,
@@ -31,6 +32,7 @@ pub fn send_all<R: Wait, D: Door>(
     ensures ends { AreGivers links.now from givers.new.items }
     ensures sends { OnOk result (SendsOver n from givers.old.items givers.new.items (acting (D.shown door.old) log.old) (acting (D.shown door.new) log.new)) }
     ensures short { OnErr result (IsCutShort (acting (D.shown door.old) log.old) (acting (D.shown door.new) log.new)) }
+    ensures part { OnErr result (SendsPart n from givers.old.items givers.new.items (acting (D.shown door.old) log.old) (acting (D.shown door.new) log.new)) }
 {
     'others: for before in 0..n {
         let to = before + 1;
@@ -61,6 +63,7 @@ fn send_over<R: Wait, D: Door>(
     ensures ends { AreGivers links.now from givers.new.items }
     ensures sends { OnOk result (SendsTo from to givers.old.items givers.new.items (acting (D.shown door.old) log.old) (acting (D.shown door.new) log.new)) }
     ensures short { OnErr result (IsCutShort (acting (D.shown door.old) log.old) (acting (D.shown door.new) log.new)) }
+    ensures stops { OnErr result (PutsPart to givers.old.items givers.new.items) }
 {
     let link = links.between(from, to);
     send_round(

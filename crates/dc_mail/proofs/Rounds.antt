@@ -1,58 +1,22 @@
 -- Rounds over the links to the first centres, and over the next one.
-use Rattle.std.proofs.Common.{◌≡◌, ◌≢◌, ◌≤◌, ◌<◌, ◌⊎◌, inl, inr, ℕ, suc, ◌+◌, ◌==◌, Bool, true, false, cond, not, filter, List, [], ◌∷◌, ◌++◌, Option, refl, sym, ap, ◌∙◌, subst, append_assoc, arith}
+use Rattle.std.proofs.Common.{◌≡◌, ◌≢◌, ◌≤◌, ◌<◌, ◌⊎◌, inl, inr, ℕ, ◌+◌, ◌==◌, Bool, true, false, cond, not, List, [], ◌++◌, Option, refl, sym, ap, ◌∙◌, subst, append_assoc, arith}
 use Rattle.std.specs.Prelude.{◌&&◌, nat_le}
 use Rattle.std.proofs.lemmas.Bool.{cases_eq, eq-eqb, ne_eqb, leb-true, leb-false, le-leb, lt-leb}
 use Rattle.std.proofs.lemmas.List.{append-nil}
-use Rattle.std.proofs.lemmas.List.Elements.{filter-append}
-use Rattle.vv_core.specs.Vectors.{centres}
 use Rattle.dc_talk.specs.declared.sent.Sent.{Sent}
-use Rattle.dc_talk.specs.declared.log.Deed.{Deed}
 use Rattle.dc_talk.specs.declared.line.Line.{Line}
 use Rattle.dc_talk.specs.Acting.{Acting}
-use Rattle.script_core.specs.Carrying.{route, Tells, InTurn, no_turn, next_turn}
+use Rattle.script_core.specs.Carrying.{route, Tells, no_turn}
 use Rattle.script_core.specs.Mail.{Post, post_put}
-use Rattle.script_core.specs.Rounds.{others, Mails, mailed, Brings, ReporterDeeds}
+use Rattle.script_core.specs.Rounds.{Mails, mailed, Brings, ReporterDeeds}
 use Rattle.script_core.proofs.Provenance.{carries_both}
+use Rattle.script_core.proofs.Turns.{turns_next, turns_self}
+use Rattle.script_core.proofs.Mailing.{mailed_over, mailed_then, mails_fresh}
 use Rattle.dc_worker.specs.Work.{AddsSuch, CarriesSuch}
 use Rattle.dc_worker.proofs.Work.{adds_none, adds_then}
-use Rattle.dc_worker.proofs.Turns.{centres_more, turns_then, carries_such_then}
-use Rattle.dc_worker.proofs.Mailing.{mailed_over, mailed_then, mails_fresh}
+use Rattle.dc_worker.proofs.Turns.{carries_such_then}
 use Rattle.dc_mail.specs.Posts.{post_at, IsCentre, HasSet}
 use Rattle.dc_mail.specs.Rounds.{HasSent, HasReceived, is_inward}
-
--- one turn
-turns_one : {X : Type 0} (Do : X → List Deed → Type 0) (x : X) (ds : List Deed) → Do x ds → InTurn Do (x ∷ []) ds
-turns_one Do x ds does = next_turn ds [] (sym (append-nil ds)) does no_turn
-
--- ---- the others among one centre more
-
-others_more : (k i : ℕ) → others (suc k) i ≡ others k i ++ cond (not (1 + k == i)) ((1 + k) ∷ []) []
-others_more k i = ap (filter (λ j. not (j == i))) (centres_more k) ∙ filter-append (λ j. not (j == i)) (centres k) ((1 + k) ∷ [])
-
--- there is the next one
-pub others_next : (k i next : ℕ) → next ≡ k + 1 → next ≢ i → others next i ≡ others k i ++ next ∷ []
-others_next k i next is other =
-    let this : next ≡ suc k = omega (arith, is) in
-    let same : 1 + k ≡ next = omega (arith, is) in
-    ap (λ n. others n i) this ∙ (others_more k i
-    ∙ (ap (λ n. others k i ++ cond (not (n == i)) (n ∷ []) []) same
-    ∙ ap (λ test. others k i ++ cond (not test) (next ∷ []) []) (ne_eqb next i other)))
-
--- but not the centre itself
-pub others_self : (k i next : ℕ) → next ≡ k + 1 → next ≡ i → others next i ≡ others k i
-others_self k i next is self =
-    let this : next ≡ suc k = omega (arith, is) in
-    let same : 1 + k ≡ next = omega (arith, is) in
-    ap (λ n. others n i) this ∙ (others_more k i
-    ∙ (ap (λ n. others k i ++ cond (not (n == i)) (n ∷ []) []) same
-    ∙ (ap (λ test. others k i ++ cond (not test) (next ∷ []) []) (eq-eqb next i self) ∙ append-nil (others k i))))
-
-module _ {Do : ℕ → List Deed → Type 0} (k i next : ℕ) (is : next ≡ k + 1) where
-  pub turns_next : (ds es : List Deed) → next ≢ i → InTurn Do (others k i) ds → Do next es → InTurn Do (others next i) (ds ++ es)
-  turns_next ds es other first later = subst (λ all. InTurn Do all (ds ++ es)) (sym (others_next k i next is other)) (turns_then Do (others k i) (next ∷ []) ds es first (turns_one Do next es later))
-
-  pub turns_self : (ds : List Deed) → next ≡ i → InTurn Do (others k i) ds → InTurn Do (others next i) ds
-  turns_self ds self first = subst (λ all. InTurn Do all ds) (sym (others_self k i next is self)) first
 
 -- ---- a sender
 

@@ -1,5 +1,5 @@
 -- The answer of a centre to an ask, from its whole trail.
-use Rattle.std.specs.Prelude.{ℕ, ◌+◌, Bool, true, false, ◌&&◌, ◌||◌, not, cond, nat_le, ◌==◌, length, take, drop, filter, List, [], ◌∷◌, Option, is_none}
+use Rattle.std.specs.Prelude.{◌≡◌, ℕ, ◌+◌, Bool, true, false, ◌&&◌, ◌||◌, not, cond, nat_le, ◌==◌, length, take, drop, filter, List, [], ◌∷◌, Option, is_none}
 use Rattle.std.specs.List.{list_all}
 use Rattle.std.specs.Option.{option_map}
 use Rattle.list_core.specs.Choices.{when, first_of}
@@ -128,6 +128,10 @@ is_switch _ = false
 unfoldable pub answer : Settings → List Entry → Ask → Say
 answer s trail ask = cond (fits s.n ask) (cond (stopped trail && not (is_switch ask)) Down (row s trail ask)) Misfit
 
+-- the reply to an ask after the trail is the centre's
+abbrev pub IsAnswer : Settings → List Entry → Ask → Say → Type 0
+IsAnswer s trail ask say = say ≡ answer s trail ask
+
 -- a history of the one-thread centre: each answer is the one after the entries before it
 abbrev pub History : Settings → List Entry → Type 0
-History s trail = IsHistory (answer s) trail
+History s trail = IsHistory (IsAnswer s) trail

@@ -1,22 +1,21 @@
 -- Deliveries of what comes over a link.
-use Rattle.std.proofs.Common.{◌≡◌, ℕ, ◌+◌, inl, inr, ⊎_elim, Bool, true, false, cond, List, [], ◌∷◌, ◌++◌, length, take, drop, refl, sym, ap, ◌∙◌, subst, arith, append_assoc}
+use Rattle.std.proofs.Common.{◌≡◌, ℕ, ◌+◌, ◌⊎◌, inl, inr, ⊎_elim, List, [], ◌∷◌, ◌++◌, length, take, drop, refl, sym, ap, ◌∙◌, subst, arith, append_assoc, length-append}
 use Rattle.std.proofs.lemmas.List.{append-nil, take-append-drop}
 use Rattle.std.proofs.Math.Nat.{sub_self}
 use Rattle.list_core.specs.Members.{In}
 use Rattle.list_core.proofs.Members.{In_left, In_right, In_either, In_take, In_drop}
 use Rattle.dc_talk.specs.declared.sent.Sent.{Sent}
 use Rattle.dc_talk.specs.declared.log.Deed.{Deed}
-use Rattle.dc_talk.specs.Acting.{Acting}
-use Rattle.dc_talk.specs.declared.links.LinkFault.{LinkFault}
-use Rattle.dc_talk.specs.declared.links.LinkFault.TheVariants.{Clean, Drop, Twice, Hold}
+use Rattle.dc_talk.specs.Acting.{Acting, IsCutShort}
 use Rattle.script_core.specs.Provenance.{WasSent, Carries, CarriesAll}
-use Rattle.script_core.specs.Links.{is_nth, is_held, Inlet, arrivals, arrived, arrived_count, inlet_after}
+use Rattle.script_core.specs.Links.{Inlet, arrivals, arrived, arrived_count, inlet_after}
 use Rattle.script_core.specs.Rounds.{Brings}
 use Rattle.dc_worker.specs.Work.{AddsSuch}
-use Rattle.dc_worker.specs.Inlets.{comes, stays}
+use Rattle.dc_worker.specs.Brings.{Incoming, incoming, Receives, StopsAt, BringsPart}
 use Rattle.script_core.proofs.Provenance.{sent_before}
+use Rattle.script_core.proofs.Arriving.{arrivals_among}
 use Rattle.dc_worker.proofs.Work.{adds_none, adds_then}
-use Rattle.dc_worker.proofs.Items.{arrivals_item, arrivals_next, arrived_next, after_next}
+use Rattle.dc_worker.proofs.Items.{arrivals_next, arrived_next, after_next}
 
 -- deliveries behind deliveries
 pub brings_then : (to : ℕ) (xs ys : List Sent) (ds es : List Deed) → Brings to xs ds → Brings to ys es → Brings to (xs ++ ys) (ds ++ es)
@@ -35,32 +34,6 @@ brings_absent to items a none = subst (λ items. AddsSuch (Brings to items) a a)
 pub brings_both : (to : ℕ) (xs ys : List Sent) (a b c : Acting) → AddsSuch (Brings to xs) a b → AddsSuch (Brings to ys) b c → AddsSuch (Brings to (xs ++ ys)) a c
 brings_both to xs ys a b c first later = record { deeds = first.deeds ++ later.deeds; such = brings_then to xs ys first.deeds later.deeds first.such later.such; adds = adds_then a b c first.deeds later.deeds first.adds later.adds }
 
--- so far the first of the items were taken, and what came of them was delivered: what comes of the rest follows it
-pub record BringsOn (to : ℕ) (first : Inlet Sent) (items rest : List Sent) (now : Inlet Sent) (old new : Acting) : Type 0 where
-  pub done : List Sent
-  pub front : arrived first items ≡ done ++ arrived now rest
-  pub behind : inlet_after first items ≡ inlet_after now rest
-  pub brought : AddsSuch (Brings to done) old new
-
-pub brings_on_none : (to : ℕ) (first : Inlet Sent) (items rest : List Sent) (a : Acting) → rest ≡ items → BringsOn to first items rest first a a
-brings_on_none to first items rest a all = subst (λ rest. BringsOn to first items rest first a a) (sym all) (record { done = []; front = refl; behind = refl; brought = brings_none to a })
-
--- one item more
-pub brings_on_more : (to : ℕ) (first : Inlet Sent) (items left rest : List Sent) (now next : Inlet Sent) (a b c : Acting) (item : Sent) → left ≡ item ∷ rest → BringsOn to first items left now a b → AddsSuch (Brings to (arrived now (item ∷ []))) b c → next ≡ inlet_after now (item ∷ []) → BringsOn to first items rest next a c
-brings_on_more to first items left rest now next a b c item is before one after =
-    let come : List Sent = arrived now (item ∷ []) in
-    record {
-      done = before.done ++ come;
-      front =
-          before.front
-          ∙ (ap (λ left. before.done ++ arrived now left) is
-          ∙ (ap (λ more. before.done ++ more) (arrived_next now item rest)
-          ∙ (sym (append_assoc before.done come (arrived (inlet_after now (item ∷ [])) rest))
-          ∙ ap (λ i. (before.done ++ come) ++ arrived i rest) (sym after))));
-      behind = before.behind ∙ (ap (inlet_after now) is ∙ (after_next now item rest ∙ ap (λ i. inlet_after i rest) (sym after)));
-      brought = brings_both to before.done come a b c before.brought one;
-    }
-
 -- no item
 pub arrived_none : (i : Inlet Sent) → arrived i [] ≡ []
 arrived_none i = ap (λ n. take n i.held) (sub_self (length i.held))
@@ -70,21 +43,12 @@ after_none i =
     let same : i.before + 0 ≡ i.before = omega arith in
     ap (λ n. record { fault = i.fault; before = i.before + 0; held = drop n i.held }) (sub_self (length i.held)) ∙ ap (λ n. record { fault = i.fault; before = n; held = i.held }) same
 
--- no item is left
-pub brings_on_all : (to : ℕ) (first : Inlet Sent) (items left : List Sent) (now : Inlet Sent) (a b : Acting) → left ≡ [] → BringsOn to first items left now a b → AddsSuch (Brings to (arrived first items)) a b
-brings_on_all to first items left now a b none before =
-    let all : arrived first items ≡ before.done = before.front ∙ (ap (λ left. before.done ++ arrived now left) none ∙ (ap (λ more. before.done ++ more) (arrived_none now) ∙ append-nil before.done)) in
-    subst (λ all. AddsSuch (Brings to all) a b) (sym all) before.brought
-
-pub after_all : (to : ℕ) (first : Inlet Sent) (items left : List Sent) (now : Inlet Sent) (a b : Acting) → left ≡ [] → BringsOn to first items left now a b → now ≡ inlet_after first items
-after_all to first items left now a b none before = sym (before.behind ∙ (ap (inlet_after now) none ∙ after_none now))
-
 -- what is held at the end comes behind the rest
-pub brings_rest : (to : ℕ) (first : Inlet Sent) (items held : List Sent) (now : Inlet Sent) (a b c : Acting) → AddsSuch (Brings to (arrived first items)) a b → now ≡ inlet_after first items → held ≡ now.held → AddsSuch (Brings to held) b c → AddsSuch (Brings to (arrivals first items)) a c
-brings_rest to first items held now a b c before after is rest =
-    let left : held ≡ drop (arrived_count first items) (arrivals first items) = is ∙ ap (λ (i : Inlet Sent). i.held) after in
-    let whole : arrived first items ++ held ≡ arrivals first items = ap (λ held. arrived first items ++ held) left ∙ take-append-drop (arrived_count first items) (arrivals first items) in
-    subst (λ all. AddsSuch (Brings to all) a c) whole (brings_both to (arrived first items) held a b c before rest)
+pub brings_rest : (to : ℕ) (first : Inlet Sent) (items : List Sent) (now : Inlet Sent) (a b c : Acting) → AddsSuch (Brings to (arrived first items)) a b → now ≡ inlet_after first items → AddsSuch (Brings to now.held) b c → AddsSuch (Brings to (arrivals first items)) a c
+brings_rest to first items now a b c before after rest =
+    let left : now.held ≡ drop (arrived_count first items) (arrivals first items) = ap (λ (i : Inlet Sent). i.held) after in
+    let whole : arrived first items ++ now.held ≡ arrivals first items = ap (λ held. arrived first items ++ held) left ∙ take-append-drop (arrived_count first items) (arrivals first items) in
+    subst (λ all. AddsSuch (Brings to all) a c) whole (brings_both to (arrived first items) now.held a b c before rest)
 
 -- ---- items behind items
 
@@ -116,61 +80,129 @@ arrivals_then i (x ∷ xs) ys =
     ∙ (ap (λ front. front ++ last) (sym (arrived_next i x xs))
     ∙ ap (λ i'. arrived i (x ∷ xs) ++ arrivals i' ys) (sym (after_next i x xs)))))
 
+-- ---- what is received
+
+-- nothing was taken
+pub receives_none : (at : ℕ) (a : Acting) (i : Inlet Sent) (xs ys : List Sent) → ys ≡ xs → Receives at 0 (incoming a i xs) (incoming a i ys)
+receives_none at a i xs ys same = record {
+  items = [];
+  taken = same ∙ sym (append-nil xs);
+  brings = subst (λ all. AddsSuch (Brings at all) a a) (sym (arrived_none i)) (brings_none at a);
+  inlet = sym (after_none i);
+  count = refl;
+}
+
+-- records were taken, and then others
+pub receives_then : (at m n : ℕ) (a b c : Incoming) → Receives at m a b → Receives at n b c → Receives at (m + n) a c
+receives_then at m n a b c first later = record {
+  items = first.items ++ later.items;
+  taken = later.taken ∙ (ap (λ front. front ++ later.items) first.taken ∙ append_assoc a.taken first.items later.items);
+  brings =
+      let come : List Sent = arrived a.inlet first.items ++ arrived b.inlet later.items in
+      let all : arrived a.inlet (first.items ++ later.items) ≡ come = arrived_then a.inlet first.items later.items ∙ ap (λ i. arrived a.inlet first.items ++ arrived i later.items) (sym first.inlet) in
+      subst (λ all. AddsSuch (Brings at all) a.acting c.acting) (sym all) (brings_both at (arrived a.inlet first.items) (arrived b.inlet later.items) a.acting b.acting c.acting first.brings later.brings);
+  inlet = later.inlet ∙ (ap (λ i. inlet_after i later.items) first.inlet ∙ sym (after_then a.inlet first.items later.items));
+  count = omega (arith, first.count, later.count, length-append first.items later.items);
+}
+
+-- one record was taken
+receives_one : (at : ℕ) (a b : Acting) (i next : Inlet Sent) (xs : List Sent) (item : Sent) → AddsSuch (Brings at (arrived i (item ∷ []))) a b → next ≡ inlet_after i (item ∷ []) → Receives at 1 (incoming a i xs) (incoming b next (xs ++ item ∷ []))
+receives_one at a b i next xs item one after = record { items = item ∷ []; taken = refl; brings = one; inlet = after; count = refl }
+
+-- ---- item by item
+
+-- so far the first of the items were taken, and what comes of them was delivered
+pub record BringsOn (to : ℕ) (first : Inlet Sent) (items rest : List Sent) (now : Inlet Sent) (old new : Acting) : Type 0 where
+  pub taken : List Sent
+  pub whole : items ≡ taken ++ rest
+  pub receives : Receives to (length taken) (incoming old first []) (incoming new now taken)
+
+pub brings_on_none : (to : ℕ) (first : Inlet Sent) (items rest : List Sent) (a : Acting) → rest ≡ items → BringsOn to first items rest first a a
+brings_on_none to first items rest a all = record { taken = []; whole = sym all; receives = receives_none to a first [] [] refl }
+
+-- with the next item the first ones are one more
+next_taken : (items taken left rest : List Sent) (item : Sent) → items ≡ taken ++ left → left ≡ item ∷ rest → items ≡ (taken ++ item ∷ []) ++ rest
+next_taken items taken left rest item whole is = whole ∙ (ap (λ left. taken ++ left) is ∙ sym (append_assoc taken (item ∷ []) rest))
+
+-- one item more
+pub brings_on_more : (to : ℕ) (first : Inlet Sent) (items left rest : List Sent) (now next : Inlet Sent) (a b c : Acting) (item : Sent) → left ≡ item ∷ rest → BringsOn to first items left now a b → AddsSuch (Brings to (arrived now (item ∷ []))) b c → next ≡ inlet_after now (item ∷ []) → BringsOn to first items rest next a c
+brings_on_more to first items left rest now next a b c item is before one after =
+    let old : Incoming = incoming a first [] in
+    let mid : Incoming = incoming b now before.taken in
+    let new : Incoming = incoming c next (before.taken ++ item ∷ []) in
+    record {
+      taken = before.taken ++ item ∷ [];
+      whole = next_taken items before.taken left rest item before.whole is;
+      receives = subst (λ n. Receives to n old new) (sym (length-append before.taken (item ∷ []))) (receives_then to (length before.taken) 1 old mid new before.receives (receives_one to b c now next before.taken item one after));
+    }
+
+-- no item is left
+all_taken : (to : ℕ) (first : Inlet Sent) (items left : List Sent) (now : Inlet Sent) (a b : Acting) → left ≡ [] → (before : BringsOn to first items left now a b) → items ≡ before.receives.items
+all_taken to first items left now a b none before = before.whole ∙ (ap (λ left. before.taken ++ left) none ∙ (append-nil before.taken ∙ before.receives.taken))
+
+pub brings_on_all : (to : ℕ) (first : Inlet Sent) (items left : List Sent) (now : Inlet Sent) (a b : Acting) → left ≡ [] → BringsOn to first items left now a b → AddsSuch (Brings to (arrived first items)) a b
+brings_on_all to first items left now a b none before = subst (λ items. AddsSuch (Brings to (arrived first items)) a b) (sym (all_taken to first items left now a b none before)) before.receives.brings
+
+pub after_all : (to : ℕ) (first : Inlet Sent) (items left : List Sent) (now : Inlet Sent) (a b : Acting) → left ≡ [] → BringsOn to first items left now a b → now ≡ inlet_after first items
+after_all to first items left now a b none before = before.receives.inlet ∙ ap (inlet_after first) (sym (all_taken to first items left now a b none before))
+
+-- ---- an early end
+
+-- at one record
+pub stops_at_one : (a b : Acting) (i next : Inlet Sent) (xs ys : List Sent) (item : Sent) → ys ≡ xs ++ item ∷ [] → (next ≡ i) ⊎ (next ≡ inlet_after i (item ∷ [])) → IsCutShort a b → StopsAt (incoming a i xs) (incoming b next ys)
+stops_at_one a b i next xs ys item more which cut = record { last = item ∷ []; one = omega arith; taken = more; inlet = ⊎_elim (λ same. inl same) (λ after. inr (inl after)) which; short = cut }
+
+-- at what is held
+pub stops_at_held : (a b : Acting) (i next : Inlet Sent) (xs : List Sent) → next ≡ record i { held = [] } → IsCutShort a b → StopsAt (incoming a i xs) (incoming b next xs)
+stops_at_held a b i next xs empty cut = record { last = []; one = omega arith; taken = sym (append-nil xs); inlet = inr (inr empty); short = cut }
+
+-- before any record
+pub brings_part_none : (to : ℕ) (i : Inlet Sent) (a b : Acting) → IsCutShort a b → BringsPart to [] i i a b
+brings_part_none to i a b cut = record {
+  taken = [];
+  rest = [];
+  whole = refl;
+  part = record {
+    number = 0;
+    between = incoming a i [];
+    receives = receives_none to a i [] [] refl;
+    stops = record { last = []; one = omega arith; taken = refl; inlet = inl refl; short = cut };
+  };
+}
+
+-- at the next of the items
+pub brings_part_next : (to : ℕ) (first : Inlet Sent) (items left rest : List Sent) (now next : Inlet Sent) (a b c : Acting) (item : Sent) → left ≡ item ∷ rest → BringsOn to first items left now a b → IsCutShort b c → (next ≡ now) ⊎ (next ≡ inlet_after now (item ∷ [])) → BringsPart to items first next a c
+brings_part_next to first items left rest now next a b c item is before cut which = record {
+  taken = before.taken ++ item ∷ [];
+  rest = rest;
+  whole = next_taken items before.taken left rest item before.whole is;
+  part = record {
+    number = length before.taken;
+    between = incoming b now before.taken;
+    receives = before.receives;
+    stops = stops_at_one b c now next before.taken (before.taken ++ item ∷ []) item refl which cut;
+  };
+}
+
+-- behind all items, at what is held
+pub brings_part_held : (to : ℕ) (first : Inlet Sent) (items : List Sent) (now next : Inlet Sent) (a b c : Acting) → AddsSuch (Brings to (arrived first items)) a b → now ≡ inlet_after first items → next ≡ record now { held = [] } → IsCutShort b c → BringsPart to items first next a c
+brings_part_held to first items now next a b c before after empty cut = record {
+  taken = items;
+  rest = [];
+  whole = sym (append-nil items);
+  part = record {
+    number = length items;
+    between = incoming b now items;
+    receives = record { items = items; taken = refl; brings = before; inlet = after; count = refl };
+    stops = stops_at_held b c now next items empty cut;
+  };
+}
+
 -- ---- where they come from
 
--- what comes of an item is the item
-comes_from : (fault : LinkFault) (number : ℕ) (x y : Sent) → In y (comes fault number x) → y ≡ x
-comes_from Clean number x y (inl same) = same
-comes_from Clean number x y (inr none) = absurd none
-comes_from (Drop every) number x y among = go (is_nth every number) among
-  where
-    go : (test : Bool) → In y (cond test [] (x ∷ [])) → y ≡ x
-    go true none = absurd none
-    go false (inl same) = same
-    go false (inr none) = absurd none
-comes_from (Twice every) number x y among = go (is_nth every number) among
-  where
-    go : (test : Bool) → In y (cond test (x ∷ x ∷ []) (x ∷ [])) → y ≡ x
-    go true (inl same) = same
-    go true (inr (inl same)) = same
-    go true (inr (inr none)) = absurd none
-    go false (inl same) = same
-    go false (inr none) = absurd none
-comes_from (Hold every) number x y among = go (is_nth every number) among
-  where
-    go : (test : Bool) → In y (cond test [] (x ∷ [])) → y ≡ x
-    go true none = absurd none
-    go false (inl same) = same
-    go false (inr none) = absurd none
-
--- what is held of it is the item
-stays_from : (test : Bool) (x y : Sent) → In y (cond test (x ∷ []) []) → y ≡ x
-stays_from true x y (inl same) = same
-stays_from true x y (inr none) = absurd none
-stays_from false x y none = absurd none
-
--- what comes of an item and of others was held, or is one of them
-from_next : (fault : LinkFault) (number : ℕ) (held rest : List Sent) (x y : Sent) (xs : List Sent) → In y ((comes fault number x ++ held) ++ rest) → (In y rest → In y (stays fault number x ++ xs)) → In y (held ++ x ∷ xs)
-from_next fault number held rest x y xs among later = ⊎_elim front behind (In_either (comes fault number x ++ held) rest y among)
-  where
-    here : y ≡ x → In y (held ++ x ∷ xs)
-    here same = In_right held (x ∷ xs) y (inl same)
-
-    front : In y (comes fault number x ++ held) → In y (held ++ x ∷ xs)
-    front first = ⊎_elim (λ of. here (comes_from fault number x y of)) (λ of. In_left held (x ∷ xs) y of) (In_either (comes fault number x) held y first)
-
-    behind : In y rest → In y (held ++ x ∷ xs)
-    behind last = ⊎_elim (λ of. here (stays_from (is_held fault number) x y of)) (λ of. In_right held (x ∷ xs) y (inr of)) (In_either (stays fault number x) xs y (later last))
-
-come_from : (fault : LinkFault) (before : ℕ) (held xs : List Sent) (y : Sent) → In y (arrivals (record { fault = fault; before = before; held = held }) xs) → In y (held ++ xs)
-come_from fault before held [] y among = In_left held [] y among
-come_from fault before held (x ∷ xs) y among =
-    from_next fault (before + 1) held (arrivals (record { fault = fault; before = before + 1; held = stays fault (before + 1) x }) xs) x y xs
-    (subst (In y) (arrivals_item fault before held x xs) among)
-    (λ rest. come_from fault (before + 1) (stays fault (before + 1) x) xs y rest)
-
+-- what arrives was held or taken
 pub arrivals_from : (i : Inlet Sent) (xs : List Sent) (y : Sent) → In y (arrivals i xs) → In y (i.held ++ xs)
-arrivals_from i xs y among = come_from i.fault i.before i.held xs y among
+arrivals_from i xs y among = ⊎_elim (λ taken. In_right i.held xs y taken) (λ held. In_left i.held xs y held) (In_either xs i.held y (arrivals_among i xs y among))
 
 pub arrived_from : (i : Inlet Sent) (xs : List Sent) (y : Sent) → In y (arrived i xs) → In y (i.held ++ xs)
 arrived_from i xs y among = arrivals_from i xs y (In_take (arrived_count i xs) (arrivals i xs) y among)

@@ -11,7 +11,7 @@ use Rattle.script_core.specs.Links.{Inlet, is_nth, is_held, numbered_on, swapped
 use Rattle.dc_worker.specs.Inlets.{HasCount, comes, stays}
 
 -- a choice between the same
-pub same_both : {Y : Type 0} (test : Bool) (y : Y) → cond test y y ≡ y
+same_both : {Y : Type 0} (test : Bool) (y : Y) → cond test y y ≡ y
 same_both true y = refl
 same_both false y = refl
 
@@ -278,9 +278,6 @@ module _ {X : Type 0} where
 
       count : length (first ++ rest) - left ≡ length first + (length rest - left)
       count = omega (arith, length-append first rest, few)
-
-  pub arrivals_item : (fault : LinkFault) (before : ℕ) (held : List X) (x : X) (xs : List X) → arrivals (inlet fault before held) (x ∷ xs) ≡ (comes fault (before + 1) x ++ held) ++ arrivals (inlet fault (before + 1) (stays fault (before + 1) x)) xs
-  arrivals_item fault before held x xs = (one_item fault before held x).others xs
 
   pub arrivals_next : (i : Inlet X) (x : X) (xs : List X) → arrivals i (x ∷ xs) ≡ arrived i (x ∷ []) ++ arrivals (inlet_after i (x ∷ [])) xs
   arrivals_next i x xs =

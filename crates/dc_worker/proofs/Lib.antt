@@ -5,9 +5,6 @@ pub mod Telling
 pub mod Turns
 pub mod Items
 pub mod Bringing
-pub mod Mailing
-pub mod RoundDeeds
-pub mod Taking
 pub mod Passing
 pub mod Alike
 pub mod Repeating

@@ -1,5 +1,5 @@
 -- Asks for records with the deliveries behind them.
-use Rattle.std.proofs.Common.{◌≡◌, ℕ, List, [], ◌∷◌, ◌++◌, Option, None, refl, sym, ap, subst}
+use Rattle.std.proofs.Common.{◌≡◌, ℕ, List, [], ◌∷◌, ◌++◌, Option, None, refl, sym, ap, ◌∙◌, subst}
 use Rattle.dc_talk.specs.declared.sent.Sent.{Sent}
 use Rattle.dc_talk.specs.declared.ask.Ask.{Ask}
 use Rattle.dc_talk.specs.declared.ask.Ask.TheVariants.{Report}
@@ -12,12 +12,17 @@ use Rattle.dc_talk.specs.declared.line.ShipEnd.{ShipEnd}
 use Rattle.dc_talk.specs.Acting.{Acting}
 use Rattle.script_core.specs.Carrying.{Route, stopped_end, Delivers, AfterSend, Sends, AfterReport, Supplies}
 use Rattle.script_core.specs.Provenance.{Carries, CarriesAll}
+use Rattle.script_core.specs.declared.rounds.TheConstants.{MOST_MAILED}
+use Rattle.script_core.specs.Rounds.{records_in, AfterNeeded, Mails}
+use Rattle.dc_worker.specs.declared.sends.Need.{Need}
+use Rattle.dc_worker.specs.declared.sends.Need.TheVariants.{Own, Of}
 use Rattle.dc_worker.specs.declared.sends.Handed.{Handed}
 use Rattle.dc_worker.specs.declared.sends.Handed.TheVariants.{Items, Ended}
 use Rattle.dc_worker.specs.Work.{Adds, AddsSuch, CarriesSuch}
-use Rattle.dc_worker.specs.Sends.{handed_of, AfterNeed, AsksFor}
+use Rattle.dc_worker.specs.Sends.{handed_of, need_of, own_part, AfterNeed, AsksFor}
 use Rattle.dc_worker.proofs.Work.{adds_then}
-use Rattle.script_core.proofs.Provenance.{sends_carry}
+use Rattle.script_core.proofs.Provenance.{sends_carry, supplies_carry}
+use Rattle.script_core.proofs.Mailing.{mails_carry}
 
 -- ---- a report and an ask for what is needed
 
@@ -33,6 +38,30 @@ asks_for_vector a b c r need ask vector first say handed report is needs asked g
   };
   adds = adds_then a b c (Asked r.to Report (Unheard first) ∷ []) (Asked r.from ask (Unheard say) ∷ []) report asked;
 }
+
+-- ---- asks for what is put on a link
+
+-- the records that an ask for them came to
+abbrev pub items_of : Handed → List Sent
+items_of (Items list) = list
+items_of (Ended end) = []
+
+-- these are the records of the answer
+items_handed : (from : ℕ) (say : Say) → items_of (handed_of from say) ≡ records_in say
+items_handed from (Records list) = refl
+items_handed from say = refl
+
+-- what follows a report
+needed : (r : Route) (say : Say) (deeds : List Deed) (handed : Handed) → AfterNeed r (own_part r MOST_MAILED) say deeds handed → AfterNeeded r say deeds (items_of handed)
+needed r (Vector vector) deeds handed is = (is.0, is.1, ap items_of is.2 ∙ items_handed r.from is.0)
+needed r say deeds handed is = (is.0, ap items_of is.1)
+
+-- the asks of a send are those over a route
+pub mails_for : (a b : Acting) (r : Route) (handed : Handed) (items : List Sent) → AddsSuch (λ deeds. AsksFor r (own_part r MOST_MAILED) deeds handed) a b → items ≡ items_of handed → CarriesSuch (λ deeds. Mails r deeds items) a b
+mails_for a b r handed items asked is =
+    let follows : AfterNeeded r asked.such.say asked.such.later items = subst (AfterNeeded r asked.such.say asked.such.later) (sym is) (needed r asked.such.say asked.such.later handed asked.such.follows) in
+    let such : Mails r asked.deeds items = record { say = asked.such.say; later = asked.such.later; whole = asked.such.whole; follows = follows } in
+    record { deeds = asked.deeds; such = such; adds = asked.adds; carries = mails_carry r asked.deeds items such }
 
 -- ---- deliveries behind an ask
 
@@ -71,6 +100,11 @@ after_report_items r need say items asks deeds end asked is = let ends : Items i
 after_report_ended : (r : Route) (need : List ℕ → Ask) (say : Say) (asks : List Deed) (end : Option ShipEnd) → AfterNeed r need say asks (Ended end) → AfterReport r need say asks end
 after_report_ended r need (Vector vector) asks end asked = record { say = asked.0; later = []; whole = asked.1; follows = after_ended r None asked.0 end asked.2 }
 after_report_ended r need say asks end asked = (asked.0, let ends : Ended end ≡ Ended (stopped_end r.to say) = asked.1 in cc)
+
+-- what is handed on an earlier deed brought
+pub need_carries : (need : Need) (r : Route) (deeds : List Deed) (end : Option ShipEnd) → Supplies r (need_of need r.from) deeds end → CarriesAll [] deeds
+need_carries (Own most) r deeds end is = supplies_carry r (need_of (Own most) r.from) deeds end (λ before vector say. tt) is
+need_carries (Of origin) r deeds end is = supplies_carry r (need_of (Of origin) r.from) deeds end (λ before vector say. tt) is
 
 -- what a supply carries
 abbrev IsCarriedBy : Route → (List ℕ → Ask) → Type 0

@@ -1,6 +1,6 @@
 pub mod Work
 pub mod Sends
 pub mod Inlets
-pub mod Links
+pub mod Brings
 pub mod Rounds
 pub mod Settled

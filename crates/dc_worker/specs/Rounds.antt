@@ -1,5 +1,5 @@
 -- Deliveries, relays and tells over all routes, and how many passes a settling takes.
-use Rattle.std.specs.Prelude.{ℕ, suc, ◌==◌, ◌&&◌, not, cond, filter, map, flat_map, List, [], ◌∷◌, Option}
+use Rattle.std.specs.Prelude.{ℕ, suc, ◌==◌, ◌&&◌, not, filter, map, flat_map, List, Option}
 use Rattle.vv_core.specs.Vectors.{centres}
 use Rattle.dc_talk.specs.declared.line.Line.{Line}
 use Rattle.dc_talk.specs.declared.line.ShipEnd.{ShipEnd}
@@ -25,21 +25,13 @@ routes_of n k = flat_map (routes_from n) (centres k)
 abbrev pub DoesRelay : Detour → List Deed → Type 0
 DoesRelay t deeds = (end : Option ShipEnd) × Relays t deeds end
 
--- the detour from a centre of an origin's records to another one, where all three differ
-abbrev pub detour_to : ℕ → ℕ → ℕ → List Detour
-detour_to from origin to = cond (not (from == to) && not (origin == to)) (detour from origin to ∷ []) []
-
--- those to the first k centres
+-- the detours from a centre of an origin's records to the others of the first k centres
 abbrev pub detours_to : ℕ → ℕ → ℕ → List Detour
-detours_to from origin k = flat_map (detour_to from origin) (centres k)
+detours_to from origin k = map (detour from origin) (filter (λ to. not (from == to) && not (origin == to)) (centres k))
 
--- those of an origin's records to n centres, where the two differ
-abbrev pub detours_by : ℕ → ℕ → ℕ → List Detour
-detours_by n from origin = cond (not (from == origin)) (detours_to from origin n) []
-
--- those of the records of the first k origins
+-- those of the records of the others of the first k centres, to n
 abbrev pub detours_from : ℕ → ℕ → ℕ → List Detour
-detours_from n from k = flat_map (detours_by n from) (centres k)
+detours_from n from k = flat_map (λ origin. detours_to from origin n) (filter (λ origin. not (from == origin)) (centres k))
 
 -- those from the first k centres
 abbrev pub detours_of : ℕ → ℕ → List Detour

@@ -1,14 +1,17 @@
 -- A report and an ask for what a centre lacks, by themselves.
-use Rattle.std.specs.Prelude.{◌≡◌, ℕ, List, [], ◌∷◌}
+use Rattle.std.specs.Prelude.{◌≡◌, ◌≤◌, ℕ, List, [], ◌∷◌}
 use Rattle.vv_core.specs.Vectors.{at}
 use Rattle.dc_talk.specs.declared.ask.Ask.{Ask}
-use Rattle.dc_talk.specs.declared.ask.Ask.TheVariants.{Send, Report}
+use Rattle.dc_talk.specs.declared.ask.Ask.TheVariants.{Send, Relay, Report}
+use Rattle.dc_talk.specs.declared.ask.TheConstants.{MOST_SENT}
 use Rattle.dc_talk.specs.declared.say.Say.{Say}
 use Rattle.dc_talk.specs.declared.say.Say.TheVariants.{Records, Vector}
 use Rattle.dc_talk.specs.declared.log.Fate.TheVariants.{Unheard}
 use Rattle.dc_talk.specs.declared.log.Deed.{Deed}
 use Rattle.dc_talk.specs.declared.log.Deed.TheVariants.{Asked}
 use Rattle.script_core.specs.Carrying.{Route, send_end, stopped_end}
+use Rattle.dc_worker.specs.declared.sends.Need.{Need}
+use Rattle.dc_worker.specs.declared.sends.Need.TheVariants.{Own, Of}
 use Rattle.dc_worker.specs.declared.sends.Handed.{Handed}
 use Rattle.dc_worker.specs.declared.sends.Handed.TheVariants.{Items, Ended}
 
@@ -32,3 +35,13 @@ pub record AsksFor (r : Route) (need : List ℕ → Ask) (deeds : List Deed) (ha
 -- so many of the records of the centre that is asked, behind those that the other one has
 abbrev pub own_part : Route → ℕ → List ℕ → Ask
 own_part r most vector = Send (at vector r.from) most
+
+-- what the centre that hands on is asked, by the vector of the one that lacks
+abbrev pub need_of : Need → ℕ → List ℕ → Ask
+need_of (Own most) from vector = Send (at vector from) most
+need_of (Of origin) from vector = Relay origin (at vector origin) MOST_SENT
+
+-- an origin has a number, which is at least 1
+abbrev pub IsNumbered : Need → Type 0
+IsNumbered (Own most) = Unit {0}
+IsNumbered (Of origin) = 1 ≤ origin

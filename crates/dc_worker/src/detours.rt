@@ -1,39 +1,14 @@
 // Relays over all detours.
-ghost use Rattle.std.specs.Prelude.{◌≡◌, ◌≢◌, OnOk, OnErr};
+ghost use Rattle.std.specs.Prelude.{◌≡◌, OnOk, OnErr};
 ghost use Rattle.dc_talk.specs.Acting.{acting, IsCutShort};
 ghost use Rattle.dc_talk.specs.Doors.{IsBehind};
 ghost use Rattle.script_core.specs.Carrying.{detours, InTurn};
 ghost use Rattle.dc_worker.specs.Work.{CarriesSuch};
-ghost use Rattle.dc_worker.specs.Rounds.{DoesRelay, detour_to, detours_to, detours_by, detours_from};
+ghost use Rattle.dc_worker.specs.Rounds.{DoesRelay, detours_to, detours_from};
 
 use crate::relays::relay_all;
 use dc_talk::{Door, Log};
 use ids_core::NoMemory;
-
-// A relay of an origin's records from one centre to another, where all three differ, and else nothing.
-fn over_detour<D: Door>(
-    door: &mut D,
-    from: u8,
-    origin: u8,
-    to: u8,
-    log: &mut Log,
-) -> Result<(), NoMemory>
-    requires from { IsBehind (D.shown door.old) from }
-    requires origin { IsBehind (D.shown door.old) origin }
-    requires to { IsBehind (D.shown door.old) to }
-    ensures place { D.place door.new ≡ D.place door.old }
-    ensures does { OnOk result (CarriesSuch (InTurn DoesRelay (detour_to from origin to)) (acting (D.shown door.old) log.old) (acting (D.shown door.new) log.new)) }
-    ensures short { OnErr result (IsCutShort (acting (D.shown door.old) log.old) (acting (D.shown door.new) log.new)) }
-{
-    if from == to {
-        return Ok(());
-    }
-    if origin == to {
-        return Ok(());
-    }
-    relay_all(door, from, origin, to, log)?;
-    Ok(())
-}
 
 // Relays of an origin's records from another one of the `n` centres behind the door to each third one.
 fn over_detours_to<D: Door>(
@@ -52,30 +27,15 @@ fn over_detours_to<D: Door>(
 {
     'centres: for before in 0..n {
         let to = before + 1;
-        over_detour(door, from, origin, to, log)?;
+        if from == to {
+            continue 'centres;
+        }
+        if origin == to {
+            continue 'centres;
+        }
+        relay_all(door, from, origin, to, log)?;
     }
     Ok(())
-}
-
-// The same where the two differ, and else nothing.
-fn over_detours_by<D: Door>(
-    door: &mut D,
-    n: u8,
-    from: u8,
-    origin: u8,
-    log: &mut Log,
-) -> Result<(), NoMemory>
-    requires centres { (D.shown door.old).centres ≡ n }
-    requires from { IsBehind (D.shown door.old) from }
-    requires origin { IsBehind (D.shown door.old) origin }
-    ensures place { D.place door.new ≡ D.place door.old }
-    ensures does { OnOk result (CarriesSuch (InTurn DoesRelay (detours_by n from origin)) (acting (D.shown door.old) log.old) (acting (D.shown door.new) log.new)) }
-    ensures short { OnErr result (IsCutShort (acting (D.shown door.old) log.old) (acting (D.shown door.new) log.new)) }
-{
-    if from == origin {
-        return Ok(());
-    }
-    over_detours_to(door, n, from, origin, log)
 }
 
 // Relays from one of the `n` centres behind the door of each other one's records to each third one.
@@ -88,7 +48,10 @@ fn over_detours_from<D: Door>(door: &mut D, n: u8, from: u8, log: &mut Log) -> R
 {
     'origins: for before in 0..n {
         let origin = before + 1;
-        over_detours_by(door, n, from, origin, log)?;
+        if from == origin {
+            continue 'origins;
+        }
+        over_detours_to(door, n, from, origin, log)?;
     }
     Ok(())
 }

@@ -4,12 +4,13 @@ ghost use Rattle.dc_talk.specs.declared.ask.Ask.TheVariants.{Send};
 ghost use Rattle.dc_talk.specs.declared.line.ShipEnd.TheVariants.{Absent};
 ghost use Rattle.dc_talk.specs.Acting.{acting, IsCutShort};
 ghost use Rattle.dc_talk.specs.Doors.{IsBehind};
-ghost use Rattle.script_core.specs.Carrying.{route, Sends, Ships};
+ghost use Rattle.script_core.specs.Carrying.{route, Sends, Ships, Supplies};
+ghost use Rattle.dc_worker.specs.Sends.{IsNumbered, need_of};
 ghost use Rattle.dc_worker.specs.Work.{CarriesSuch};
 
 use crate::asks::ask_unheard;
 use crate::deliveries::deliver_all;
-use crate::sends::{Handed, handed_of, send_for};
+use crate::sends::{Handed, Need, hand_on, handed_of};
 use dc_talk::{Ask, Door, Log, MOST_SENT, ShipEnd};
 use ids_core::NoMemory;
 
@@ -54,7 +55,26 @@ pub fn ship_all<D: Door>(
     ensures ships { IfOk result (λ end. CarriesSuch (λ deeds. Ships (route from to) deeds end) (acting (D.shown door.old) log.old) (acting (D.shown door.new) log.new)) }
     ensures short { OnErr result (IsCutShort (acting (D.shown door.old) log.old) (acting (D.shown door.new) log.new)) }
 {
-    match send_for(door, from, to, MOST_SENT, log)? {
+    supply(door, from, to, Need::Own { most: MOST_SENT }, log)
+}
+
+// Delivers the records that a centre needs and another one hands on, until one is answered neither `Applied` nor `Old`.
+// Both are behind the door. Answers how the last delivery ended: nothing where there was none.
+pub(crate) fn supply<D: Door>(
+    door: &mut D,
+    from: u8,
+    to: u8,
+    need: Need,
+    log: &mut Log,
+) -> Result<Option<ShipEnd>, NoMemory>
+    requires from { IsBehind (D.shown door.old) from }
+    requires to { IsBehind (D.shown door.old) to }
+    requires need { IsNumbered need }
+    ensures place { D.place door.new ≡ D.place door.old }
+    ensures supplies { IfOk result (λ end. CarriesSuch (λ deeds. Supplies (route from to) (need_of need from) deeds end) (acting (D.shown door.old) log.old) (acting (D.shown door.new) log.new)) }
+    ensures short { OnErr result (IsCutShort (acting (D.shown door.old) log.old) (acting (D.shown door.new) log.new)) }
+{
+    match hand_on(door, from, to, need, log)? {
         Handed::Items(items) => deliver_all(door, to, items, None, log),
         Handed::Ended(end) => Ok(end),
     }

@@ -58,7 +58,7 @@ module _ {A Y G : Type 0} where
 le_of : {a b : ℕ} → (b < a → ⊥) → a ≤ b
 le_of h = omega arith
 
-module _ {A Y G M : Type 0} (reply : G → List (Entry A Y) → A → Y) (stands : M → List (Entry A Y) → Type 0) (settings_of : M → G) (settings : G) (opening : List (Entry A Y)) (callers : ℕ) where
+module _ {A Y G M : Type 0} (reply : G → List (Entry A Y) → A → Y → Type 0) (stands : M → List (Entry A Y) → Type 0) (settings_of : M → G) (settings : G) (opening : List (Entry A Y)) (callers : ℕ) where
   abbrev Slot : Type 0
   Slot = Option (Kept M A Y G)
 

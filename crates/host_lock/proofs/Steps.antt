@@ -10,6 +10,7 @@ use Rattle.atomic_table.specs.Table.{State, step, keeps, takes, gives, Allows, S
 use Rattle.atomic_table.proofs.Lists.{at_longer, at_snoc, set_else, set_here}
 use mathlib.Core.Logic.{dite}
 use native.Mathlib.Decide.{ℕ_discrete}
+use Rattle.list_core.proofs.Choices.{not_true}
 use Rattle.machine_trail.specs.declared.machine.Entry.{Entry}
 use Rattle.machine_trail.specs.declared.machine.Kept.{Kept}
 use Rattle.host_lock.specs.declared.law.SeatView.{SeatView}
@@ -18,7 +19,7 @@ use Rattle.machine_trail.proofs.Histories.{history_more}
 use Rattle.host_lock.specs.Law.{calls_of, maker, spent_seat, newcomer, handed, spent_of, joined, WasSpent, IsOther, Fits, Stands, Holds, homed}
 use Rattle.host_lock.specs.Steps.{SeatState, with_new, at_turn, off_turn, finding, holding, emptied, grown, drew, tried, freed, gave, took, noted, trail_of}
 use Rattle.host_lock.proofs.Histories.{calls_more, calls_same, prefix_more}
-use Rattle.host_lock.proofs.Seats.{not_true, hit, miss, put, put_here, put_else, put_was, off, at_there, at_one, at_none, at_end, views_set, still, word_length, word_turn, word_drawn}
+use Rattle.host_lock.proofs.Seats.{hit, miss, put, put_here, put_else, put_was, off, at_there, at_one, at_none, at_end, views_set, still, word_length, word_turn, word_drawn}
 
 module _ {A Y G : Type 0} (settings : G) (opening : List (Entry A Y)) where
   module _ (later : List (Entry A Y)) (most turn who : ℕ) (away : Bool) where
@@ -63,7 +64,7 @@ module _ {A Y G : Type 0} (settings : G) (opening : List (Entry A Y)) where
       has_out = f.has_out;
     }
 
-module _ {A Y G M : Type 0} (reply : G → List (Entry A Y) → A → Y) (stands : M → List (Entry A Y) → Type 0) (settings_of : M → G) (settings : G) (opening : List (Entry A Y)) (callers : ℕ) where
+module _ {A Y G M : Type 0} (reply : G → List (Entry A Y) → A → Y → Type 0) (stands : M → List (Entry A Y) → Type 0) (settings_of : M → G) (settings : G) (opening : List (Entry A Y)) (callers : ℕ) where
   abbrev V : Type 0
   V = SeatView A Y G
 
@@ -524,7 +525,7 @@ module _ {A Y G M : Type 0} (reply : G → List (Entry A Y) → A → Y) (stands
       )
 
   pub notes : (slots id : ℕ) (me : SeatState A Y G M) (e : Entry A Y) → me.0.out ≡ true → trail_of me.1 ≡ (me.0.opening ++ me.0.base) ++ e ∷ [] → e.caller ≡ me.0.number
-      → ((settings' : G) → me.0.settings ≡ Some settings' → e.say ≡ reply settings' (me.0.opening ++ me.0.base) e.ask) → length (me.0.opening ++ me.0.base) + 1 < 2 ^ 62
+      → ((settings' : G) → me.0.settings ≡ Some settings' → reply settings' (me.0.opening ++ me.0.base) e.ask e.say) → length (me.0.opening ++ me.0.base) + 1 < 2 ^ 62
       → Allows Rule slots id me 0 (λ n. (n + 1) % 2 ^ 64) (noted reply (step slots 0 1 0 none) me)
   notes slots id me e out trail by says fits_in s r deep at small =
       let v = me.0 in let f = r.seats id v at in let has = f.has_out out in let its = f.has_turn has.0 in let own = f.owns its.0 in let known = f.knows its.0 in
@@ -535,7 +536,7 @@ module _ {A Y G M : Type 0} (reply : G → List (Entry A Y) → A → Y) (stands
       let longer : (opening ++ r.later) ++ e ∷ [] ≡ opening ++ now = append_assoc opening r.later (e ∷ []) in
       let more : length (opening ++ now) ≡ length (opening ++ r.later) + 1 = sym (ap length longer) ∙ length-append (opening ++ r.later) (e ∷ []) in
       let low : length (opening ++ r.later) + 1 < 2 ^ 62 = subst (λ (l : L). length l + 1 < 2 ^ 62) log fits_in in
-      let legal : IsHistory (reply settings) (opening ++ now) = subst (IsHistory (reply settings)) longer (history_more (reply settings) (opening ++ r.later) e r.history (says settings own.1 ∙ ap (λ (l : L). reply settings l e.ask) log)) in
+      let legal : IsHistory (reply settings) (opening ++ now) = subst (IsHistory (reply settings)) longer (history_more (reply settings) (opening ++ r.later) e r.history (subst (λ (l : L). reply settings l e.ask e.say) log (says settings own.1))) in
       let others : (n x : ℕ) → x ≢ id + 2 → r.owner n ≡ x → calls_of n now ≡ calls_of n r.later = λ n x ne is. calls_same n r.later e (λ z. ne (sym is ∙ (ap r.owner (sym z ∙ by) ∙ own.0))) in
       let mine : calls_of v.number now ≡ v.mine ++ e ∷ [] = calls_more v.number r.later e by ∙ ap (λ (l : L). l ++ e ∷ []) known.1 in
       let between : L = known.0.0 in

@@ -86,13 +86,13 @@ module _ {A Y G : Type 0} where
 
 module _ {A Y G M : Type 0} where
   -- the turn was used for one call, and is free again
-  abbrev pub HasWorked : (G → List (Entry A Y) → A → Y) → SeatView A Y G → A → Y → SeatState A Y G M → Type 0
+  abbrev pub HasWorked : (G → List (Entry A Y) → A → Y → Type 0) → SeatView A Y G → A → Y → SeatState A Y G M → Type 0
   HasWorked reply v ask say m' =
       (between : List (Entry A Y))
       × (m' ≡ (called v between (entry v.number ask say), []))
       × Grows reply v.number v.settings v.opening v.since v.mine between (entry v.number ask say)
 
-module _ {A Y G : Type 0} (reply : G → List (Entry A Y) → A → Y) where
+module _ {A Y G : Type 0} (reply : G → List (Entry A Y) → A → Y → Type 0) where
   -- a call: what the pass has seen ends with its entry, which is the last of its calls. Tries for the turn may have
   -- failed before.
   abbrev pub HasCalled : PassView A Y G → A → Y → PassView A Y G → Type 0

@@ -66,7 +66,7 @@ module _ {A Y G M : Type 0} where
   abbrev pub homed : Bool → Kept M A Y G → List (maybe.Option (Option (Kept M A Y G)))
   homed away kept = (if away then none else some (Some kept)) ∷ []
 
-module _ {A Y G M : Type 0} (reply : G → List (Entry A Y) → A → Y) (stands : M → List (Entry A Y) → Type 0) (settings_of : M → G) where
+module _ {A Y G M : Type 0} (reply : G → List (Entry A Y) → A → Y → Type 0) (stands : M → List (Entry A Y) → Type 0) (settings_of : M → G) where
   -- a machine with its trail, which is this log, a history for which the machine stands
   pub record Stands (settings : G) (log : List (Entry A Y)) (kept : Kept M A Y G) : Type 0 where
     pub trail : kept.trail.entries ≡ log

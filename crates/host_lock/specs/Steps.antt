@@ -56,7 +56,7 @@ module _ {A Y G : Type 0} where
 
   -- past the opening list the calls of this number are the old ones and e, and all that was seen is a history of the
   -- one-thread machine
-  abbrev pub Grows : (G → List (Entry A Y) → A → Y) → ℕ → Option G → List (Entry A Y) → List (Entry A Y) → List (Entry A Y) → List (Entry A Y) → Entry A Y → Type 0
+  abbrev pub Grows : (G → List (Entry A Y) → A → Y → Type 0) → ℕ → Option G → List (Entry A Y) → List (Entry A Y) → List (Entry A Y) → List (Entry A Y) → Entry A Y → Type 0
   Grows reply number settings opening since mine between e =
       (calls_of number (since ++ (between ++ e ∷ [])) ≡ mine ++ e ∷ [])
       × ((s : G) × (settings ≡ Some s) × IsHistory (reply s) (opening ++ (since ++ (between ++ e ∷ []))))
@@ -89,7 +89,7 @@ module _ {A Y G M : Type 0} where
   trail_of [] = []
   trail_of (x ∷ xs) = trail_in x.1
 
-module _ {A Y G M : Type 0} (reply : G → List (Entry A Y) → A → Y) (stands : M → List (Entry A Y) → Type 0) (settings_of : M → G) where
+module _ {A Y G M : Type 0} (reply : G → List (Entry A Y) → A → Y → Type 0) (stands : M → List (Entry A Y) → Type 0) (settings_of : M → G) where
   -- swap out: the machine was taken, which stands for the history
   abbrev pub took : StepOf A Y G M → SeatState A Y G M → ℕ → SeatState A Y G M → Type 0
   took s m n m' = (later : List (Entry A Y)) × (kept : Kept M A Y G) × (m' ≡ (holding m.0 later, (0, Some kept) ∷ m.1))
@@ -105,11 +105,11 @@ module _ {A Y G M : Type 0} (reply : G → List (Entry A Y) → A → Y) (stands
   MaySwapIn m = (kept : Kept M A Y G) × (m.1 ≡ (0, Some kept) ∷ []) × (kept.trail.entries ≡ m.0.opening ++ m.0.base)
       × IsKept reply stands settings_of kept.machine (m.0.opening ++ m.0.base) × (m.0.settings ≡ Some (settings_of kept.machine))
 
-module _ {A Y G M : Type 0} (reply : G → List (Entry A Y) → A → Y) where
+module _ {A Y G M : Type 0} (reply : G → List (Entry A Y) → A → Y → Type 0) where
   -- the trail in hand is the history with an entry of this pass, which has the machine's reply
   abbrev pub MayNote : SeatState A Y G M → Type 0
   MayNote m = (e : Entry A Y) × (trail_of m.1 ≡ (m.0.opening ++ m.0.base) ++ e ∷ []) × (e.caller ≡ m.0.number)
-      × ((settings : G) → m.0.settings ≡ Some settings → e.say ≡ reply settings (m.0.opening ++ m.0.base) e.ask)
+      × ((settings : G) → m.0.settings ≡ Some settings → reply settings (m.0.opening ++ m.0.base) e.ask e.say)
       × (length (m.0.opening ++ m.0.base) + 1 < 2 ^ 62)
 
   -- the history goes on with the last entry of the trail in hand

@@ -1,5 +1,5 @@
 // A source and a sink in memory that move a few bytes a call and fail at the calls listed.
-ghost use Rattle.std.specs.Prelude.{◌≡◌, ◌↔◌, ◌<◌, ◌≤◌, ◌+◌, ◌++◌, [], List, ℕ, Some, length, take, drop, min, IfOk, OnOk, OnErr, IsErr, Contains};
+ghost use Rattle.std.specs.Prelude.{⊤, ◌≡◌, ◌↔◌, ◌<◌, ◌≤◌, ◌+◌, ◌++◌, [], List, ℕ, Some, length, take, drop, min, IfOk, OnOk, OnErr, IsErr, Contains};
 
 use super::{Failed, Sink, Source, WriteFault};
 use std::alloc::Global;
@@ -69,6 +69,8 @@ impl Source for MemorySource {
     ghost left = { λ s. Some s.left };
 
     ghost faults = { λ s. s.faults };
+
+    ghost may_read = { λ _. ⊤ };
 
     /// Fails exactly at the calls listed; else as many bytes as a step, what is left and the room
     /// allow.
@@ -152,6 +154,8 @@ impl Sink for MemorySink {
     ghost taken = { λ s. Some s.taken };
 
     ghost faults = { λ s. s.faults };
+
+    ghost may_write = { λ _. ⊤ };
 
     /// Fails exactly at the calls listed; else as many bytes as a step and the piece allow, or none
     /// where there is no memory for them.

@@ -1,5 +1,5 @@
 // The readers and writers of the standard library as a source and a sink, which tell no bytes.
-ghost use Rattle.std.specs.Prelude.{◌≡◌, None};
+ghost use Rattle.std.specs.Prelude.{⊤, ◌≡◌, None};
 
 use super::{Failed, Sink, Source, WriteFault};
 use std::io::{ErrorKind, Read, Write};
@@ -36,6 +36,8 @@ impl<R: Read> Source for StdSource<R> {
     ghost left = { λ _. None };
 
     ghost faults = { λ count. count };
+
+    ghost may_read = { λ _. ⊤ };
 
     /// An interrupted read is made again, at most 1,000 times in a row, and is then a fault.
     fn read(&mut self, into: &mut [u8]) -> Result<usize, Failed> {
@@ -82,6 +84,8 @@ impl<W: Write> Sink for StdSink<W> {
     ghost taken = { λ _. None };
 
     ghost faults = { λ count. count };
+
+    ghost may_write = { λ _. ⊤ };
 
     /// An interrupted write is made again, at most 1,000 times in a row, and is then a fault. So is
     /// a write that takes nothing of a nonempty piece.

@@ -1,5 +1,5 @@
 // A source and a sink in memory that never fail.
-ghost use Rattle.std.specs.Prelude.{◌≡◌, ◌≢◌, ◌++◌, [], List, ℕ, Some, length, take, min, IfOk, OnOk, OnErr};
+ghost use Rattle.std.specs.Prelude.{⊤, ◌≡◌, ◌≢◌, ◌++◌, [], List, ℕ, Some, length, take, min, IfOk, OnOk, OnErr};
 
 use super::memory::copy_part;
 use super::{Failed, Sink, Source, WriteFault};
@@ -36,6 +36,8 @@ impl Source for SteadySource {
     ghost left = { λ s. Some s };
 
     ghost faults = { λ _. 0 };
+
+    ghost may_read = { λ _. ⊤ };
 
     /// As many bytes as are left and have room.
     fn read(&mut self, into: &mut [u8]) -> Result<usize, Failed>
@@ -85,6 +87,8 @@ impl Sink for SteadySink {
     ghost taken = { λ s. Some s };
 
     ghost faults = { λ _. 0 };
+
+    ghost may_write = { λ _. ⊤ };
 
     /// Takes the whole piece, or nothing where there is no memory for it.
     fn write(&mut self, piece: &[u8]) -> Result<usize, WriteFault>

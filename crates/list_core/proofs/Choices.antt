@@ -5,6 +5,11 @@ use Rattle.std.proofs.lemmas.Bool.{false≢true}
 use Rattle.std.proofs.lemmas.Option.{none-some, same_Some}
 use Rattle.list_core.specs.Choices.{when, first_of}
 
+-- what is not true is false
+pub not_true : (b : Bool) → (b ≡ true → ⊥) → b ≡ false
+not_true true h = absurd (h refl)
+not_true false h = refl
+
 -- a choice of which the test says that there is none, is none
 pub is_none_true : {X : Type 0} (choice : Option X) → is_none choice ≡ true → choice ≡ None
 is_none_true None is = refl

@@ -1,6 +1,6 @@
 -- The elements at the places of a list.
-use Rattle.std.proofs.Common.{◌≡◌, ℕ, zero, suc, ◌+◌, ◌≤◌, ◌<◌, ◌⊎◌, inl, inr, ⊎_elim, List, [], ◌∷◌, ◌++◌, length, take, drop, Some, refl, sym, ap, ◌∙◌, subst, arith}
-use Rattle.std.specs.Prelude.{slice_get, All}
+use Rattle.std.proofs.Common.{◌≡◌, ◌≢◌, ℕ, zero, suc, ◌+◌, ◌≤◌, ◌<◌, ◌⊎◌, inl, inr, ⊎_elim, List, [], ◌∷◌, ◌++◌, length, take, drop, Some, refl, sym, ap, ◌∙◌, subst, arith}
+use Rattle.std.specs.Prelude.{slice_get, slice_set, slice_index_or, All}
 use Rattle.std.specs.List.{Contains}
 use Rattle.std.proofs.lemmas.Option.{none-some, same_Some, slice_get_within, get_or_from_slice_get, slice_get_read}
 use Rattle.list_core.specs.Members.{In}
@@ -92,3 +92,23 @@ pub is_front : {X : Type 0} (xs ys : List X) → ((p : ℕ) (x : X) → slice_ge
 is_front [] ys stands = refl
 is_front (x ∷ xs) [] stands = absurd (none-some x (stands 0 x refl))
 is_front (x ∷ xs) (y ∷ ys) stands = ap (λ z. z ∷ xs) (sym (same_Some y x (stands 0 x refl))) ∙ ap (λ l. y ∷ l) (is_front xs ys (λ p z there. stands (suc p) z there))
+
+-- an element that was put at a place is not at another one
+pub set_else : {X : Type 0} (xs : List X) (place other : ℕ) (x : X) → other ≢ place → slice_get (slice_set xs place x) other ≡ slice_get xs other
+set_else [] place other x differs = refl
+set_else (y ∷ xs) zero zero x differs = absurd (differs refl)
+set_else (y ∷ xs) zero (suc other) x differs = refl
+set_else (y ∷ xs) (suc place) zero x differs = refl
+set_else (y ∷ xs) (suc place) (suc other) x differs = set_else xs place other x (λ same. differs (ap suc same))
+
+-- it is at its own
+pub set_here : {X : Type 0} (xs : List X) (place : ℕ) (x : X) → place < length xs → slice_get (slice_set xs place x) place ≡ Some x
+set_here [] place x within = absurd (omega arith)
+set_here (y ∷ xs) zero x within = refl
+set_here (y ∷ xs) (suc place) x within = set_here xs place x (omega arith)
+
+-- past the end of a list there is the default
+pub past_end : {X : Type 0} (xs : List X) (i : ℕ) (d : X) → length xs ≤ i → slice_index_or xs i d ≡ d
+past_end [] i d le = refl
+past_end (x ∷ xs) zero d le = absurd (omega (arith, le))
+past_end (x ∷ xs) (suc i) d le = past_end xs i d (omega (arith, le))

@@ -5,7 +5,8 @@ ghost use Rattle.dc_host.specs.HostDoors.{bare};
 ghost use Rattle.dc_host.specs.Hosts.{new_row};
 
 use dc_centre::Centre;
-use dc_host::{HostDoor, Hosts, KeptDoor, centres_of};
+use dc_door::{KeptDoor, centres_of};
+use dc_host::{HostDoor, Hosts};
 use dc_talk::{Ask, Door, Say, SharedRecord};
 use host_lock::Pass;
 use ids_core::Dot;

@@ -1,17 +1,11 @@
-// Rounds of workers, over a door that answers from a list, and over links on one thread.
-ghost use Rattle.std.specs.Prelude.{◌≡◌, IfOk};
+// Rounds of workers, over a door that answers from a list.
 ghost use Rattle.dc_worker.specs.Inlets.{HasCount};
 
 use dc_talk::{Ask, LinkFault, ListDoor, Log, Records, Say, Sent, SharedRecord};
-use dc_worker::{
-    Inlet, bring, bring_rest, drain_round, mail_for, prune_round, report_round, send_round,
-    take_round,
-};
+use dc_worker::{Inlet, bring, bring_rest, mail_for, prune_round, report_round};
 use ids_core::Dot;
-use mail_link::{Giver, Link};
 use samples::{counter, inc_tx, pair};
 use std::alloc::Global;
-use std::sync::Wait;
 use std::test::Fail;
 use tx_core::Record;
 use vv_core::Stamp;
@@ -46,7 +40,7 @@ fn records(alloc: Global, after: u64, last: u64) -> Result<Vec<Sent>, Fail> {
 }
 
 // A door that gives two answers, and behind them those of stopped centres.
-fn door_of(alloc: Global, first: Say, second: Say) -> Result<ListDoor, Fail> {
+pub(crate) fn door_of(alloc: Global, first: Say, second: Say) -> Result<ListDoor, Fail> {
     let mut says = Vec::new(alloc);
     says.push(first)?;
     says.push(second)?;
@@ -54,12 +48,12 @@ fn door_of(alloc: Global, first: Say, second: Say) -> Result<ListDoor, Fail> {
 }
 
 // An answer that tells what a centre has: no record of centre 1.
-fn has_none() -> Say {
+pub(crate) fn has_none() -> Say {
     Say::Vector { vector: pair(0, 0) }
 }
 
 // An answer with the first records of centre 1, up to this number.
-fn sends(alloc: Global, last: u64) -> Result<Say, Fail> {
+pub(crate) fn sends(alloc: Global, last: u64) -> Result<Say, Fail> {
     let list = Records::from_vec(records(alloc, 0, last)?);
     Ok(Say::Records { list })
 }
@@ -77,7 +71,7 @@ fn number_of(ask: &Ask) -> u64 {
 }
 
 // The asks that went to a centre, in order.
-fn asks(alloc: Global, door: &ListDoor, centre: u8) -> Result<Vec<u64>, Fail> {
+pub(crate) fn asks(alloc: Global, door: &ListDoor, centre: u8) -> Result<Vec<u64>, Fail> {
     let mut numbers = Vec::new(alloc);
     for (at, entry) in door.entries() {
         if *at == centre {
@@ -137,61 +131,5 @@ fn a_reporter_tells_and_a_pruner_prunes(rt: HostRuntime) -> Result<(), Fail> {
     prune_round(&mut door, 1, &mut log)?;
     assert!(rt; asks(alloc, &door, 1)?.as_slice() == [101, 103].as_slice());
     assert!(rt; asks(alloc, &door, 2)?.as_slice() == [102].as_slice());
-    Ok(())
-}
-
-// A link on which so many records of centre 1 were put by a round of its sender.
-fn sent<R: Wait>(
-    rt: &R,
-    alloc: Global,
-    link: &Link<Sent>,
-    giver: Giver<Sent>,
-    last: u64,
-) -> Result<(u32, Giver<Sent>), Fail>
-    requires { giver.link ≡ link.now }
-    ensures { IfOk result (λ r. r.1.link ≡ link.now) }
-{
-    let mut giver = giver;
-    let mut door = door_of(alloc, has_none(), sends(alloc, last)?)?;
-    let mut log = Log::new(alloc, 1);
-    let number = send_round(rt, &mut door, 1, 2, link, &mut giver, &mut log)?;
-    Ok((number, giver))
-}
-
-#[test]
-fn rounds_over_a_link_take_64_and_then_the_rest(rt: HostRuntime) -> Result<(), Fail> {
-    let alloc = rt.alloc();
-    let (link, giver, taker) = Link::new(alloc)?;
-    let (number, giver) = sent(&rt, alloc, &link, giver, 70)?;
-    assert_eq!(rt; number, 70);
-    let mut taker = taker;
-    let mut door = ListDoor::new(alloc, Vec::new(alloc));
-    let mut log = Log::new(alloc, 1);
-    let mut inlet = Inlet::new();
-    let full = take_round(&rt, &mut door, 2, &mut inlet, &link, &mut taker, &mut log)?;
-    assert_eq!(rt; (full, taker.misses()), (64, 0));
-    let rest = take_round(&rt, &mut door, 2, &mut inlet, &link, &mut taker, &mut log)?;
-    assert_eq!(rt; (rest, taker.misses()), (6, 1));
-    assert_eq!(rt; asks(alloc, &door, 2)?.len(), 70);
-    assert_eq!(rt; link.close(&rt, giver, taker), 0);
-    Ok(())
-}
-
-#[test]
-fn a_closing_round_takes_all_and_what_is_held(rt: HostRuntime) -> Result<(), Fail> {
-    let alloc = rt.alloc();
-    let (link, giver, taker) = Link::new(alloc)?;
-    let (_, giver) = sent(&rt, alloc, &link, giver, 70)?;
-    let mut taker = taker;
-    let mut door = ListDoor::new(alloc, Vec::new(alloc));
-    let mut log = Log::new(alloc, 1);
-    let mut inlet = Inlet::new();
-    inlet.set(LinkFault::Hold { every: 70 });
-    let all = drain_round(
-        &rt, &mut door, 2, &mut inlet, &link, &giver, &mut taker, &mut log,
-    )?;
-    assert_eq!(rt; (all, taker.misses()), (70, 0));
-    assert_eq!(rt; asks(alloc, &door, 2)?.len(), 70);
-    assert_eq!(rt; link.close(&rt, giver, taker), 0);
     Ok(())
 }

@@ -5,6 +5,8 @@
 #[cfg(test)]
 mod dc_host_tests;
 #[cfg(test)]
+mod dc_links_tests;
+#[cfg(test)]
 mod dc_worker_tests;
 #[cfg(test)]
 mod held;

@@ -4,7 +4,8 @@ ghost use Rattle.dc_host.specs.Hosts.{new_rows, rows_of};
 ghost use Rattle.lock_tests.specs.Callers.{IsCaller};
 
 use dc_centre::Centre;
-use dc_host::{HostDoor, Hosts, centres_of};
+use dc_door::centres_of;
+use dc_host::{HostDoor, Hosts};
 use dc_talk::{Ask, Door, Say};
 use host_lock::Pass;
 use ids_core::NoMemory;

@@ -14,10 +14,10 @@ module _ {A Y : Type 0} where
   entry caller ask say = record { caller = caller; ask = ask; say = say }
 
   -- each reply is the machine's, over the entries before it
-  abbrev pub IsHistory : (List (Entry A Y) → A → Y) → List (Entry A Y) → Type 0
-  IsHistory reply log = Each (λ before e. e.say ≡ reply before e.ask) log
+  abbrev pub IsHistory : (List (Entry A Y) → A → Y → Type 0) → List (Entry A Y) → Type 0
+  IsHistory reply log = Each (λ before e. reply before e.ask e.say) log
 
 -- the machine stands for the entries, and they are a history under its settings
-pub record IsKept {M A Y G : Type 0} (reply : G → List (Entry A Y) → A → Y) (stands : M → List (Entry A Y) → Type 0) (settings : M → G) (machine : M) (log : List (Entry A Y)) : Type 0 where
+pub record IsKept {M A Y G : Type 0} (reply : G → List (Entry A Y) → A → Y → Type 0) (stands : M → List (Entry A Y) → Type 0) (settings : M → G) (machine : M) (log : List (Entry A Y)) : Type 0 where
   pub stands_for : stands machine log
   pub history : IsHistory (reply (settings machine)) log

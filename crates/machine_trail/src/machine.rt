@@ -15,8 +15,8 @@ pub struct Entry<A, Y> {
 }
 
 /// A machine that answers one ask after another on one thread. Contracts see its settings, plain data that no call
-/// changes; its reply to an ask, as a definition over the settings and the list of entries before; and which lists
-/// of entries it stands for.
+/// changes; which replies it may give to an ask, as a relation over the settings and the list of entries before; and
+/// which lists of entries it stands for.
 pub trait Machine: Send + Drop {
     /// What it is asked.
     type Ask: Send + Drop;
@@ -34,8 +34,8 @@ pub trait Machine: Send + Drop {
     // Its settings.
     ghost settings: { Self → Self.Settings };
 
-    // The reply to an ask, over the settings and the entries before it.
-    ghost reply: { Self.Settings → List (Entry Self.Ask Self.Say) → Self.Ask → Self.Say };
+    // Which reply an ask may have, over the settings and the entries before it.
+    ghost reply: { Self.Settings → List (Entry Self.Ask Self.Say) → Self.Ask → Self.Say → Type 0 };
 
     // Which lists of entries it stands for.
     ghost stands: { Self → List (Entry Self.Ask Self.Say) → Type 0 };
@@ -44,7 +44,7 @@ pub trait Machine: Send + Drop {
     /// at its end. After an `Err` it is as it was.
     fn step(&mut self, ask: &Self::Ask) -> Result<(Self::Say, Self::Say), NoMemory>
         ensures same { settings self.new ≡ settings self.old }
-        ensures one { IfOk result (λ r. (log : List (Entry Self.Ask Self.Say)) → stands self.old log → (r.0 ≡ reply (settings self.old) log ask.now) × (r.1 ≡ r.0)) }
+        ensures one { IfOk result (λ r. (log : List (Entry Self.Ask Self.Say)) → stands self.old log → reply (settings self.old) log ask.now r.0 × (r.1 ≡ r.0)) }
         ensures after { IfOk result (λ r. (log : List (Entry Self.Ask Self.Say)) (caller : _) → stands self.old log → stands self.new (log ++ entry caller ask.now r.0 ∷ [])) }
         ensures none { OnErr result (self.new ≡ self.old) };
 
@@ -56,22 +56,22 @@ pub trait Machine: Send + Drop {
 /// What a machine was asked and what it answered, in order. Contracts see beside the entries a number, `spare`:
 /// for so many more there is room.
 #[derive(Drop)]
-pub struct Trail<M: Machine> {
-    items: Vec<Entry<M::Ask, M::Say>>,
+pub struct Trail<A, Y> {
+    items: Vec<Entry<A, Y>>,
 }
 
-impl<M: Machine> Model for Trail<M> {
+impl<A, Y> Model for Trail<A, Y> {
     ghost use Rattle.std.specs.Prelude.{◌-◌, length, vec_capacity};
     ghost use Rattle.machine_trail.specs.History.{TrailView};
 
-    ghost Value = { TrailView M.Ask M.Say };
+    ghost Value = { TrailView A Y };
 
     ghost view = { λ t. record { entries = t.items.items; spare = vec_capacity t.items - length t.items.items } };
 }
 
-impl<M: Machine> Trail<M> {
+impl<A: Drop, Y: Drop> Trail<A, Y> {
     /// The empty trail. It takes no memory.
-    pub fn new(alloc: Global) -> Trail<M>
+    pub fn new(alloc: Global) -> Trail<A, Y>
         ensures { result.entries ≡ [] }
     {
         Trail {
@@ -87,14 +87,14 @@ impl<M: Machine> Trail<M> {
     }
 
     /// The entries in order.
-    pub fn as_slice(&self) -> &[Entry<M::Ask, M::Say>]
+    pub fn as_slice(&self) -> &[Entry<A, Y>]
         ensures { result.now ≡ self.now.entries }
     {
         self.items.as_slice()
     }
 
     /// The entry at a place counted from 0: its caller, ask and reply. None exactly where the trail ends before it.
-    pub fn get(&self, at: usize) -> Option<(u32, &M::Ask, &M::Say)>
+    pub fn get(&self, at: usize) -> Option<(u32, &A, &Y)>
         ensures some { IfSome result (λ e. slice_get self.now.entries at ≡ Some (entry e.0 e.1.now e.2.now)) }
         ensures none { IsNone result ↔ (length self.now.entries ≤ at) }
     {
@@ -115,7 +115,7 @@ impl<M: Machine> Trail<M> {
 
     /// Puts an entry at the end. Where there is room it takes no memory. After an `Err` the entries are as they
     /// were.
-    pub fn push(&mut self, caller: u32, ask: M::Ask, say: M::Say) -> Result<(), NoMemory>
+    pub fn push(&mut self, caller: u32, ask: A, say: Y) -> Result<(), NoMemory>
         ensures added { OnOk result (self.new.entries ≡ self.old.entries ++ entry caller ask say ∷ []) }
         ensures sure { 0 < self.old.spare → IsOk result }
         ensures none { OnErr result (self.new.entries ≡ self.old.entries) }
@@ -129,7 +129,7 @@ impl<M: Machine> Trail<M> {
 #[derive(Drop)]
 pub struct Kept<M: Machine> {
     pub machine: M,
-    pub trail: Trail<M>,
+    pub trail: Trail<M::Ask, M::Say>,
 }
 
 // A history stays shorter than 2^62.
@@ -155,7 +155,7 @@ impl<M: Machine> Kept<M> {
         requires { IsKept M.reply M.stands M.settings self.old.machine self.old.trail.entries }
         ensures kept { IsKept M.reply M.stands M.settings self.new.machine self.new.trail.entries }
         ensures same { M.settings self.new.machine ≡ M.settings self.old.machine }
-        ensures reply { IfOk result (λ say. say ≡ M.reply (M.settings self.old.machine) self.old.trail.entries ask.now) }
+        ensures reply { IfOk result (λ say. M.reply (M.settings self.old.machine) self.old.trail.entries ask.now say) }
         ensures trail { IfOk result (λ say. self.new.trail.entries ≡ self.old.trail.entries ++ entry caller ask.now say ∷ []) }
         ensures short { OnOk result (length self.new.trail.entries < 2 ^ 62) }
         ensures none { OnErr result ((self.new.machine ≡ self.old.machine) × (self.new.trail.entries ≡ self.old.trail.entries)) }

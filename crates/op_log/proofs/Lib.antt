@@ -1,6 +1,5 @@
-mod Lines
-mod Ops
 pub mod Items
+pub mod Cells
 mod Numbers
 mod Owns
 mod Placed

@@ -1,59 +1,38 @@
 -- Chains that the operations of some transactions are taken out of.
-use Rattle.std.proofs.Common.{◌≡◌, ◌≤◌, ◌<◌, ℕ, zero, suc, ◌+◌, ltb, Bool, true, false, cond, ◌⊎◌, inl, inr, ⊎_elim, List, [], ◌∷◌, ◌++◌, length, get_or, refl, sym, ap, ◌∙◌, subst, arith}
-use Rattle.std.specs.Prelude.{◌&&◌, ◌==◌, not, filter, Vec}
+use Rattle.std.proofs.Common.{◌≡◌, ◌≤◌, ◌<◌, ℕ, zero, suc, ◌+◌, ltb, Bool, true, false, cond, ◌⊎◌, inl, inr, ⊎_elim, List, [], ◌∷◌, ◌++◌, length, map, get_or, refl, sym, ap, ◌∙◌, subst, arith}
+use Rattle.std.specs.Prelude.{◌&&◌, ◌==◌, not, filter}
 use Rattle.std.specs.Bool.{OnFalse}
 use Rattle.std.specs.List.{list_any}
-use Rattle.std.specs.BTreeMap.{is_at}
 use Rattle.std.proofs.lemmas.Bool.{cases_Bool, cases_lt, false≢true, and_parts, and_from, or_parts, eq-eqb, ltb-true, ltb-false}
 use Rattle.std.proofs.lemmas.Bool.Decides.{Decides-eqb}
-use Rattle.std.proofs.lemmas.List.Elements.{filter-append}
 use Rattle.std.specs.List.Sorted.{IsPartitionPoint, IsPartitionedBy}
 use Rattle.std.proofs.lemmas.List.Sorted.{IsPartitionedBy-ltb}
 use Rattle.std.proofs.lemmas.Option.{slice_get_within, get_or_from_slice_get, slice_get-get_or, same_Some}
 use Rattle.list_core.specs.Members.{In}
 use Rattle.list_core.proofs.Gets.{In_get}
-use Rattle.list_core.proofs.Members.{In_either, In_from_filter, In_flat_map, filter_all}
+use Rattle.list_core.proofs.Members.{In_either, In_from_filter, In_map, In_flat_map, In_from_flat_map, filter_all}
 use Rattle.ids_core.specs.declared.ids.Dot.{Dot}
+use Rattle.ids_core.specs.declared.ids.Mark.{Mark}
 use Rattle.ids_core.specs.declared.object.ObjectId.{ObjectId}
 use Rattle.ids_core.specs.Ids.{same_object}
 use Rattle.ids_core.specs.Same.{same_object-true, same_object-same}
-use Rattle.ids_core.specs.Orders.{object_cmp, same_object-by_cmp}
+use Rattle.tx_core.specs.declared.op.Op.{Op}
 use Rattle.tx_core.specs.declared.tx.Update.{Update}
+use Rattle.tx_core.specs.Operations.{mark, ops_from, ops_of}
+use Rattle.object_lists.specs.Listed.{listed}
 use Rattle.op_log.specs.declared.chains.Cell.{Cell}
 use Rattle.op_log.specs.declared.logged.Logged.{Logged}
 use Rattle.stamp_index.specs.declared.places.Place.{Place}
-use Rattle.op_log.specs.Logs.{cell, cells_from, cells_of, chain_of, is_inside, is_inside_at, left_of}
+use Rattle.op_log.specs.Logs.{cell, cells_of, chain_of, is_inside, is_inside_at, left_of}
 use Rattle.stamp_index.specs.Places.{reached_of}
 use Rattle.op_log.specs.Places.{IsPlaced}
-use Rattle.op_log.specs.Tables.{listed, stays, Rises, Ascends, Lacks, HasCell, IsSwept, MaySwept}
+use Rattle.op_log.specs.Tables.{stays, Rises, Ascends, Lacks, HasCell, IsSwept, MaySwept}
 use Rattle.stamp_index.proofs.Finds.{finds_none, found_none, found_some}
+use Rattle.op_log.proofs.Cells.{cells_number, chain_passing}
 use Rattle.op_log.proofs.Items.{get_or_In, rises_one, rises_filter}
 use Rattle.op_log.proofs.Reaching.{reached_inside}
 
 -- ---- what stays of a chain
-
--- the operations of a transaction stay together, or go together
-cells_filter : (keeps : ℕ → Bool) (o : ObjectId) (number rank : ℕ) (dot : Dot) (place : ℕ) (us : List Update) → filter (λ c. keeps c.tx) (cells_from o number rank dot place us) ≡ cond (keeps number) (cells_from o number rank dot place us) []
-cells_filter keeps o number rank dot place [] = by (keeps number)
-  where
-    none : List Cell
-    none = []
-
-    by : (b : Bool) → none ≡ cond b none []
-    by true = refl
-    by false = refl
-cells_filter keeps o number rank dot place (u ∷ us) = by (same_object u.object o) (cells_filter keeps o number rank dot (place + 1) us)
-  where
-    rest : List Cell
-    rest = cells_from o number rank dot (place + 1) us
-
-    one : (b : Bool) → filter (λ c. keeps c.tx) rest ≡ cond b rest [] → cond b (cell number rank dot place u.op ∷ filter (λ c. keeps c.tx) rest) (filter (λ c. keeps c.tx) rest) ≡ cond b (cell number rank dot place u.op ∷ rest) []
-    one true is = ap (λ l. cell number rank dot place u.op ∷ l) is
-    one false is = is
-
-    by : (b : Bool) → filter (λ c. keeps c.tx) rest ≡ cond (keeps number) rest [] → filter (λ c. keeps c.tx) (cond b (cell number rank dot place u.op ∷ rest) rest) ≡ cond (keeps number) (cond b (cell number rank dot place u.op ∷ rest) rest) []
-    by true is = one (keeps number) is
-    by false is = is
 
 -- a transaction of the log is found by its number
 inside_member : (w : List ℕ) (items : List Logged) (x : Logged) → Rises items → In x items → is_inside_at w x.number items ≡ is_inside w x
@@ -68,15 +47,7 @@ inside_member w items x rises i = by (is_inside w x) refl
 
 -- what is left of a chain is the chain of what is left
 chain_left : (w : List ℕ) (o : ObjectId) (items part : List Logged) → Rises items → ((x : Logged) → In x part → In x items) → filter (stays w items) (chain_of o part) ≡ chain_of o (left_of w part)
-chain_left w o items [] rises within = refl
-chain_left w o items (x ∷ part) rises within =
-    filter-append (stays w items) (cells_of o x) (chain_of o part)
-    ∙ ap (λ l. l ++ filter (stays w items) (chain_of o part)) (cells_filter (λ n. not (is_inside_at w n items)) o x.number x.tx.rank x.tx.dot 0 x.tx.updates ∙ ap (λ b. cond (not b) (cells_of o x) []) (inside_member w items x rises (within x (inl refl))))
-    ∙ by (is_inside w x) (chain_left w o items part rises (λ y i. within y (inr i)))
-  where
-    by : (b : Bool) → filter (stays w items) (chain_of o part) ≡ chain_of o (left_of w part) → cond (not b) (cells_of o x) [] ++ filter (stays w items) (chain_of o part) ≡ chain_of o (cond (not b) (x ∷ left_of w part) (left_of w part))
-    by true rest = rest
-    by false rest = ap (λ l. cells_of o x ++ l) rest
+chain_left w o items part rises within = chain_passing (λ number. not (is_inside_at w number items)) (λ x. not (is_inside w x)) o part (λ x i. ap not (inside_member w items x rises (within x i)))
 
 -- what stays of a whole chain
 pub swept_chain : (w : List ℕ) (o : ObjectId) (items : List Logged) → Rises items → filter (stays w items) (chain_of o items) ≡ chain_of o (left_of w items)
@@ -92,16 +63,6 @@ swept_again w o items rises = chain_left w o items (left_of w items) rises (λ x
 
 -- ---- the numbers of a chain do not fall
 
--- the operations of a transaction have its number
-number_of_cell : (o : ObjectId) (number rank : ℕ) (dot : Dot) (place : ℕ) (us : List Update) (c : Cell) → In c (cells_from o number rank dot place us) → c.tx ≡ number
-number_of_cell o number rank dot place [] c i = absurd i
-number_of_cell o number rank dot place (u ∷ us) c i = go (same_object u.object o) (number_of_cell o number rank dot (place + 1) us c) i
-  where
-    go : (b : Bool) → (In c (cells_from o number rank dot (place + 1) us) → c.tx ≡ number) → In c (cond b (cell number rank dot place u.op ∷ cells_from o number rank dot (place + 1) us) (cells_from o number rank dot (place + 1) us)) → c.tx ≡ number
-    go true rest (inl same) = ap (λ (c : Cell). c.tx) same
-    go true rest (inr j) = rest j
-    go false rest j = rest j
-
 -- operations of one number do not fall, and stand before those of no less numbers
 ascends_before : (number : ℕ) (cells chain : List Cell) → ((c : Cell) → In c cells → c.tx ≡ number) → ((c : Cell) → In c chain → number ≤ c.tx) → Ascends chain → Ascends (cells ++ chain)
 ascends_before number [] chain own above ascends = ascends
@@ -112,15 +73,14 @@ ascends_before number (c ∷ cells) chain own above ascends = (
 
 -- an operation of a chain is of a transaction
 cell_from : (o : ObjectId) (items : List Logged) (c : Cell) → In c (chain_of o items) → (x : Logged) × In x items × (c.tx ≡ x.number)
-cell_from o [] c i = absurd i
-cell_from o (x ∷ items) c i = ⊎_elim (λ j. (x, inl refl, number_of_cell o x.number x.tx.rank x.tx.dot 0 x.tx.updates c j)) (λ j. let r = cell_from o items c j in (r.0, inr r.1, r.2)) (In_either (cells_of o x) (chain_of o items) c i)
+cell_from o items c i = let r = In_from_flat_map (cells_of o) items c i in (r.0, r.1, cells_number o r.0 c r.2)
 
 chain_ascends : (o : ObjectId) (items : List Logged) → Rises items → Ascends (chain_of o items)
 chain_ascends o [] rises = tt
-chain_ascends o (x ∷ items) rises = ascends_before x.number (cells_of o x) (chain_of o items) (λ c i. number_of_cell o x.number x.tx.rank x.tx.dot 0 x.tx.updates c i) (λ c i. let r = cell_from o items c i in let lt = rises.0 r.0 r.1 in let same = r.2 in omega (arith, lt, same)) (chain_ascends o items rises.1)
+chain_ascends o (x ∷ items) rises = ascends_before x.number (cells_of o x) (chain_of o items) (λ c i. cells_number o x c i) (λ c i. let r = cell_from o items c i in let lt = rises.0 r.0 r.1 in let same = r.2 in omega (arith, lt, same)) (chain_ascends o items rises.1)
 
 -- whole or swept, it ascends
-pub may_ascends : {A : Type 0} (w : List ℕ) (items : List Logged) (chains : List (ObjectId × Vec Cell A)) (o : ObjectId) → Rises items → MaySwept w items chains → Ascends (listed chains o)
+pub may_ascends : (w : List ℕ) (items : List Logged) (chains : List (ObjectId × List Cell)) (o : ObjectId) → Rises items → MaySwept w items chains → Ascends (listed chains o)
 may_ascends w items chains o rises may = ⊎_elim
     (λ whole. subst Ascends (sym whole) (chain_ascends o items rises))
     (λ swept. subst Ascends (sym swept) (chain_ascends o (left_of w items) (rises_filter (λ x. not (is_inside w x)) items rises)))
@@ -165,28 +125,29 @@ parted_by chain n ascends = IsPartitionedBy-ltb (λ (c : Cell). c.tx) chain n (�
 
 -- ---- an update's operation stands in the chain of its object
 
-cell_there : (number rank : ℕ) (dot : Dot) (place : ℕ) (us : List Update) (u : Update) → In u us → (c : Cell) × In c (cells_from u.object number rank dot place us) × (c.tx ≡ number)
-cell_there number rank dot place [] u i = absurd i
-cell_there number rank dot place (v ∷ us) u i = go (same_object v.object u.object) refl i (λ j. cell_there number rank dot (place + 1) us u j)
+op_there : (rank : ℕ) (dot : Dot) (place : ℕ) (us : List Update) (u : Update) → In u us → (m : Mark × Op) × In m (ops_from u.object rank dot place us)
+op_there rank dot place [] u i = absurd i
+op_there rank dot place (v ∷ us) u i = go (same_object v.object u.object) refl i (λ j. op_there rank dot (place + 1) us u j)
   where
-    rest : List Cell
-    rest = cells_from u.object number rank dot (place + 1) us
+    rest : List (Mark × Op)
+    rest = ops_from u.object rank dot (place + 1) us
 
-    go : (b : Bool) → same_object v.object u.object ≡ b → In u (v ∷ us) → (In u us → (c : Cell) × In c rest × (c.tx ≡ number)) → (c : Cell) × In c (cond b (cell number rank dot place v.op ∷ rest) rest) × (c.tx ≡ number)
-    go true same j later = (cell number rank dot place v.op, inl refl, refl)
+    go : (b : Bool) → same_object v.object u.object ≡ b → In u (v ∷ us) → (In u us → (m : Mark × Op) × In m rest) → (m : Mark × Op) × In m (cond b ((mark rank dot place, v.op) ∷ rest) rest)
+    go true same j later = ((mark rank dot place, v.op), inl refl)
     go false other (inl here) later = absurd (false≢true (sym other ∙ same_object-same v.object u.object (ap (λ (u : Update). u.object) (sym here))))
     go false other (inr j) later = later j
 
 pub has_cell : (items : List Logged) (x : Logged) (u : Update) → In x items → In u x.tx.updates → HasCell items u.object x.number
 has_cell items x u i j =
-    let c = cell_there x.number x.tx.rank x.tx.dot 0 x.tx.updates u j in
-    record { cell = c.0; there = In_flat_map (cells_of u.object) items x c.0 i c.1; is = c.2 }
+    let m = op_there x.tx.rank x.tx.dot 0 x.tx.updates u j in
+    let c = cell x.number m.0 in
+    record { cell = c; there = In_flat_map (cells_of u.object) items x c i (In_map (cell x.number) (ops_of u.object x.tx) m.0 m.1); is = refl }
 
 -- ---- one chain after another
 
-module _ {A : Type 0} (w : List ℕ) (items : List Logged) (rises : Rises items) where
+module _ (w : List ℕ) (items : List Logged) (rises : Rises items) where
   -- after a chain was swept, or left where it has no operation of the number, it is swept
-  pub at_swept : (before after : List (ObjectId × Vec Cell A)) (o : ObjectId) (number : ℕ) → MaySwept w items before → HasCell items o number → (listed after o ≡ filter (stays w items) (listed before o)) ⊎ ((listed after o ≡ listed before o) × Lacks number (listed before o)) → IsSwept w items after o
+  pub at_swept : (before after : List (ObjectId × List Cell)) (o : ObjectId) (number : ℕ) → MaySwept w items before → HasCell items o number → (listed after o ≡ filter (stays w items) (listed before o)) ⊎ ((listed after o ≡ listed before o) × Lacks number (listed before o)) → IsSwept w items after o
   at_swept before after o number may has either = ⊎_elim (λ swept. swept ∙ by (may o)) (λ same. same.0 ∙ old (may o) same.1) either
     where
       by : (listed before o ≡ chain_of o items) ⊎ IsSwept w items before o → filter (stays w items) (listed before o) ≡ chain_of o (left_of w items)
@@ -198,13 +159,13 @@ module _ {A : Type 0} (w : List ℕ) (items : List Logged) (rises : Rises items)
       old (inr swept) lacks = swept
 
   -- the chains of other objects are as they were
-  pub at_others : (before after : List (ObjectId × Vec Cell A)) (o : ObjectId) → IsSwept w items after o → ((q : ObjectId) → is_at (object_cmp o) q ≡ false → listed after q ≡ listed before q) → (q : ObjectId) → (listed after q ≡ listed before q) ⊎ IsSwept w items after q
-  at_others before after o swept apart q = ⊎_elim (λ here. inr (subst (λ q. IsSwept w items after q) (same_object-true o q (same_object-by_cmp o q ∙ here)) swept)) (λ other. inl (apart q other)) (cases_Bool (is_at (object_cmp o) q))
+  pub at_others : (before after : List (ObjectId × List Cell)) (o : ObjectId) → IsSwept w items after o → ((q : ObjectId) → same_object o q ≡ false → listed after q ≡ listed before q) → (q : ObjectId) → (listed after q ≡ listed before q) ⊎ IsSwept w items after q
+  at_others before after o swept apart q = ⊎_elim (λ here. inr (subst (λ q. IsSwept w items after q) (same_object-true o q here) swept)) (λ other. inl (apart q other)) (cases_Bool (same_object o q))
 
-  pub may_after : (before after : List (ObjectId × Vec Cell A)) → MaySwept w items before → ((q : ObjectId) → (listed after q ≡ listed before q) ⊎ IsSwept w items after q) → MaySwept w items after
+  pub may_after : (before after : List (ObjectId × List Cell)) → MaySwept w items before → ((q : ObjectId) → (listed after q ≡ listed before q) ⊎ IsSwept w items after q) → MaySwept w items after
   may_after before after may each q = ⊎_elim (λ same. ⊎_elim (λ whole. inl (same ∙ whole)) (λ swept. inr (same ∙ swept)) (may q)) (λ swept. inr swept) (each q)
 
-  pub kept_after : (before after : List (ObjectId × Vec Cell A)) → ((q : ObjectId) → (listed after q ≡ listed before q) ⊎ IsSwept w items after q) → (q : ObjectId) → IsSwept w items before q → IsSwept w items after q
+  pub kept_after : (before after : List (ObjectId × List Cell)) → ((q : ObjectId) → (listed after q ≡ listed before q) ⊎ IsSwept w items after q) → (q : ObjectId) → IsSwept w items before q → IsSwept w items after q
   kept_after before after each q swept = ⊎_elim (λ same. same ∙ swept) (λ now. now) (each q)
 
 -- ---- all chains
@@ -219,14 +180,14 @@ whole_left w o (x ∷ items) none = go (is_inside w x) refl (whole_left w o item
     go false is rest = ap (λ l. cells_of o x ++ l) rest
 
 -- where no update is on the object, it has no operation there
-no_cells : (o : ObjectId) (number rank : ℕ) (dot : Dot) (place : ℕ) (us : List Update) → list_any (λ u. same_object u.object o) us ≡ false → cells_from o number rank dot place us ≡ []
-no_cells o number rank dot place [] none = refl
-no_cells o number rank dot place (u ∷ us) none =
+no_ops : (o : ObjectId) (rank : ℕ) (dot : Dot) (place : ℕ) (us : List Update) → list_any (λ u. same_object u.object o) us ≡ false → ops_from o rank dot place us ≡ []
+no_ops o rank dot place [] none = refl
+no_ops o rank dot place (u ∷ us) none =
     let parts = or_parts (same_object u.object o) (list_any (λ u. same_object u.object o) us) none in
-    ap (λ b. cond b (cell number rank dot place u.op ∷ cells_from o number rank dot (place + 1) us) (cells_from o number rank dot (place + 1) us)) parts.0 ∙ no_cells o number rank dot (place + 1) us parts.1
+    ap (λ b. cond b ((mark rank dot place, u.op) ∷ ops_from o rank dot (place + 1) us) (ops_from o rank dot (place + 1) us)) parts.0 ∙ no_ops o rank dot (place + 1) us parts.1
 
 -- once the chains of all updates of what is reached are swept, all are
-pub all_swept : {A : Type 0} (w : List ℕ) (items : List Logged) (places : List Place) (chains : List (ObjectId × Vec Cell A)) → IsPlaced places items → MaySwept w items chains → ((centre : ℕ) → centre ≤ length w → (p : Place) → In p (reached_of w centre places) → (x : Logged) → In x items → x.number ≡ p.number → (u : Update) → In u x.tx.updates → IsSwept w items chains u.object) → (o : ObjectId) → IsSwept w items chains o
+pub all_swept : (w : List ℕ) (items : List Logged) (places : List Place) (chains : List (ObjectId × List Cell)) → IsPlaced places items → MaySwept w items chains → ((centre : ℕ) → centre ≤ length w → (p : Place) → In p (reached_of w centre places) → (x : Logged) → In x items → x.number ≡ p.number → (u : Update) → In u x.tx.updates → IsSwept w items chains u.object) → (o : ObjectId) → IsSwept w items chains o
 all_swept w items places chains placed may each o = go (may o)
   where
     touches : Logged → Bool
@@ -239,7 +200,7 @@ all_swept w items places chains placed may each o = go (may o)
         let u = found_some (λ (u : Update). same_object u.object o) f.0.tx.updates parts.1 in
         let r = reached_inside w items places f.0 placed f.1 parts.0 in
         subst (λ o. IsSwept w items chains o) (same_object-true u.0.object o u.2) (each r.centre r.small r.place r.there f.0 f.1 (sym r.is) u.0 u.1)
-    by whole false none = whole ∙ whole_left w o items (λ x i pass. no_cells o x.number x.tx.rank x.tx.dot 0 x.tx.updates (sym (ap (λ t. t && list_any (λ u. same_object u.object o) x.tx.updates) pass) ∙ found_none touches items x none i))
+    by whole false none = whole ∙ whole_left w o items (λ x i pass. ap (map (cell x.number)) (no_ops o x.tx.rank x.tx.dot 0 x.tx.updates (sym (ap (λ t. t && list_any (λ u. same_object u.object o) x.tx.updates) pass) ∙ found_none touches items x none i)))
 
     go : (listed chains o ≡ chain_of o items) ⊎ IsSwept w items chains o → IsSwept w items chains o
     go (inl whole) = by whole (list_any touches items) refl

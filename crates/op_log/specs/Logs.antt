@@ -3,15 +3,15 @@
 use Rattle.std.specs.Prelude.{ℕ, ◌+◌, Bool, ◌&&◌, ◌==◌, not, max, cond, List, [], ◌∷◌, ◌++◌, map, filter, flat_map}
 use Rattle.std.specs.List.{list_any}
 use Rattle.ids_core.specs.declared.ids.Dot.{Dot}
+use Rattle.ids_core.specs.declared.ids.Mark.{Mark}
 use Rattle.ids_core.specs.declared.object.ObjectId.{ObjectId}
-use Rattle.ids_core.specs.Ids.{same_dot, same_object}
+use Rattle.ids_core.specs.Ids.{same_dot}
 use Rattle.vv_core.specs.declared.stamp.Stamp.{Stamp}
 use Rattle.vv_core.specs.Stamps.{is_any_within}
 use Rattle.tx_core.specs.declared.op.Op.{Op}
 use Rattle.tx_core.specs.declared.tx.Tx.{Tx}
-use Rattle.tx_core.specs.declared.tx.Update.{Update}
 use Rattle.tx_core.specs.declared.tx.Record.{Record}
-use Rattle.tx_core.specs.Operations.{mark}
+use Rattle.tx_core.specs.Operations.{ops_of}
 use Rattle.op_log.specs.declared.chains.Cell.{Cell}
 use Rattle.op_log.specs.declared.logged.Logged.{Logged}
 
@@ -22,18 +22,13 @@ pub record LogView : Type 0 where
 
 -- ---- one transaction
 
--- the operation of the update at a place of the transaction of a number
-abbrev pub cell : ℕ → ℕ → Dot → ℕ → Op → Cell
-cell number rank dot place op = record { tx = number; mark = mark rank dot place; op = op }
-
--- the operations on the object among updates that begin at a place, of the transaction of a number
-abbrev pub cells_from : ObjectId → ℕ → ℕ → Dot → ℕ → List Update → List Cell
-cells_from o number rank dot place [] = []
-cells_from o number rank dot place (u ∷ us) = cond (same_object u.object o) (cell number rank dot place u.op ∷ cells_from o number rank dot (place + 1) us) (cells_from o number rank dot (place + 1) us)
+-- a marked operation of the transaction of a number
+abbrev pub cell : ℕ → (Mark × Op) → Cell
+cell number marked = record { tx = number; mark = marked.0; op = marked.1 }
 
 -- the operations on the object in a transaction of a number
 abbrev pub cells_in : ObjectId → ℕ → Tx → List Cell
-cells_in o number tx = cells_from o number tx.rank tx.dot 0 tx.updates
+cells_in o number tx = map (cell number) (ops_of o tx)
 
 -- the operations on the object in a transaction of the log
 abbrev pub cells_of : ObjectId → Logged → List Cell

@@ -1,5 +1,5 @@
 -- What the log keeps so that it is not searched.
-use Rattle.std.specs.Prelude.{◌≡◌, ◌≤◌, ◌<◌, ◌^◌, ◌⊎◌, ℕ, Bool, ◌&&◌, ◌==◌, not, List, [], ◌∷◌, Option, Some, None, All, length, Vec, count_by}
+use Rattle.std.specs.Prelude.{◌≡◌, ◌≤◌, ◌<◌, ◌^◌, ◌⊎◌, ℕ, Bool, ◌&&◌, ◌==◌, not, List, [], ◌∷◌, Some, All, length}
 use Rattle.std.specs.List.{list_any, filter_map}
 use Rattle.std.specs.Ordering.{nat_cmp}
 use Rattle.std.specs.Map.{lookup, values_of}
@@ -8,9 +8,9 @@ use Rattle.list_core.specs.Members.{In}
 use Rattle.ids_core.specs.declared.limits.TheConstants.{MOST_UPDATES}
 use Rattle.ids_core.specs.declared.ids.Dot.{Dot}
 use Rattle.ids_core.specs.declared.object.ObjectId.{ObjectId}
-use Rattle.ids_core.specs.Ids.{same_dot, same_object}
-use Rattle.ids_core.specs.Orders.{dot_cmp, object_cmp}
-use Rattle.tx_core.specs.declared.tx.Update.{Update}
+use Rattle.ids_core.specs.Ids.{same_dot}
+use Rattle.ids_core.specs.Orders.{dot_cmp}
+use Rattle.object_lists.specs.Listed.{listed}
 use Rattle.op_log.specs.declared.chains.Cell.{Cell}
 use Rattle.op_log.specs.declared.logged.Logged.{Logged}
 use Rattle.stamp_index.specs.declared.places.Place.{Place}
@@ -18,22 +18,9 @@ use Rattle.op_log.specs.Logs.{is_inside, is_inside_at, chain_of, left_of}
 use Rattle.stamp_index.specs.Places.{HasFitNumbers}
 use Rattle.op_log.specs.Places.{IsPlaced}
 
--- the operations of a chain, none where there is no chain
-abbrev pub chain_items : {A : Type 0} → Option (Vec Cell A) → List Cell
-chain_items None = []
-chain_items (Some chain) = chain.items
-
--- the operations that are found for an object
-abbrev pub listed : {A : Type 0} → List (ObjectId × Vec Cell A) → ObjectId → List Cell
-listed chains o = chain_items (lookup (is_at (object_cmp o)) chains)
-
--- for each object its chain is found
-abbrev pub Finds : {A : Type 0} → List (ObjectId × Vec Cell A) → List Logged → Type 0
+-- for each object its chain is listed
+abbrev pub Finds : List (ObjectId × List Cell) → List Logged → Type 0
 Finds chains items = (o : ObjectId) → listed chains o ≡ chain_of o items
-
--- how many of the updates are on the object
-abbrev pub counted : ObjectId → List Update → ℕ
-counted o updates = count_by (λ u. same_object u.object o) updates
 
 -- the numbers ascend
 abbrev pub Rises : List Logged → Type 0
@@ -80,15 +67,15 @@ pub record HasCell (items : List Logged) (o : ObjectId) (number : ℕ) : Type 0 
   pub is : cell.tx ≡ number
 
 -- the chain of the object has what it is to have once the transactions with a stamp within the vector are gone
-abbrev pub IsSwept : {A : Type 0} → List ℕ → List Logged → List (ObjectId × Vec Cell A) → ObjectId → Type 0
+abbrev pub IsSwept : List ℕ → List Logged → List (ObjectId × List Cell) → ObjectId → Type 0
 IsSwept w items chains o = listed chains o ≡ chain_of o (left_of w items)
 
 -- so has each chain, or it is whole
-abbrev pub MaySwept : {A : Type 0} → List ℕ → List Logged → List (ObjectId × Vec Cell A) → Type 0
+abbrev pub MaySwept : List ℕ → List Logged → List (ObjectId × List Cell) → Type 0
 MaySwept w items chains = (o : ObjectId) → (listed chains o ≡ chain_of o items) ⊎ IsSwept w items chains o
 
 -- what was swept is so later
-abbrev pub StaysSwept : {A : Type 0} → List ℕ → List Logged → List (ObjectId × Vec Cell A) → List (ObjectId × Vec Cell A) → Type 0
+abbrev pub StaysSwept : List ℕ → List Logged → List (ObjectId × List Cell) → List (ObjectId × List Cell) → Type 0
 StaysSwept w items chains later = (o : ObjectId) → IsSwept w items chains o → IsSwept w items later o
 
 -- the transactions, their dots and their places stand for one another
@@ -100,7 +87,7 @@ pub record IsTable (slots : List (ℕ × Logged)) (dots : List (Dot × ℕ)) (pl
   pub fit : HasFitNumbers places
 
 -- all that is kept is as it is for the transactions
-pub record IsLog {A : Type 0} (appended : ℕ) (slots : List (ℕ × Logged)) (dots : List (Dot × ℕ)) (chains : List (ObjectId × Vec Cell A)) (places : List Place) : Type 0 where
+pub record IsLog (appended : ℕ) (slots : List (ℕ × Logged)) (dots : List (Dot × ℕ)) (chains : List (ObjectId × List Cell)) (places : List Place) : Type 0 where
   pub table : IsTable slots dots places
   pub below : (x : Logged) → In x (values_of slots) → x.number < appended
   pub finds : Finds chains (values_of slots)

@@ -11,7 +11,6 @@ mod slots;
 mod stamps;
 mod sweep;
 mod take;
-mod turns;
 mod within;
 
 pub use chains::Cell;

@@ -3,16 +3,16 @@ ghost use Rattle.std.specs.Prelude.{◌≡◌, ◌≤◌, [], false, map, length
 ghost use Rattle.ids_core.specs.declared.limits.TheConstants.{MOST_UPDATES};
 ghost use Rattle.op_log.specs.Logs.{chain_of, is_inside_at, mine_in, within_of, left_of, has_dot, with_stamp, with_record};
 
-use crate::chains::{Cell, Chains, chain_at};
+use crate::chains::{Cell, Chains};
 use crate::dots::{Dots, mine_of, name};
 use crate::logged::Logged;
 use crate::slots::{Slots, is_inside_at};
 use crate::stamps::{alias_at, keep_stamped};
 use crate::sweep::sweep_chains;
 use crate::take::take_all;
-use crate::turns::{put_tx, take_tx};
 use crate::within::copies_within;
 use ids_core::{Dot, NoMemory, ObjectId};
+use object_lists::{ObjectLists, put_tx, take_last_tx};
 use stamp_index::Places;
 use std::alloc::Global;
 use std::collections::{BTreeMap, BTreeSet};
@@ -42,7 +42,7 @@ impl Model for Log {
 
     ghost view = { λ l. record { appended = l.appended; items = values_of l.slots.entries } };
 
-    ghost invariant = { λ l. IsLog l.appended l.slots.entries l.dots.entries l.chains.entries l.places.keys };
+    ghost invariant = { λ l. IsLog l.appended l.slots.entries l.dots.entries l.chains l.places.keys };
 }
 
 impl Log {
@@ -54,7 +54,7 @@ impl Log {
             appended: 0,
             slots: BTreeMap::new(alloc),
             dots: BTreeMap::new(alloc),
-            chains: BTreeMap::new(alloc),
+            chains: ObjectLists::new(alloc),
             places: BTreeSet::new(alloc),
             alloc,
         })
@@ -75,9 +75,9 @@ impl Log {
         };
         let x = Logged::of(self.alloc, number, item)?;
         name(&mut self.dots, &item.tx.dot, number)?;
-        put_tx(&mut self.chains, self.alloc, number, &item.tx)?;
+        put_tx(&mut self.chains, number, &item.tx)?;
         if keep_stamped(&mut self.slots, &mut self.places, x, &item.stamp).is_err() {
-            take_tx(&mut self.chains, &item.tx);
+            take_last_tx(&mut self.chains, &item.tx);
             return Err(NoMemory);
         }
         self.appended = appended;
@@ -101,7 +101,7 @@ impl Log {
     pub fn chain(&self, object: &ObjectId) -> &[Cell]
         ensures { result.now ≡ chain_of object.now self.now.items }
     {
-        chain_at(&self.chains, object)
+        self.chains.get(object)
     }
 
     /// Whether the transaction of a number has a stamp within the vector. It takes no memory.

@@ -2,19 +2,19 @@
 ghost use Rattle.std.specs.Prelude.{◌≡◌, ◌⊎◌, false, filter};
 ghost use Rattle.std.specs.Bool.{OnFalse};
 ghost use Rattle.std.specs.Map.{values_of};
-ghost use Rattle.std.specs.BTreeMap.{is_at};
 ghost use Rattle.list_core.specs.Members.{In};
+ghost use Rattle.ids_core.specs.Ids.{same_object};
 ghost use Rattle.ids_core.specs.declared.object.ObjectId.{ObjectId};
-ghost use Rattle.ids_core.specs.Orders.{object_cmp};
 ghost use Rattle.vv_core.specs.Vectors.{at};
 ghost use Rattle.tx_core.specs.declared.tx.Update.{Update as UpdateOf};
 ghost use Rattle.op_log.specs.declared.logged.Logged.{Logged};
 ghost use Rattle.stamp_index.specs.declared.places.Place.{Place as PlaceOf};
 ghost use Rattle.stamp_index.specs.Places.{HasFitNumbers, reached_of};
 ghost use Rattle.op_log.specs.Places.{IsPlaced};
-ghost use Rattle.op_log.specs.Tables.{listed, stays, Rises, IsKeyed, Finds, Ascends, Lacks, HasCell, IsSwept, MaySwept, StaysSwept};
+ghost use Rattle.object_lists.specs.Listed.{listed};
+ghost use Rattle.op_log.specs.Tables.{stays, Rises, IsKeyed, Finds, Ascends, Lacks, HasCell, IsSwept, MaySwept, StaysSwept};
 
-use crate::chains::{Cell, Chain, Chains, clear_at};
+use crate::chains::{Cell, Chains};
 use crate::slots::{Slots, is_inside_at};
 use ids_core::ObjectId;
 use stamp_index::{Places, entry, reached};
@@ -28,8 +28,8 @@ pub(crate) fn sweep_chains(chains: &mut Chains, slots: &Slots, places: &Places, 
     requires rises { Rises (values_of slots.now.entries) }
     requires placed { IsPlaced places.now.keys (values_of slots.now.entries) }
     requires fit { HasFitNumbers places.now.keys }
-    requires finds { Finds chains.old.entries (values_of slots.now.entries) }
-    ensures { (o : ObjectId) → IsSwept base.now (values_of slots.now.entries) chains.new.entries o }
+    requires finds { Finds chains.old (values_of slots.now.entries) }
+    ensures { (o : ObjectId) → IsSwept base.now (values_of slots.now.entries) chains.new o }
 {
     for centre in 0..base.width() + 1 {
         sweep_centre(chains, slots, places, centre, base);
@@ -41,10 +41,10 @@ fn sweep_centre(chains: &mut Chains, slots: &Slots, places: &Places, centre: u8,
     requires keyed { IsKeyed slots.now.entries }
     requires rises { Rises (values_of slots.now.entries) }
     requires fit { HasFitNumbers places.now.keys }
-    requires may { MaySwept base.now (values_of slots.now.entries) chains.old.entries }
-    ensures may { MaySwept base.now (values_of slots.now.entries) chains.new.entries }
-    ensures kept { StaysSwept base.now (values_of slots.now.entries) chains.old.entries chains.new.entries }
-    ensures swept { (p : PlaceOf) → In p (reached_of base.now centre places.now.keys) → (x : Logged) → In x (values_of slots.now.entries) → x.number ≡ p.number → (u : UpdateOf) → In u x.tx.updates → IsSwept base.now (values_of slots.now.entries) chains.new.entries u.object }
+    requires may { MaySwept base.now (values_of slots.now.entries) chains.old }
+    ensures may { MaySwept base.now (values_of slots.now.entries) chains.new }
+    ensures kept { StaysSwept base.now (values_of slots.now.entries) chains.old chains.new }
+    ensures swept { (p : PlaceOf) → In p (reached_of base.now centre places.now.keys) → (x : Logged) → In x (values_of slots.now.entries) → x.number ≡ p.number → (u : UpdateOf) → In u x.tx.updates → IsSwept base.now (values_of slots.now.entries) chains.new u.object }
 {
     for place in reached(places, centre, entry(base, centre)) {
         sweep_number(chains, slots, place.number, base);
@@ -55,10 +55,10 @@ fn sweep_centre(chains: &mut Chains, slots: &Slots, places: &Places, centre: u8,
 fn sweep_number(chains: &mut Chains, slots: &Slots, number: u64, base: &Vector)
     requires keyed { IsKeyed slots.now.entries }
     requires rises { Rises (values_of slots.now.entries) }
-    requires may { MaySwept base.now (values_of slots.now.entries) chains.old.entries }
-    ensures may { MaySwept base.now (values_of slots.now.entries) chains.new.entries }
-    ensures kept { StaysSwept base.now (values_of slots.now.entries) chains.old.entries chains.new.entries }
-    ensures swept { (x : Logged) → In x (values_of slots.now.entries) → x.number ≡ number → (u : UpdateOf) → In u x.tx.updates → IsSwept base.now (values_of slots.now.entries) chains.new.entries u.object }
+    requires may { MaySwept base.now (values_of slots.now.entries) chains.old }
+    ensures may { MaySwept base.now (values_of slots.now.entries) chains.new }
+    ensures kept { StaysSwept base.now (values_of slots.now.entries) chains.old chains.new }
+    ensures swept { (x : Logged) → In x (values_of slots.now.entries) → x.number ≡ number → (u : UpdateOf) → In u x.tx.updates → IsSwept base.now (values_of slots.now.entries) chains.new u.object }
 {
     if let Some(x) = slots.get(&number) {
         sweep_updates(chains, slots, number, x.tx.updates.as_slice(), base);
@@ -69,11 +69,11 @@ fn sweep_number(chains: &mut Chains, slots: &Slots, number: u64, base: &Vector)
 fn sweep_updates(chains: &mut Chains, slots: &Slots, number: u64, updates: &[Update], base: &Vector)
     requires keyed { IsKeyed slots.now.entries }
     requires rises { Rises (values_of slots.now.entries) }
-    requires may { MaySwept base.now (values_of slots.now.entries) chains.old.entries }
+    requires may { MaySwept base.now (values_of slots.now.entries) chains.old }
     requires has { (u : UpdateOf) → In u updates.now → HasCell (values_of slots.now.entries) u.object number }
-    ensures may { MaySwept base.now (values_of slots.now.entries) chains.new.entries }
-    ensures kept { StaysSwept base.now (values_of slots.now.entries) chains.old.entries chains.new.entries }
-    ensures swept { (u : UpdateOf) → In u updates.now → IsSwept base.now (values_of slots.now.entries) chains.new.entries u.object }
+    ensures may { MaySwept base.now (values_of slots.now.entries) chains.new }
+    ensures kept { StaysSwept base.now (values_of slots.now.entries) chains.old chains.new }
+    ensures swept { (u : UpdateOf) → In u updates.now → IsSwept base.now (values_of slots.now.entries) chains.new u.object }
 {
     for update in updates {
         sweep_at(chains, slots, &update.object, number, base);
@@ -84,48 +84,37 @@ fn sweep_updates(chains: &mut Chains, slots: &Slots, number: u64, updates: &[Upd
 fn sweep_at(chains: &mut Chains, slots: &Slots, object: &ObjectId, number: u64, base: &Vector)
     requires keyed { IsKeyed slots.now.entries }
     requires rises { Rises (values_of slots.now.entries) }
-    requires may { MaySwept base.now (values_of slots.now.entries) chains.old.entries }
+    requires may { MaySwept base.now (values_of slots.now.entries) chains.old }
     requires has { HasCell (values_of slots.now.entries) object.now number }
-    ensures may { MaySwept base.now (values_of slots.now.entries) chains.new.entries }
-    ensures kept { StaysSwept base.now (values_of slots.now.entries) chains.old.entries chains.new.entries }
-    ensures swept { IsSwept base.now (values_of slots.now.entries) chains.new.entries object.now }
+    ensures may { MaySwept base.now (values_of slots.now.entries) chains.new }
+    ensures kept { StaysSwept base.now (values_of slots.now.entries) chains.old chains.new }
+    ensures swept { IsSwept base.now (values_of slots.now.entries) chains.new object.now }
 {
-    sweep_found(chains, slots, object, number, base);
-    clear_at(chains, object);
+    sweep_chain(chains, slots, object, number, base);
 }
 
 // Leaves of the chain of an object what stays, or all where it has no operation of the number's transaction.
-fn sweep_found(chains: &mut Chains, slots: &Slots, object: &ObjectId, number: u64, base: &Vector)
+// That it has one is told by a search, so a chain that was swept before is not walked again.
+fn sweep_chain(chains: &mut Chains, slots: &Slots, object: &ObjectId, number: u64, base: &Vector)
     requires keyed { IsKeyed slots.now.entries }
     requires rises { Rises (values_of slots.now.entries) }
-    requires ascends { Ascends (listed chains.old.entries object.now) }
-    ensures there { (listed chains.new.entries object.now ≡ filter (stays base.now (values_of slots.now.entries)) (listed chains.old.entries object.now)) ⊎ ((listed chains.new.entries object.now ≡ listed chains.old.entries object.now) × Lacks number (listed chains.old.entries object.now)) }
-    ensures apart { (o : ObjectId) → is_at (object_cmp object.now) o ≡ false → listed chains.new.entries o ≡ listed chains.old.entries o }
+    requires ascends { Ascends (listed chains.old object.now) }
+    ensures there { (listed chains.new object.now ≡ filter (stays base.now (values_of slots.now.entries)) (listed chains.old object.now)) ⊎ ((listed chains.new object.now ≡ listed chains.old object.now) × Lacks number (listed chains.old object.now)) }
+    ensures apart { (o : ObjectId) → same_object object.now o ≡ false → listed chains.new o ≡ listed chains.old o }
 {
-    if let Some(chain) = chains.get_mut(object) {
-        sweep_chain(chain, slots, number, base);
+    if has_number(chains.get(object), number) {
+        leave(chains, slots, object, base);
     }
 }
 
-// The same of one chain. That it has the number is told by a search, so a chain that was swept before is
-// not walked again.
-fn sweep_chain(chain: &mut Chain, slots: &Slots, number: u64, base: &Vector)
+// Leaves of the chain of an object what stays.
+fn leave(chains: &mut Chains, slots: &Slots, object: &ObjectId, base: &Vector)
     requires keyed { IsKeyed slots.now.entries }
     requires rises { Rises (values_of slots.now.entries) }
-    requires ascends { Ascends chain.old.items }
-    ensures { (chain.new.items ≡ filter (stays base.now (values_of slots.now.entries)) chain.old.items) ⊎ ((chain.new.items ≡ chain.old.items) × Lacks number chain.old.items) }
+    ensures there { listed chains.new object.now ≡ filter (stays base.now (values_of slots.now.entries)) (listed chains.old object.now) }
+    ensures apart { (o : ObjectId) → same_object object.now o ≡ false → listed chains.new o ≡ listed chains.old o }
 {
-    if has_number(chain.as_slice(), number) {
-        leave(chain, slots, base);
-    }
-}
-
-fn leave(chain: &mut Chain, slots: &Slots, base: &Vector)
-    requires keyed { IsKeyed slots.now.entries }
-    requires rises { Rises (values_of slots.now.entries) }
-    ensures { chain.new.items ≡ filter (stays base.now (values_of slots.now.entries)) chain.old.items }
-{
-    chain.retain(|cell| stays(slots, cell, base));
+    chains.retain(object, |cell| stays(slots, cell, base));
 }
 
 // Whether an operation is of the transaction of the number. Their numbers do not fall.

@@ -17,7 +17,7 @@ use Rattle.script_core.specs.Carrying.{route, InTurn, no_turn, next_turn}
 use Rattle.script_core.specs.Rounds.{SenderDeeds, ReceiverDeeds, ReporterDeeds, PrunerDeeds, others, Mails, mailed_from, mailed}
 use Rattle.client_stub.specs.Playing.{Operates}
 use Rattle.dc_worker.specs.Work.{AddsSuch, CarriesSuch}
-use Rattle.dc_worker.proofs.Mailing.{IsFresh, mailed_then, mails_fresh}
+use Rattle.script_core.proofs.Mailing.{IsFresh, mailed_then, mails_fresh}
 use Rattle.dc_links.specs.Links.{put_to, inlet_from}
 use Rattle.dc_links.specs.Rounds.{SendsOver, inward, ReceivesOver, DrainsOver}
 use Rattle.run_book.proofs.Happenings.Playing.{all_at}

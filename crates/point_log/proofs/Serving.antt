@@ -41,7 +41,8 @@ use Rattle.point_log.specs.Served.{is_since, AreInside, IsServed, AreServed, IsP
 use Rattle.point_log.proofs.Inside.{state_inside, within_grows}
 use Rattle.point_log.proofs.Splits.{state_of_split}
 use Rattle.point_log.proofs.Growth.{inside_known, inside_stays}
-use Rattle.point_log.proofs.Chains.{number_inside, chain_inside, chain_ops, chain_passing}
+use Rattle.op_log.proofs.Cells.{chain_passing}
+use Rattle.point_log.proofs.Chains.{number_inside, chain_inside, chain_ops}
 use Rattle.point_log.proofs.LogSplits.{txs_inside}
 use Rattle.point_log.proofs.LogGrowth.{log_on}
 use Rattle.point_log.proofs.StandingFor.{state_stands}

@@ -3,9 +3,7 @@ use Rattle.std.proofs.Common.{◌≡◌, ℕ, Bool, true, false, cond, ◌⊎◌
 use Rattle.std.specs.Prelude.{is_some}
 use Rattle.std.specs.Option.{option_map}
 use Rattle.std.proofs.lemmas.Bool.{and_parts}
-use Rattle.std.proofs.lemmas.Bool.Decides.{Decides-eqb}
 use Rattle.std.proofs.lemmas.Option.{none-some, same_Some}
-use Rattle.std.specs.Cmp.Lexicographic.{pointwise_decides}
 use Rattle.list_core.specs.Members.{In}
 use Rattle.list_core.specs.Firsts.{first_that, without_first}
 use Rattle.list_core.proofs.Members.{In_take}
@@ -28,6 +26,7 @@ use Rattle.dc_talk.specs.Trails.{applied, rows, stable}
 use Rattle.dc_talk.specs.Clients.{Client, same_vector, is_entry, cached, kept, promoted, view}
 use Rattle.dc_talk.specs.Calls.{named, looked_up}
 use Rattle.dc_talk.proofs.ClientAnswers.{SnapBy}
+use Rattle.dc_talk.proofs.Vectors.{same_vector-true}
 use Rattle.dc_talk.specs.declared.settings.Settings.{Settings}
 
 -- ---- a snapshot
@@ -63,10 +62,6 @@ In_kept capacity new cache c i = go (In_take capacity (new ∷ without_first (λ
     go : In c (new ∷ without_first (λ c. same_object c.object new.object) cache) → (c ≡ new) ⊎ In c cache
     go (inl same) = inl same
     go (inr j) = inr (In_without_first (λ c. same_object c.object new.object) cache c j)
-
--- vectors that test equal are one
-pub same_vector-true : (v w : List ℕ) → same_vector v w ≡ true → v ≡ w
-same_vector-true v w is = (pointwise_decides Decides-eqb v w).0 is
 
 -- what a look-up finds is of the object, at the vector
 pub record IsCached (o : ObjectId) (w : List ℕ) (cache : List Cached) (state : State) : Type 0 where

@@ -7,17 +7,16 @@ use Rattle.vv_core.specs.Vectors.{at, centres}
 use Rattle.tx_core.specs.declared.tx.Tx.{Tx}
 use Rattle.tx_core.specs.declared.tx.Record.{Record}
 use Rattle.dc_talk.specs.Records.{own}
-use Rattle.dc_talk.specs.Trails.{applied}
 use Rattle.dc_talk.specs.Clients.{Client, next_dot, draft_updates}
 use Rattle.dc_talk.specs.Rule.{client_after, commits_of}
 use Rattle.run_book.specs.declared.book.Book.{Book}
 use Rattle.tx_graph.specs.Nodes.{Node}
 use Rattle.run_book.specs.Setups.{Setup}
-use Rattle.run_book.specs.Parts.{trail_of, notes_of}
+use Rattle.run_book.specs.Parts.{notes_of, applied_by_end}
 
 -- the records that centre e stamped in the book, in order
 abbrev pub own_list : Book → ℕ → List Record
-own_list b e = own e (applied b.n (trail_of b e))
+own_list b e = own e (applied_by_end b e)
 
 -- the dots that a vector covers: those of the first records of each centre, as many as its entry says
 abbrev pub cover : Book → List ℕ → List Dot

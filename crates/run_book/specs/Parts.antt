@@ -20,6 +20,10 @@ trail_of b (suc i) = slice_index_or b.trails i []
 abbrev pub applied_at : Book → ℕ → ℕ → List Record
 applied_at b i p = applied b.n (take p (trail_of b i))
 
+-- the records that centre i has applied by the end of its trail
+abbrev pub applied_by_end : Book → ℕ → List Record
+applied_by_end b i = applied b.n (trail_of b i)
+
 -- how far centre i has pruned by the first p entries of its trail
 abbrev pub horizon_at : Book → Setup → ℕ → ℕ → Horizon
 horizon_at b setup i p = horizon (centre_settings b setup i) (take p (trail_of b i))

@@ -2,8 +2,7 @@
 ghost use Rattle.std.specs.Prelude.{◌≡◌, [], ◌∷◌, ◌++◌, OnOk, OnErr};
 ghost use Rattle.run_book.specs.Books.{entries_of};
 
-use dc_centre::Centre;
-use dc_talk::Log;
+use dc_talk::{Ask, Log, Say};
 use ids_core::NoMemory;
 use list_core::List;
 use machine_trail::Trail;
@@ -14,20 +13,18 @@ use std::marker::Model;
 /// entries.
 #[derive(Drop)]
 pub struct Trails {
-    items: Vec<Trail<Centre>>,
+    items: Vec<Trail<Ask, Say>>,
 }
 
 impl Model for Trails {
     ghost use Rattle.std.specs.Prelude.{List};
     ghost use Rattle.dc_talk.specs.Entries.{Entry};
     ghost use Rattle.run_book.specs.Books.{entries_of};
-    ghost use Rattle.std.specs.Coded.{codes};
-    ghost use Rattle.obj_set.specs.Sets.{set_code};
-    ghost use Rattle.obj_map.specs.Maps.{map_code};
+    ghost use Rattle.tx_core.specs.States.{state_codes};
 
     ghost Value = { List (List Entry) };
 
-    ghost coded = { Prim.hlevel (codes, set_code, map_code) };
+    ghost coded = { Prim.hlevel state_codes };
 
     ghost view = { λ t. entries_of t.items.items };
 }
@@ -73,7 +70,7 @@ impl Trails {
     }
 
     /// The trails of a vector.
-    pub fn from_vec(items: Vec<Trail<Centre>>) -> Self
+    pub fn from_vec(items: Vec<Trail<Ask, Say>>) -> Self
         ensures { result ≡ entries_of items.items }
     {
         Trails { items }
@@ -81,7 +78,7 @@ impl Trails {
 
     /// Puts the trail of one more centre at the end. An `Err` leaves the trails as they were, and
     /// drops that one.
-    pub fn push(&mut self, trail: Trail<Centre>) -> Result<(), NoMemory>
+    pub fn push(&mut self, trail: Trail<Ask, Say>) -> Result<(), NoMemory>
         ensures ok { OnOk result (self.new ≡ self.old ++ trail.entries ∷ []) }
         ensures err { OnErr result (self.new ≡ self.old) }
     {
@@ -90,7 +87,7 @@ impl Trails {
     }
 
     /// The trails in the order of the centres.
-    pub fn as_slice(&self) -> &[Trail<Centre>]
+    pub fn as_slice(&self) -> &[Trail<Ask, Say>]
         ensures { entries_of result.now ≡ self.now }
     {
         self.items.as_slice()

@@ -1,4 +1,7 @@
 pub mod Logs
-pub mod TrailTexts
 pub mod Scripts
-pub mod Outputs
+pub mod InOrder
+pub mod ClientLines
+pub mod CarrierLines
+pub mod RunLines
+pub mod BookLines

@@ -1,2 +1,2 @@
 pub mod OneBook
-pub mod Outputs
+pub mod ReadLines

@@ -1,17 +1,13 @@
-// The laws of runs. Each is a function with nothing to do, whose contract is the law.
-ghost use Rattle.std.specs.Prelude.{◌≡◌, ℕ, Bool, List, Ok, Option};
+// The laws of the books of runs. Each is a function with nothing to do, whose contract is the law.
+ghost use Rattle.std.specs.Prelude.{◌≡◌, ℕ, List, Ok};
 ghost use Rattle.script_core.specs.declared.script.Script.{Script};
 ghost use Rattle.script_core.specs.Scripts.{IsInRange};
 ghost use Rattle.script_reader.specs.Scripts.{script_read};
-ghost use Rattle.command_line.specs.declared.form.Form.TheVariants.{Run, Serial};
-ghost use Rattle.command_line.specs.Forms.{spelled};
 ghost use Rattle.run_sections.specs.Runs.{IsSectionRunOf, HasNoPhase};
-ghost use Rattle.world_core.specs.Runs.{IsRunOf};
-ghost use Rattle.top_call.specs.Runs.{IsOwed};
-ghost use Rattle.top_call.specs.declared.engine.Owed.{Owed};
-ghost use Rattle.top_call.specs.declared.top.Ended.{Ended};
+ghost use Rattle.run_sections.specs.OneThread.{IsRunOf};
+ghost use Rattle.run_book.specs.Setups.{setup_of};
 ghost use Rattle.run_laws.specs.OneBook.{AreOne};
-ghost use Rattle.run_laws.specs.Outputs.{given_bytes, AreAlike, AreFixed, HaveNoPhase, IsWholeRun, PrintAlike};
+ghost use Rattle.run_laws.specs.ReadLines.{TellsValues};
 
 use run_book::Book;
 
@@ -34,19 +30,11 @@ pub fn law_one_script()
     ensures { (bytes : List ℕ) (s t : Script) → script_read bytes ≡ Ok s → script_read bytes ≡ Ok t → s ≡ t }
 {}
 
-/// The output of each form but `load`, and `run` of a script with a phase, follows from the input. What the program owes
-/// for its words and the bytes of its input is one status, one text and one book (`owed`). Two runs by the same words,
-/// with the same bytes as their input, in which neither reading nor writing nor memory failed, end with one status and one
-/// book, and their sinks take the same text (`printed`).
-pub fn law_one_output()
-    ensures owed { (words : List (List ℕ)) (bytes : List ℕ) (taken again : Option (List ℕ)) (one two : Owed) → AreFixed words bytes → IsOwed (given_bytes words bytes taken) one → IsOwed (given_bytes words bytes again) two → AreAlike one two }
-    ensures printed { (words : List (List ℕ)) (bytes : List ℕ) (taken again now later : Option (List ℕ)) (one two : Ended) → AreFixed words bytes → IsWholeRun words bytes taken one now → IsWholeRun words bytes again two later → PrintAlike one two taken again now later }
-{}
-
-/// Where an input is no script with a phase, `run` does what `serial` does, each with the trails or each without: the same
-/// is owed for it (`owed`), and a run by the one and a run by the other in which nothing failed end with one status and one
-/// book, and their sinks take the same text (`printed`).
-pub fn law_run_as_serial()
-    ensures owed { (trail : Bool) (bytes : List ℕ) (taken again : Option (List ℕ)) (one two : Owed) → HaveNoPhase bytes → IsOwed (given_bytes (spelled (Run trail)) bytes taken) one → IsOwed (given_bytes (spelled (Serial trail)) bytes again) two → AreAlike one two }
-    ensures printed { (trail : Bool) (bytes : List ℕ) (taken again now later : Option (List ℕ)) (one two : Ended) → HaveNoPhase bytes → IsWholeRun (spelled (Run trail)) bytes taken one now → IsWholeRun (spelled (Serial trail)) bytes again two later → PrintAlike one two taken again now later }
+/// The text of a run tells the values that its clients read: each line with a value is of a read of that client, of that
+/// object and with that value, each read that got a value has its line, and in the notes of a client these lines are one
+/// for each read, in the order of the reads. So it is of a run on one thread (`turns`) and of one section by section, with
+/// threads in its phases (`sections`).
+pub fn law_value_lines(book: &Book)
+    ensures turns { (script : Script) → IsRunOf script book.now → TellsValues book.now (setup_of script) }
+    ensures sections { (script : Script) → IsSectionRunOf script book.now → TellsValues book.now (setup_of script) }
 {}

@@ -1,13 +1,13 @@
 -- A script without a phase that was played section by section: its steps happened one after another.
 use Rattle.std.proofs.Common.{◌≡◌, ◌≢◌, ◌≤◌, ◌<◌, ℕ, zero, suc, ◌+◌, ◌*◌, inl, inr, ⊎_elim, List, [], ◌∷◌, ◌++◌, map, length, Option, Some, None, false, refl, sym, ap, ◌∙◌, subst, arith}
-use Rattle.std.specs.Prelude.{All, cond, flat_map, slice_index_or}
+use Rattle.std.specs.Prelude.{All, cond, flat_map}
 use Rattle.std.specs.List.{filter_map, cons_option}
 use Rattle.std.proofs.lemmas.Bool.{cases_eq, cases_lt, eq-eqb, ne_eqb, false≢true}
 use Rattle.std.proofs.lemmas.List.{append-nil}
 use Rattle.std.proofs.lemmas.List.Elements.{All-head, All-tail, filter_map-append}
 use Rattle.list_core.specs.Choices.{when}
 use Rattle.list_core.specs.Members.{In}
-use Rattle.list_core.proofs.Gets.{In_get}
+use Rattle.list_core.proofs.Gets.{In_get, past_end}
 use Rattle.list_core.proofs.Members.{In_either, In_from_map}
 use Rattle.list_core.proofs.Passing.{In_filter_map, In_from_filter_map}
 use Rattle.dc_talk.specs.declared.ask.Ask.{Ask}
@@ -283,12 +283,6 @@ module _ (script : Script) where
       (All-head (IsSection (header_of script)) section rest sound)
 
 -- ---- the book
-
--- past the end of a list there is the default
-past_end : {X : Type 0} (xs : List X) (i : ℕ) (d : X) → length xs ≤ i → slice_index_or xs i d ≡ d
-past_end [] i d le = refl
-past_end (x ∷ xs) zero d le = absurd (omega (arith, le))
-past_end (x ∷ xs) (suc i) d le = past_end xs i d (omega (arith, le))
 
 module _ (script : Script) (b : Book) (range : IsInRange script) (lines : HasNoPhase script) (run : IsSectionRunOf script b) where
   -- what happened

@@ -22,8 +22,8 @@ use Rattle.script_core.specs.Rows.{IsSection}
 use Rattle.script_core.specs.Rounds.{worker_of}
 use Rattle.script_core.specs.Scripts.{header_of}
 use Rattle.script_core.specs.Steps.{IsCount}
-use Rattle.dc_worker.proofs.Mailing.{mailed_sent}
-use Rattle.dc_worker.proofs.RoundDeeds.{sender_carries, reporter_carries, pruner_carries}
+use Rattle.script_core.proofs.Mailing.{mailed_sent}
+use Rattle.script_core.proofs.RoundDeeds.{sender_carries, reporter_carries, pruner_carries}
 use Rattle.run_book.specs.Setups.{setup_of, settings_among}
 use Rattle.run_book.specs.Parts.{exchanged, entries_by}
 use Rattle.run_book.specs.Happenings.{GoesToOneOf, HasAnswer, WasSent, CarrierAllows, ClientDoes, IsCarrier}

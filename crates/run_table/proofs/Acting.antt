@@ -12,9 +12,9 @@ use Rattle.dc_talk.specs.declared.log.Deed.TheVariants.{Asked}
 use Rattle.dc_talk.specs.Doors.{IsBehind, HasAsked, HasDone}
 use Rattle.dc_talk.specs.Logs.{Logged, noted}
 use Rattle.dc_talk.proofs.Doors.{done_ask}
-use Rattle.dc_host.specs.declared.kept_door.KeptPlace.{KeptPlace}
-use Rattle.dc_host.specs.Centres.{CentreTrail}
-use Rattle.dc_host.specs.KeptDoors.{KeptView, shown_of, place_of, begun}
+use Rattle.dc_door.specs.declared.kept_door.KeptPlace.{KeptPlace}
+use Rattle.dc_door.specs.Centres.{CentreTrail}
+use Rattle.dc_door.specs.KeptDoors.{KeptView, shown_of, place_of, begun}
 use Rattle.script_core.specs.declared.steps.ClientStep.{ClientStep}
 use Rattle.dc_talk.specs.Acting.{IsAskBehind, acting}
 use Rattle.run_book.specs.Moves.{Does}

@@ -1,8 +1,7 @@
 -- Lists by number, counted from 1: one more, and one replaced.
-use Rattle.std.proofs.Common.{◌≡◌, ◌≢◌, ◌≤◌, ◌<◌, ℕ, zero, suc, ◌+◌, ◌-◌, List, [], ◌∷◌, ◌++◌, map, length, Some, refl, sym, ap, ◌∙◌, arith}
-use Rattle.std.specs.Prelude.{slice_get, slice_set}
+use Rattle.std.proofs.Common.{◌≡◌, ◌≢◌, ◌≤◌, ◌<◌, ℕ, ◌+◌, ◌-◌, List, [], ◌∷◌, ◌++◌, map, length, Some, refl, sym, ap, ◌∙◌, arith}
+use Rattle.std.specs.Prelude.{slice_get}
 use Rattle.std.specs.List.{range_with_len}
-use Rattle.std.proofs.Math.ListN.{set}
 use Rattle.std.proofs.lemmas.Option.{slice_get-get_or}
 use Rattle.std.proofs.lemmas.List.FromFn.{map-range_with_len_more, get_or-map-range_with_len, length-map-range_with_len}
 
@@ -21,17 +20,3 @@ pub get_below : {X : Type 0} (f : ℕ → X) (count place : ℕ) → place < cou
 get_below f count place lt =
     slice_get-get_or (map f (range_with_len 1 count)) place (f 0) (omega (arith, length-map-range_with_len f 1 count))
     ∙ ap Some (get_or-map-range_with_len f 1 count place (1 + place) (f 0) lt refl)
-
--- an element that was put at a place is not at another one
-pub set_else : {X : Type 0} (xs : List X) (place other : ℕ) (x : X) → other ≢ place → slice_get (slice_set xs place x) other ≡ slice_get xs other
-set_else [] place other x differs = refl
-set_else (y ∷ xs) zero zero x differs = absurd (differs refl)
-set_else (y ∷ xs) zero (suc other) x differs = refl
-set_else (y ∷ xs) (suc place) zero x differs = refl
-set_else (y ∷ xs) (suc place) (suc other) x differs = set_else xs place other x (λ same. differs (ap suc same))
-
--- it is at its own
-pub set_here : {X : Type 0} (xs : List X) (place : ℕ) (x : X) → place < length xs → slice_get (slice_set xs place x) place ≡ Some x
-set_here [] place x within = absurd (omega arith)
-set_here (y ∷ xs) zero x within = refl
-set_here (y ∷ xs) (suc place) x within = set_here xs place x (omega arith)

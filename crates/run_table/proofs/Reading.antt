@@ -9,8 +9,8 @@ use Rattle.vv_core.specs.Vectors.{centres}
 use Rattle.dc_talk.specs.declared.settings.Settings.{Settings}
 use Rattle.dc_talk.specs.Entries.{Entry}
 use Rattle.dc_talk.specs.Logs.{Logged}
-use Rattle.dc_host.specs.Centres.{CentreTrail, new_centre, new_centres}
-use Rattle.dc_host.specs.KeptDoors.{entries_of, trail_at}
+use Rattle.dc_door.specs.Centres.{CentreTrail, new_centre, new_centres}
+use Rattle.dc_door.specs.KeptDoors.{entries_of, trail_at}
 use Rattle.run_book.specs.declared.book.Book.{Book}
 use Rattle.run_book.specs.Setups.{Setup, settings_among}
 use Rattle.run_book.specs.Parts.{idle_log, trail_of, log_of}

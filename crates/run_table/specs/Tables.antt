@@ -10,8 +10,8 @@ use Rattle.dc_talk.specs.Clients.{new_client}
 use Rattle.dc_talk.specs.Logs.{Logged}
 use Rattle.dc_talk.specs.declared.log.Deed.{Deed}
 use Rattle.dc_talk.specs.Acting.{Acting, Leaves, acting}
-use Rattle.dc_host.specs.Centres.{CentreTrail, new_centres}
-use Rattle.dc_host.specs.KeptDoors.{shown_of, begun}
+use Rattle.dc_door.specs.Centres.{CentreTrail, new_centres}
+use Rattle.dc_door.specs.KeptDoors.{shown_of, begun}
 use Rattle.script_core.specs.declared.script.Script.{Script}
 use Rattle.script_core.specs.declared.steps.ClientStep.{ClientStep}
 use Rattle.script_core.specs.declared.steps.OperatorStep.{OperatorStep}

@@ -3,7 +3,7 @@ ghost use Rattle.std.specs.Prelude.{◌≡◌, ◌≤◌, ◌<◌, ℕ, ◌+◌,
 ghost use Rattle.ids_core.specs.declared.limits.TheConstants.{MOST_CENTRES, MOST_CLIENTS};
 ghost use Rattle.script_core.specs.Steps.{IsStep, IsOperatorStep};
 ghost use Rattle.client_stub.specs.Playing.{StubView, IsLinkBehind};
-ghost use Rattle.dc_host.specs.KeptDoors.{shown_of};
+ghost use Rattle.dc_door.specs.KeptDoors.{shown_of};
 ghost use Rattle.script_core.specs.Scripts.{IsInRange};
 ghost use Rattle.run_table.specs.Tables.{new_stubs, new_logs, IsNew, HasStepped, HasOperated, HasMadeRound, HasAskedOnce, HasPosts};
 ghost use Rattle.run_table.specs.Works.{work_of};
@@ -13,7 +13,7 @@ ghost use Rattle.dc_talk.specs.declared.log.Deed.{Deed as DeedOf};
 use crate::works::{Work, make_round};
 use client_session::Session;
 use client_stub::{Stub, operate};
-use dc_host::{KeptDoor, centres_of};
+use dc_door::{KeptDoor, centres_of};
 use dc_mail::Posts;
 use dc_talk::{Ask, Deed, Door, Fate, Log};
 use ids_core::NoMemory;

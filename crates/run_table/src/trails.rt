@@ -1,6 +1,6 @@
 // The trails of a table, for its book.
 ghost use Rattle.std.specs.Prelude.{◌≡◌, map, IfOk};
-ghost use Rattle.dc_host.specs.Centres.{all_seen};
+ghost use Rattle.dc_door.specs.Centres.{all_seen};
 
 use dc_centre::Centre;
 use ids_core::NoMemory;

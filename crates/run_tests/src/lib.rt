@@ -10,6 +10,8 @@ mod load_maker_tests;
 #[cfg(test)]
 mod load_tests;
 #[cfg(test)]
+mod output_laws_tests;
+#[cfg(test)]
 mod print_text_tests;
 #[cfg(test)]
 mod run_book_tests;

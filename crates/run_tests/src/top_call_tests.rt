@@ -5,7 +5,7 @@ use std::alloc::{AllocError, Global};
 use std::sync::Wait;
 use std::test::Fail;
 use std::thread::Threads;
-use top_call::{Ended, Fault, swift_main};
+use top_call::{Ended, Fault, form_with_threads, swift_alone, swift_main};
 
 const FIRST_PATH: &[u8] =
     b"centres 1 k 1\nclients 1\nc1 connect 1\nc1 begin\nc1 inc c.a 5\nc1 read c.a\nc1 commit\nc1 push\nc1 refresh\n";
@@ -48,6 +48,38 @@ fn a_block_is_played_from_begin_to_refresh(rt: HostRuntime) -> Result<(), Fail> 
     assert_eq!(rt; sink.bytes(), FIRST_TEXT);
     assert_eq!(rt; ended.book.trails.as_slice().len(), 1);
     assert_eq!(rt; ended.book.logs.as_slice().len(), 6);
+    Ok(())
+}
+
+// A run of a script on one thread, where the words ask for no threads.
+fn played_alone(
+    alloc: Global,
+    script: &[u8],
+    sink: &mut MemorySink,
+) -> Result<Option<Ended>, AllocError> {
+    let words = serial(alloc)?;
+    let mut source = SteadySource::new(Vec::from_slice(alloc, script)?);
+    match form_with_threads(alloc, &words) {
+        Ok(None) => Ok(Some(swift_alone(alloc, &words, &mut source, sink, &FreeGate))),
+        _ => Ok(None),
+    }
+}
+
+#[test]
+fn a_script_is_played_on_one_thread(rt: HostRuntime) -> Result<(), Fail> {
+    let mut sink = MemorySink::new(rt.alloc(), 64, Vec::new(rt.alloc()));
+    let ended = played_alone(rt.alloc(), FIRST_PATH, &mut sink)?;
+    assert!(rt;
+        matches!(
+            ended,
+            Some(Ended {
+                status: 0,
+                script: Some(_),
+                ..
+            })
+        )
+    );
+    assert_eq!(rt; sink.bytes(), FIRST_TEXT);
     Ok(())
 }
 

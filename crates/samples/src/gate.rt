@@ -27,11 +27,11 @@ impl Machine for Gate {
 
     type Settings = u64;
 
-    ghost use Rattle.std.specs.Prelude.{length, min, nat_lt};
+    ghost use Rattle.std.specs.Prelude.{◌≡◌, length, min, nat_lt};
 
     ghost settings = { λ gate. gate.most };
 
-    ghost reply = { λ most log guest. nat_lt (length log) most };
+    ghost reply = { λ most log guest enters. enters ≡ nat_lt (length log) most };
 
     ghost stands = { λ gate log. gate.inside ≡ min (length log) gate.most };
 

@@ -111,7 +111,7 @@ after_report_carries : (before : List Deed) (r : Route) (need : List ℕ → Ask
 after_report_carries before r need (Vector vector) deeds end carried is = sends_carry before r None (need vector) deeds end (carried vector) is
 after_report_carries before r need say deeds end carried is = subst (CarriesAll before) (sym is.0) tt
 
-supplies_carry : (r : Route) (need : List ℕ → Ask) (deeds : List Deed) (end : Option ShipEnd) → ((before : List Deed) (vector : List ℕ) (say : Say) → Carries before (Asked r.from (need vector) (Unheard say))) → Supplies r need deeds end → CarriesAll [] deeds
+pub supplies_carry : (r : Route) (need : List ℕ → Ask) (deeds : List Deed) (end : Option ShipEnd) → ((before : List Deed) (vector : List ℕ) (say : Say) → Carries before (Asked r.from (need vector) (Unheard say))) → Supplies r need deeds end → CarriesAll [] deeds
 supplies_carry r need deeds end carried is =
     let front : List Deed = Asked r.to Report (Unheard is.say) ∷ [] in
     subst (CarriesAll []) (sym is.whole) (tt, after_report_carries front r need is.say is.later end (carried front) is.follows)

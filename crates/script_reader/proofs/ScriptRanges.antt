@@ -1,10 +1,11 @@
 -- A script that is read is in range.
 use Rattle.std.proofs.Common.{◌≡◌, ◌≤◌, ◌<◌, ◌+◌, ℕ, Bool, true, false, List, [], ◌∷◌, ◌++◌, length, refl, ap, sym, ◌∙◌, subst, inl, inr, arith}
-use Rattle.std.specs.Prelude.{cond, ◌&&◌, is_some, is_none, All, Option, Some, None, Result, Ok, Err, IfSome}
+use Rattle.std.specs.Prelude.{cond, ◌&&◌, is_some, All, Option, Some, None, Result, Ok, Err, IfSome}
 use Rattle.std.specs.Option.{unwrap_or}
 use Rattle.std.proofs.lemmas.Bool.{and_parts}
 use Rattle.std.proofs.lemmas.List.{length_push}
 use Rattle.std.proofs.lemmas.List.Elements.{All-nil, All-push}
+use Rattle.list_core.proofs.Choices.{is_none_true}
 use Rattle.ids_core.specs.declared.limits.TheConstants.{MOST_CENTRES, MOST_CLIENTS, MOST_CACHED, MOST_RECORDS}
 use Rattle.script_core.specs.Steps.{IsCount, IsHeader, IsStepOf}
 use Rattle.script_core.specs.Rows.{IsInPhase, IsSection, may_do_in_phase, phase_of, section_of}
@@ -102,10 +103,6 @@ placed_headed old new number sections phase none is = go new phase (subst (λ h.
     go None None bare = placed_on None number sections None bare
     go (Some h) None bare = record { sections_fit = subst (All (IsSection h)) (sym bare.sections_fit) (All-nil (IsSection h)); phase_fits = tt; few = let few = bare.few in omega arith; few_open = tt }
 
-none_from : {X : Type 0} (o : Option X) → is_none o ≡ true → o ≡ None
-none_from None e = refl
-none_from (Some x) e = absurd (cc)
-
 -- one section more
 placed_section : (header : Option Header) (number : ℕ) (sections : List Section) (phase : Option (List Step)) (section : Section) → is_some header ≡ true → IfSome header (λ h. IsSection h section) → IsPlaced header number sections phase → IsPlaced header (number + 1) (sections ++ section ∷ []) None
 placed_section None number sections phase section some fits is = absurd (cc)
@@ -167,12 +164,12 @@ row_taken : (number : ℕ) (reading : Reading) (line : Row) → IsRead number re
 unfolding may_stand read_more
 row_taken number reading (row.Centres n k) is time within may = record {
   set = record { centres = within.sets; clients = is.set.clients; cache = is.set.cache; limit = is.set.limit; threads = is.set.threads; rounds = is.set.rounds };
-  placed = placed_headed (header_in reading) (header_said (Some (record { n = n; k = k })) reading.clients) number reading.sections reading.phase (ap (λ g. header_said g reading.clients) (none_from reading.centres may)) is.placed;
+  placed = placed_headed (header_in reading) (header_said (Some (record { n = n; k = k })) reading.clients) number reading.sections reading.phase (ap (λ g. header_said g reading.clients) (is_none_true reading.centres may)) is.placed;
   time = omega arith;
 }
 row_taken number reading (row.Clients clients) is time within may = record {
   set = record { centres = is.set.centres; clients = within.sets; cache = is.set.cache; limit = is.set.limit; threads = is.set.threads; rounds = is.set.rounds };
-  placed = placed_headed (header_in reading) (header_said reading.centres (Some clients)) number reading.sections reading.phase (ap (header_said reading.centres) (none_from reading.clients (and_parts _ _ may).1) ∙ no_clients reading.centres) is.placed;
+  placed = placed_headed (header_in reading) (header_said reading.centres (Some clients)) number reading.sections reading.phase (ap (header_said reading.centres) (is_none_true reading.clients (and_parts _ _ may).1) ∙ no_clients reading.centres) is.placed;
   time = omega arith;
 }
 row_taken number reading (row.Cache objects) is time within may = record { set = record { centres = is.set.centres; clients = is.set.clients; cache = within.sets; limit = is.set.limit; threads = is.set.threads; rounds = is.set.rounds }; placed = placed_on (header_in reading) number reading.sections reading.phase is.placed; time = omega arith }

@@ -34,7 +34,7 @@ use Rattle.dc_worker.proofs.Alike.{IsCarried, alike_answer}
 use Rattle.dc_worker.proofs.Repeating.{Runs, EndsWell, asked, next_entry, answer_first, goes_on, or_false, run_begins, passed_alike}
 use Rattle.run_book.specs.declared.book.Book.{Book}
 use Rattle.run_book.specs.Setups.{Setup, centre_settings}
-use Rattle.run_book.specs.Parts.{trail_of}
+use Rattle.run_book.specs.Parts.{trail_of, applied_by_end}
 use Rattle.run_book.specs.Graphs.{own_list}
 use Rattle.run_book.specs.Fit.{FitsWith, IsHandedOn}
 use Rattle.run_book.proofs.Causal.Origins.{whole_each, agreement_whole}
@@ -49,7 +49,7 @@ IsCentre b i = (1 ≤ i) × (i ≤ b.n)
 
 -- what a centre of the book let go of an origin's records, each centre has
 abbrev pub KeepsLacked : Book → Setup → Type 0
-KeepsLacked b setup = (i origin j : ℕ) → IsCentre b i → IsCentre b j → at (horizon (centre_settings b setup i) (trail_of b i)).trimmed origin ≤ at (vector b.n (applied b.n (trail_of b j))) origin
+KeepsLacked b setup = (i origin j : ℕ) → IsCentre b i → IsCentre b j → at (horizon (centre_settings b setup i) (trail_of b i)).trimmed origin ≤ at (vector b.n (applied_by_end b j)) origin
 
 -- the trails of the book are those at first with what an actor did behind them
 abbrev pub EndsWith : Book → (ℕ → List Entry) → ℕ → List Deed → Type 0
@@ -60,7 +60,7 @@ module _ (b : Book) (setup : Setup) (fit : FitsWith b setup) (keeps : KeepsLacke
 
   -- what a centre has applied
   abbrev A : ℕ → List Record
-  A i = applied b.n (trail_of b i)
+  A i = applied_by_end b i
 
   -- the centres at first
   abbrev c : Centres

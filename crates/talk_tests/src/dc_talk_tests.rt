@@ -2,7 +2,6 @@
 ghost use Rattle.std.specs.Prelude.{◌≤◌};
 ghost use Rattle.ids_core.specs.declared.limits.TheConstants.{MOST_CENTRES};
 
-use dc_centre::Centre;
 use dc_talk::{Ask, Door, ListDoor, Say, SharedRecord, belongs, law_history};
 use ids_core::{Dot, NoMemory};
 use machine_trail::Trail;
@@ -46,14 +45,14 @@ fn relays_and_deliveries_fit_or_do_not(rt: HostRuntime) -> Result<(), Fail> {
 }
 
 // Puts the hello of a client, as of a caller, at the end.
-fn note(trail: &mut Trail<Centre>, caller: u32, client: u32) -> Result<(), NoMemory> {
+fn note(trail: &mut Trail<Ask, Say>, caller: u32, client: u32) -> Result<(), NoMemory> {
     trail.room()?;
     let need = single(0);
     trail.push(caller, Ask::Hello { client, need }, Say::Misfit)
 }
 
 // Whether the entry at a place is of that caller.
-fn is_by(trail: &Trail<Centre>, at: usize, caller: u32) -> bool {
+fn is_by(trail: &Trail<Ask, Say>, at: usize, caller: u32) -> bool {
     match trail.get(at) {
         Some((by, _, _)) => by == caller,
         None => false,

@@ -15,7 +15,7 @@ mod dc_centre_peers;
 #[cfg(test)]
 mod dc_centre_tests;
 #[cfg(test)]
-mod dc_host_tests;
+mod dc_door_tests;
 #[cfg(test)]
 mod dc_mail_tests;
 #[cfg(test)]

@@ -21,7 +21,7 @@ fn ask_both<M: Machine>(
 }
 
 // Whether the entries of a gate are these two.
-fn are_noted(trail: &Trail<Gate>) -> bool {
+fn are_noted(trail: &Trail<u32, bool>) -> bool {
     let first = matches!(trail.get(0), Some((4, 70, true)));
     let second = matches!(trail.get(1), Some((9, 71, false)));
     first && second && trail.get(2).is_none() && trail.len() == 2

@@ -17,7 +17,8 @@ use Rattle.std.specs.Map.{lookup, keys_of}
 use Rattle.std.specs.BTreeMap.{is_at}
 use Rattle.tally_core.specs.Sparse.{at, put_at, change, from_sparse}
 
-equal_of : (r : Ordering) → is_eq r ≡ true → r ≡ Equal
+-- what says that it is equal is so
+pub equal_of : (r : Ordering) → is_eq r ≡ true → r ≡ Equal
 equal_of Less e = cc
 equal_of Equal e = refl
 equal_of Greater e = cc

@@ -3,17 +3,14 @@ use Rattle.std.proofs.Common.{◌≡◌, Bool, true, false, ◌&&◌, ◌⊎◌,
 use Rattle.std.specs.Prelude.{filter}
 use Rattle.std.proofs.lemmas.Bool.{cases_Bool, and_parts, and_from, not-true, not_from_false, false≢true}
 use Rattle.list_core.specs.Members.{In}
+use Rattle.list_core.proofs.Choices.{not_true}
 use Rattle.list_core.proofs.Members.{In_filter, In_from_filter}
 use Rattle.tally_core.specs.Sees.{any, Tagged, live, unseen, IsGreatest, TagsEqualSees}
 use Rattle.tally_core.proofs.Finds.{any_true, any_false, any_from, greatest}
 
-not_true_is : (b : Bool) → (b ≡ true → ⊥) → b ≡ false
-not_true_is true h = absurd (h refl)
-not_true_is false h = refl
-
 both_ways : (a b : Bool) → (a ≡ true → b ≡ true) → (b ≡ true → a ≡ true) → a ≡ b
 both_ways true b f g = sym (f refl)
-both_ways false b f g = sym (not_true_is b (λ e. false≢true (g e)))
+both_ways false b f g = sym (not_true b (λ e. false≢true (g e)))
 
 module _ {X : Type 0} (acts : List X) (adds kills : X → Bool) (over sees less : X → X → Bool) (t : Tagged acts (record { adds = adds; kills = kills; over = over; sees = sees; less = less })) where
   abbrev lives : X → Bool
@@ -29,7 +26,7 @@ module _ {X : Type 0} (acts : List X) (adds kills : X → Bool) (over sees less 
       false≢true (sym f ∙ and_from (kills q) (sees q p) k s)
 
   live_unseen : (p : X) → In p acts → lives p ≡ true → stays p ≡ true
-  live_unseen p i l = and_from (adds p) _ a (not_from_false _ (not_true_is _ none))
+  live_unseen p i l = and_from (adds p) _ a (not_from_false _ (not_true _ none))
     where
       a : adds p ≡ true
       a = (and_parts (adds p) _ l).0
@@ -43,7 +40,7 @@ module _ {X : Type 0} (acts : List X) (adds kills : X → Bool) (over sees less 
 
   -- an add that is over an unseen add is unseen
   over_unseen : (q p : X) → In q acts → In p acts → stays p ≡ true → over q p ≡ true → adds q ≡ true → stays q ≡ true
-  over_unseen q p j i u o a = and_from (adds q) _ a (not_from_false _ (not_true_is _ none))
+  over_unseen q p j i u o a = and_from (adds q) _ a (not_from_false _ (not_true _ none))
     where
       none : any (λ r. kills r && sees r q) acts ≡ true → ⊥
       none h =
@@ -52,7 +49,7 @@ module _ {X : Type 0} (acts : List X) (adds kills : X → Bool) (over sees less 
           no_killer p r.0 u r.1 ks.0 (t.through r.0 q p r.1 j i ks.1 (t.seen q p j i o))
 
   greatest_live : (g : X) → IsGreatest less stays acts g → lives g ≡ true
-  greatest_live g is = and_from (adds g) _ (and_parts (adds g) _ is.passes).0 (not_from_false _ (not_true_is _ none))
+  greatest_live g is = and_from (adds g) _ (and_parts (adds g) _ is.passes).0 (not_from_false _ (not_true _ none))
     where
       held : (q : X) → In q acts → over q g ≡ true → ⊥
       held q j o = ⊎_elim
@@ -91,7 +88,7 @@ module _ {X : Type 0} (acts : List X) (adds kills : X → Bool) (over sees less 
             greatest = record {
               there = there.0;
               passes = there.1;
-              above = λ q j k. not_true_is _ (λ e. false≢true (sym (g.2 q (In_filter (less p) (filter test acts) q (In_filter test acts q j k) (t.transitive p g.0 q gi.1 e))) ∙ e));
+              above = λ q j k. not_true _ (λ e. false≢true (sym (g.2 q (In_filter (less p) (filter test acts) q (In_filter test acts q j k) (t.transitive p g.0 q gi.1 e))) ∙ e));
             };
             from = inr gi.1;
           }
@@ -100,7 +97,7 @@ module _ {X : Type 0} (acts : List X) (adds kills : X → Bool) (over sees less 
   live_to_unseen g is = record {
     there = is.there;
     passes = live_unseen g is.there is.passes;
-    above = λ p i u. not_true_is _ (λ e.
+    above = λ p i u. not_true _ (λ e.
         let a = above stays p i u in
         let up : less g a.top ≡ true = ⊎_elim (λ s. ap (less g) (sym s) ∙ e) (λ b. t.transitive g p a.top e b) a.from in
         false≢true (sym (is.above a.top a.greatest.there (greatest_live a.top a.greatest)) ∙ up));

@@ -12,7 +12,7 @@ use Rattle.dc_talk.specs.declared.log.Note.{Note}
 use Rattle.dc_talk.specs.Entries.{Entry}
 use Rattle.dc_talk.specs.Logs.{Logged, marked, entries_made}
 use Rattle.dc_talk.specs.Acting.{noted_all}
-use Rattle.dc_host.specs.KeptDoors.{trail_at, settings_of}
+use Rattle.dc_door.specs.KeptDoors.{trail_at, settings_of}
 use Rattle.dc_mail.specs.Posts.{post_at}
 use Rattle.script_core.specs.declared.script.Script.{Script}
 use Rattle.script_core.specs.declared.steps.Step.{Step}

@@ -13,7 +13,7 @@ use Rattle.list_core.proofs.Members.{In-All}
 use Rattle.dc_talk.specs.declared.calls.Connection.{Connection}
 use Rattle.dc_talk.specs.Logs.{Logged}
 use Rattle.dc_talk.specs.Doors.{DoorView, IsBehind}
-use Rattle.dc_host.specs.Centres.{CentreTrail}
+use Rattle.dc_door.specs.Centres.{CentreTrail}
 use Rattle.dc_host.specs.HostDoors.{CentreHost, CentrePass, ArePasses}
 use Rattle.dc_host.specs.Hosts.{AreFor, IsHostOf, new_row, new_rows, rows_of}
 use Rattle.dc_host.proofs.Passes.{zip_long}

@@ -12,7 +12,7 @@ use Rattle.ids_core.specs.declared.limits.TheConstants.{MOST_CENTRES}
 use Rattle.vv_core.specs.Vectors.{centres}
 use Rattle.dc_talk.specs.declared.sent.Sent.{Sent}
 use Rattle.host_lock.specs.Hosts.{IsOf}
-use Rattle.dc_host.specs.Centres.{KeptCentre, IsKeptCentre}
+use Rattle.dc_door.specs.Centres.{KeptCentre, IsKeptCentre}
 use Rattle.dc_host.specs.HostDoors.{CentreHost, CentrePass, bare}
 use Rattle.dc_host.specs.Hosts.{bare_rows, rows_of, new_rows, AreClosed}
 use Rattle.dc_links.specs.Links.{rows_of as ends_of, AreGivers, AreTakers, AreGiverRows, AreTakerRows}

@@ -19,8 +19,8 @@ use Rattle.dc_talk.specs.Logs.{Logged}
 use Rattle.dc_talk.specs.Answers.{History}
 use Rattle.dc_talk.specs.Clients.{Client, new_client}
 use Rattle.dc_talk.specs.Rule.{Follows, client_after}
-use Rattle.dc_host.specs.Centres.{CentreTrail, new_centre}
-use Rattle.dc_host.specs.KeptDoors.{entries_of, trail_at, settings_of}
+use Rattle.dc_door.specs.Centres.{CentreTrail, new_centre}
+use Rattle.dc_door.specs.KeptDoors.{entries_of, trail_at, settings_of}
 use Rattle.dc_mail.specs.Posts.{post_at, place_of}
 use Rattle.vv_core.specs.Vectors.{centres}
 use Rattle.ids_core.specs.declared.limits.TheConstants.{MOST_CENTRES}

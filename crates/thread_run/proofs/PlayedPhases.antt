@@ -8,10 +8,10 @@ use Rattle.dc_talk.specs.Logs.{Logged, entries_made}
 use Rattle.dc_talk.specs.Entries.{Entry}
 use Rattle.host_lock.specs.Hosts.{AllStood}
 use Rattle.host_lock.specs.Law.{calls_of}
-use Rattle.dc_host.specs.Centres.{all_seen}
+use Rattle.dc_door.specs.Centres.{all_seen}
 use Rattle.dc_host.specs.HostDoors.{CentreHost, CentrePass}
 use Rattle.dc_host.specs.Hosts.{rows_of, new_rows, column}
-use Rattle.dc_host.specs.KeptDoors.{trail_at, settings_of}
+use Rattle.dc_door.specs.KeptDoors.{trail_at, settings_of}
 use Rattle.dc_host.proofs.Passes.{zip_long}
 use Rattle.script_core.specs.Steps.{IsCount}
 use Rattle.run_book.specs.Parts.{entries_by, exchanged}

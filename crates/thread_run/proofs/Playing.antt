@@ -8,9 +8,9 @@ use Rattle.std.proofs.lemmas.Option.{same_Some, slice_get-get_or, get_or_from_sl
 use Rattle.list_core.proofs.Gets.{get_within}
 use Rattle.dc_talk.specs.declared.sent.Sent.{Sent}
 use Rattle.dc_talk.specs.Logs.{Logged}
-use Rattle.dc_host.specs.Centres.{CentreTrail, KeptCentre, all_seen}
+use Rattle.dc_door.specs.Centres.{CentreTrail, KeptCentre, all_seen}
 use Rattle.dc_host.specs.Hosts.{AreFor, rows_of, new_rows, IsHostOf, AreClosed}
-use Rattle.dc_host.specs.KeptDoors.{trail_at}
+use Rattle.dc_door.specs.KeptDoors.{trail_at}
 use Rattle.mail_link.specs.Ends.{GiverView}
 use Rattle.script_core.specs.declared.rounds.Role.{Role}
 use Rattle.script_core.specs.Steps.{IsCount}

@@ -23,13 +23,13 @@ use Rattle.dc_talk.specs.declared.settings.Settings.{Settings}
 use Rattle.dc_talk.specs.Answers.{History}
 use Rattle.dc_talk.specs.Entries.{Entry}
 use Rattle.dc_talk.specs.Logs.{exchanged_in, entry_for, entries_made}
-use Rattle.dc_host.specs.Centres.{CentreTrail, KeptCentre, seen_of, all_seen, IsKeptCentre}
+use Rattle.dc_door.specs.Centres.{CentreTrail, KeptCentre, seen_of, all_seen, IsKeptCentre}
 use Rattle.dc_host.specs.HostDoors.{CentreHost, CentrePass, bare, made_with}
 use Rattle.dc_host.specs.Hosts.{rows_of, bare_rows, new_row, new_rows, column, IsHostOf, IsClosed, AreClosed}
-use Rattle.dc_host.specs.KeptDoors.{entries_of, trail_at, settings_of}
+use Rattle.dc_door.specs.KeptDoors.{entries_of, trail_at, settings_of}
 use Rattle.dc_host.proofs.Rows.{bare_new}
 use Rattle.dc_host.proofs.Passes.{zip_long}
-use Rattle.dc_host.proofs.Trails.{trail_found}
+use Rattle.dc_door.proofs.Trails.{trail_found}
 use Rattle.script_core.specs.Steps.{IsCount}
 use Rattle.run_book.specs.Parts.{exchanged, entries_by}
 use Rattle.run_table.specs.Tables.{AreHistories}

@@ -10,6 +10,7 @@ use Rattle.std.proofs.lemmas.List.FromFn.{length-map-range_with_len}
 use Rattle.std.proofs.lemmas.List.Folds.{fold-map}
 use Rattle.std.proofs.Math.ListN.{length-set}
 use Rattle.list_core.specs.Choices.{when}
+use Rattle.list_core.proofs.Gets.{set_else, set_here}
 use Rattle.dc_talk.specs.declared.calls.Connection.{Connection}
 use Rattle.dc_talk.specs.declared.log.Deed.{Deed}
 use Rattle.dc_talk.specs.declared.log.Note.{Note}
@@ -18,8 +19,8 @@ use Rattle.dc_talk.specs.Clients.{Client}
 use Rattle.dc_talk.specs.Logs.{marked}
 use Rattle.dc_talk.specs.Doors.{IsBehind}
 use Rattle.dc_talk.specs.Rule.{after}
-use Rattle.dc_host.specs.Centres.{CentreTrail}
-use Rattle.dc_host.specs.KeptDoors.{trail_at, shown_of}
+use Rattle.dc_door.specs.Centres.{CentreTrail}
+use Rattle.dc_door.specs.KeptDoors.{trail_at, shown_of}
 use Rattle.dc_mail.specs.Posts.{post_at}
 use Rattle.script_core.specs.declared.script.Script.{Script}
 use Rattle.script_core.specs.declared.steps.ClientStep.{ClientStep}
@@ -42,7 +43,6 @@ use Rattle.run_book.proofs.Happenings.Playing.{all_at}
 use Rattle.run_table.specs.declared.table.Table.{Table}
 use Rattle.run_table.specs.Tables.{log_at, log_in, HasStepped, HasOperated}
 use Rattle.run_table.proofs.Allowing.{allows_does}
-use Rattle.run_table.proofs.Numbered.{set_else, set_here}
 use Rattle.run_sections.specs.Orders.{deeds_of, InOrder, ClientGoes, OperatorGoes}
 use Rattle.run_sections.specs.Sections.{actors_of, Left, linked}
 use Rattle.thread_run.specs.Tables.{notes_at, come_of, between_of, AreLinked, IsTableOf, HasPlayed}

@@ -1,6 +1,6 @@
 -- A run of the first sections of a script.
 use Rattle.std.specs.Prelude.{◌≡◌, ℕ, flat_map, List}
-use Rattle.dc_host.specs.KeptDoors.{trail_at}
+use Rattle.dc_door.specs.KeptDoors.{trail_at}
 use Rattle.script_core.specs.declared.script.Script.{Script}
 use Rattle.script_core.specs.declared.steps.Section.{Section}
 use Rattle.script_core.specs.Steps.{IsCount}

@@ -2,7 +2,7 @@
 use Rattle.std.specs.Prelude.{◌≡◌, ℕ, ◌+◌, ◌-◌, map, length, List, ◌++◌, unwrap_or, slice_get}
 use Rattle.std.specs.Option.{option_map}
 use Rattle.dc_talk.specs.declared.log.Note.{Note}
-use Rattle.dc_host.specs.KeptDoors.{trail_at, settings_of}
+use Rattle.dc_door.specs.KeptDoors.{trail_at, settings_of}
 use Rattle.dc_mail.specs.Posts.{post_at}
 use Rattle.vv_core.specs.Vectors.{centres}
 use Rattle.script_core.specs.declared.script.Script.{Script}

@@ -1,6 +1,6 @@
 // A script, section by section.
 ghost use Rattle.std.specs.Prelude.{IfOk, OnOk};
-ghost use Rattle.dc_host.specs.KeptDoors.{trail_at};
+ghost use Rattle.dc_door.specs.KeptDoors.{trail_at};
 ghost use Rattle.script_core.specs.Rows.{section_of, IsLine, IsSection};
 ghost use Rattle.script_core.specs.Scripts.{header_of, IsInRange};
 ghost use Rattle.script_core.specs.Steps.{IsStepOf};

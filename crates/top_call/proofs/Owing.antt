@@ -12,11 +12,14 @@ use Rattle.script_reader.specs.Scripts.{script_read}
 use Rattle.script_reader.proofs.CutOff.{cut_off, past_is_none}
 use Rattle.run_book.specs.Fit.{FitsWith}
 use Rattle.run_book.specs.Setups.{setup_of}
-use Rattle.run_book.proofs.Causal.Theorem.{causal}
+use Rattle.run_book.proofs.Causal.Theorem.{causal as book_causal}
 use Rattle.run_book.specs.declared.book.Book.{Book}
+use Rattle.run_sections.specs.Runs.{IsSectionRunOf}
 use Rattle.top_call.specs.declared.engine.Owed.{Owed}
-use Rattle.top_call.specs.declared.top.Ended.{Ended}
-use Rattle.top_call.specs.Runs.{Given, IsAnswerable, IsBookOf, IsCausalRun, IsDone, IsRefusedAt, IsInput, IsOwed, IsPlay, IsRead, IsServed, Played, Made, Told, Done, Refused, Misused, IsPlayed, IsSomeScript, IsStatus, EndsSo, Plays, Reads, Wrote, empty_book, form_text, given_form, told_text}
+use Rattle.top_call.specs.declared.input.Task.{Task}
+use Rattle.top_call.specs.declared.input.Task.TheVariants.{Play, Refuse}
+use Rattle.top_call.specs.declared.ending.Ended.{Ended}
+use Rattle.top_call.specs.Runs.{Given, AsksThreads, IsAnswerable, IsAsked, IsBookOf, IsDone, IsFitAndCausal, IsRefusedAt, IsOwed, IsPlay, IsRead, IsScriptIn, IsServed, IsTask, IsTaskIn, IsThreaded, IsToPlay, Played, Made, Told, Done, Refused, Misused, IsPlayed, IsSomeScript, IsStatus, EndsSo, Plays, Reads, Wrote, empty_book, form_text, given_form, told_text}
 use Rattle.command_line.specs.declared.form.Form.{Form}
 use Rattle.command_line.specs.declared.form.Form.TheVariants.{Run, Serial, Make, Load, Help, Version}
 use Rattle.command_line.specs.Forms.{IsForm, spelled}
@@ -31,25 +34,22 @@ book_fits (Make num) script book run = absurd run
 book_fits Help script book run = absurd run
 book_fits Version script book run = absurd run
 
--- what is owed for a script is a run of its steps
-pub run_plays : (form : Form) (left : Option (List ℕ)) (bytes : List ℕ) (script : Script) (owed : Owed) → IsPlay form → IsInput form left bytes → script_read bytes ≡ Ok script
-    → owed.status ≡ 0 → IsBookOf form script owed.book → owed.text.items ≡ form_text form script owed.book → owed.fault ≡ None → IsPlayed (given_form form left) owed
-run_plays form left bytes script owed plays input spelled status run text sound = record {
+-- what is owed for a script that a form plays
+pub run_plays : (form : Form) (left : Option (List ℕ)) (script : Script) (owed : Owed) → IsPlay form → IsAsked form left script → owed.status ≡ 0 → owed.script ≡ Some script
+    → IsBookOf form script owed.book → owed.text.items ≡ form_text form script owed.book → owed.fault ≡ None → IsOwed (given_form form left) owed
+run_plays form left script owed plays input status kept run text sound = Done (Played (record {
   asked = form;
   plays = plays;
   form = refl;
   status = status;
-  run = record {
-    bytes = bytes;
-    input = input;
-    script = script;
-    spelled = spelled;
-    run = run;
-    causal = causal owed.book (setup_of script) (book_fits form script owed.book run);
-  };
+  script = script;
+  kept = kept;
+  input = input;
+  run = run;
+  causal = record { fits = book_fits form script owed.book run; causal = book_causal owed.book (setup_of script) (book_fits form script owed.book run) };
   text = text;
   sound = sound;
-}
+}))
 
 -- ---- the forms
 
@@ -109,6 +109,44 @@ plays_by words form is play = record { asked = form; plays = play; form = is }
 pub one_play : (form again : Form) → IsPlay form → IsPlay again → spelled form ≡ spelled again → form ≡ again
 one_play form again play too same = one_form form again (play_known form play) (play_known again too) same
 
+-- ---- the forms with threads
+
+-- a form that plays with threads plays
+pub threaded_plays : (form : Form) → IsThreaded form → IsPlay form
+threaded_plays (Run trail) threaded = tt
+threaded_plays (Serial trail) threaded = absurd threaded
+threaded_plays (Make num) threaded = threaded
+threaded_plays (Load num) threaded = threaded
+threaded_plays Help threaded = threaded
+threaded_plays Version threaded = threaded
+
+-- a book of a run section by section is one that it leaves
+pub threaded_book : (form : Form) (script : Script) (book : Book) → IsThreaded form → IsSectionRunOf script book → IsBookOf form script book
+threaded_book (Run trail) script book threaded run = run
+threaded_book (Serial trail) script book threaded run = absurd threaded
+threaded_book (Make num) script book threaded run = threaded
+threaded_book (Load num) script book threaded run = run
+threaded_book Help script book threaded run = threaded
+threaded_book Version script book threaded run = threaded
+
+-- the form for which words ask for threads is one that the program knows
+asked_known : (words : List (List ℕ)) (asks : AsksThreads words) → IsForm asks.asked
+asked_known words asks = play_known asks.asked (threaded_plays asks.asked asks.threaded)
+
+-- words that spell another form ask for no threads
+pub not_asked : (words : List (List ℕ)) (form : Form) → IsForm form → words ≡ spelled form → (IsThreaded form → ⊥) → AsksThreads words → ⊥
+not_asked words form known is none asks = none (subst IsThreaded (one_form asks.asked form (asked_known words asks) known (sym asks.form ∙ is)) asks.threaded)
+
+-- nor do words that spell no form
+pub none_asked : (words : List (List ℕ)) → ((form : Form) → IsForm form → words ≢ spelled form) → AsksThreads words → ⊥
+none_asked words none asks = none asks.asked (asked_known words asks) asks.form
+
+-- where words ask for no threads, the form that they spell plays with none
+pub alone_form : (words : List (List ℕ)) (form : Form) → words ≡ spelled form → (AsksThreads words → ⊥) → IsThreaded form → ⊥
+alone_form words form is none threaded = none (record { asked = form; threaded = threaded; form = is })
+
+-- ---- what was done
+
 -- words by which a script was played ask for one
 pub asks : (given : Given) (owed : Owed) → IsPlayed given owed → Plays given.words
 asks given owed p = plays_by given.words p.asked p.form p.plays
@@ -146,92 +184,60 @@ refused_left bytes past None line cause fault limits whole = fault
 refused_left bytes true (Some rest) line cause fault limits whole = cut_off bytes rest (limits.0 refl) ∙ fault
 refused_left bytes false (Some rest) line cause fault limits whole = ap script_read (ap (λ l. bytes ++ l) (whole refl) ∙ append-nil bytes) ∙ fault
 
--- the input of a form that reads a script is what the source had left
-pub input_read : (form : Form) (left : Option (List ℕ)) (bytes : List ℕ) → IsRead form → IsInput form left bytes → IfSome left (λ all. all ≡ bytes)
-input_read (Run trail) left bytes read input = input
-input_read (Serial trail) left bytes read input = input
-input_read (Make num) left bytes read input = absurd read
-input_read (Load num) left bytes read input = absurd read
-input_read Help left bytes read input = absurd read
-input_read Version left bytes read input = absurd read
-
--- what the source had left is its input
-pub read_input : (form : Form) (left : Option (List ℕ)) (bytes : List ℕ) → IsRead form → IfSome left (λ all. all ≡ bytes) → IsInput form left bytes
-read_input (Run trail) left bytes read all = all
-read_input (Serial trail) left bytes read all = all
-read_input (Make num) left bytes read all = read
-read_input (Load num) left bytes read all = absurd read
-read_input Help left bytes read all = read
-read_input Version left bytes read all = read
-
--- what a form that reads a script did with these bytes: it played them
-record PlayedBytes (form : Form) (bytes : List ℕ) (owed : Owed) : Type 0 where
-  status : owed.status ≡ 0
-  script : Script
-  spells : script_read bytes ≡ Ok script
-  run : IsBookOf form script owed.book
-  text : owed.text.items ≡ form_text form script owed.book
-  sound : owed.fault ≡ None
-
-bytes_played : (form : Form) (bytes : List ℕ) (owed : Owed) → IsRead form → IsDone (given_form form (Some bytes)) owed → PlayedBytes form bytes owed
-bytes_played form bytes owed read done = record {
-  status = p.status;
-  script = p.run.script;
-  spells = ap script_read (input_read p.asked (Some bytes) p.run.bytes (subst IsRead (sym same) read) p.run.input) ∙ p.run.spelled;
-  run = subst (λ form. IsBookOf form p.run.script owed.book) same p.run.run;
-  text = p.text ∙ ap (λ form. form_text form p.run.script owed.book) same;
-  sound = p.sound;
-}
-  where
-    p : IsPlayed (given_form form (Some bytes)) owed
-    p = played_of (given_form form (Some bytes)) owed (plays_by (spelled form) form refl (read_plays form read)) done
-
-    same : p.asked ≡ form
-    same = one_play p.asked form p.plays (read_plays form read) (sym p.form)
-
 -- bytes of a script are within the limits
-within_limits : (form : Form) (bytes : List ℕ) (owed : Owed) → PlayedBytes form bytes owed → PassesLimits bytes → ⊥
-within_limits form bytes owed p past = past_is_none bytes p.script past p.spells
+within_limits : (bytes : List ℕ) (script : Script) → script_read bytes ≡ Ok script → PassesLimits bytes → ⊥
+within_limits bytes script spells past = past_is_none bytes script past spells
 
--- what is owed for the bytes that were read is owed for what the source had left
-pub owed_left : (form : Form) (old new : Option (List ℕ)) (bytes : List ℕ) (past : Bool) (owed : Owed) → IsRead form → old ≡ puts_back bytes new → (IsTrue past ↔ PassesLimits bytes) → (past ≡ false → IfSome new (λ rest. rest ≡ [])) → IsOwed (given_form form (Some bytes)) owed → IsOwed (given_form form old) owed
-owed_left form old new bytes past owed read parts limits whole (Done d) =
-    let p : PlayedBytes form bytes owed = bytes_played form bytes owed read d in
-    let all : IfSome old (λ all. all ≡ bytes) = subst (λ left. IfSome left (λ all. all ≡ bytes)) (sym parts) (all_read bytes new (whole_of bytes past new (within_limits form bytes owed p) limits whole)) in
-    Done (Played (run_plays form old bytes p.script owed (read_plays form read) (read_input form old bytes read all) p.spells p.status p.run p.text p.sound))
-owed_left form old new bytes past owed read parts limits whole (Refused r) = Refused (record {
-  form = r.form;
-  status = r.status;
-  line = r.line;
-  cause = r.cause;
-  refused = record {
-    bytes = all_left bytes new;
-    input = subst (λ left. IfSome left (λ all. all ≡ all_left bytes new)) (sym parts) (tells_all bytes new);
-    fault = refused_left bytes past new r.line r.cause (ap script_read r.refused.input ∙ r.refused.fault) limits whole;
-  };
-  text = r.text;
-  book = r.book;
-  told = r.told;
-})
-owed_left form old new bytes past owed read parts limits whole (Misused u) = absurd (u.form form (read_known form read) refl)
+-- the script that was found in an input is what its bytes say
+script_said : (bytes : List ℕ) (script : Script) → IsScriptIn (Some bytes) script → script_read bytes ≡ Ok script
+script_said bytes script found = ap script_read found.input ∙ found.spelled
 
--- where the bytes that were read are played, nothing is left
-pub end_met : (form : Form) (new : Option (List ℕ)) (bytes : List ℕ) (past : Bool) (owed : Owed) → IsRead form → (IsTrue past ↔ PassesLimits bytes) → (past ≡ false → IfSome new (λ rest. rest ≡ [])) → IsOwed (given_form form (Some bytes)) owed → owed.status ≡ 0 → IfSome new (λ rest. rest ≡ [])
-end_met form new bytes past owed read limits whole (Done d) zero = whole_of bytes past new (within_limits form bytes owed (bytes_played form bytes owed read d)) limits whole
-end_met form new bytes past owed read limits whole (Refused r) zero = absurd (omega (arith, zero, r.status))
-end_met form new bytes past owed read limits whole (Misused u) zero = absurd (omega (arith, zero, u.status))
+-- so is the one that a form plays which reads it
+pub asked_said : (form : Form) (bytes : List ℕ) (script : Script) → IsRead form → IsAsked form (Some bytes) script → script_read bytes ≡ Ok script
+asked_said (Run trail) bytes script read asked = script_said bytes script asked
+asked_said (Serial trail) bytes script read asked = script_said bytes script asked
+asked_said (Make num) bytes script read asked = absurd read
+asked_said (Load num) bytes script read asked = absurd read
+asked_said Help bytes script read asked = absurd read
+asked_said Version bytes script read asked = absurd read
 
--- a run of what a source had left
-abbrev run_left : (form : Form) (left other : Option (List ℕ)) (book : Book) → left ≡ other → IsCausalRun form left book → IsCausalRun form other book
-run_left form left other book same run = record { bytes = run.bytes; input = subst (λ l. IsInput form l run.bytes) same run.input; script = run.script; spelled = run.spelled; run = run.run; causal = run.causal }
+-- what an input asks for, a form asks for that reads it
+pub task_asked : (form : Form) (left : Option (List ℕ)) (task : Task) → IsRead form → IsTaskIn left task → IsTask form left task
+task_asked (Run trail) left (Play script) read is = is
+task_asked (Run trail) left (Refuse fault) read is = (tt, is)
+task_asked (Serial trail) left (Play script) read is = is
+task_asked (Serial trail) left (Refuse fault) read is = (tt, is)
+task_asked (Make num) left task read is = absurd read
+task_asked (Load num) left task read is = absurd read
+task_asked Help left task read is = absurd read
+task_asked Version left task read is = absurd read
+
+-- what the bytes that were read ask for, all that the source had left does
+pub task_left : (old new : Option (List ℕ)) (bytes : List ℕ) (past : Bool) (task : Task) → old ≡ puts_back bytes new → (IsTrue past ↔ PassesLimits bytes) → (past ≡ false → IfSome new (λ rest. rest ≡ [])) → IsTaskIn (Some bytes) task → IsTaskIn old task
+task_left old new bytes past (Play script) parts limits whole (range, found) =
+    let spells : script_read bytes ≡ Ok script = script_said bytes script found in
+    let all : IfSome old (λ all. all ≡ bytes) = subst (λ left. IfSome left (λ all. all ≡ bytes)) (sym parts) (all_read bytes new (whole_of bytes past new (within_limits bytes script spells) limits whole)) in
+    (range, record { bytes = bytes; input = all; spelled = spells })
+task_left old new bytes past (Refuse fault) parts limits whole refused = record {
+  bytes = all_left bytes new;
+  input = subst (λ left. IfSome left (λ all. all ≡ all_left bytes new)) (sym parts) (tells_all bytes new);
+  fault = refused_left bytes past new fault.line fault.cause (ap script_read refused.input ∙ refused.fault) limits whole;
+}
+
+-- where they are to be played, nothing is left
+pub task_end : (new : Option (List ℕ)) (bytes : List ℕ) (past : Bool) (task : Task) → (IsTrue past ↔ PassesLimits bytes) → (past ≡ false → IfSome new (λ rest. rest ≡ [])) → IsTaskIn (Some bytes) task → IsToPlay task → IfSome new (λ rest. rest ≡ [])
+task_end new bytes past (Play script) limits whole (range, found) play = whole_of bytes past new (within_limits bytes script (script_said bytes script found)) limits whole
+task_end new bytes past (Refuse fault) limits whole refused play = absurd play
+
+-- ---- what is owed
 
 -- what is owed for the words of a form is owed whatever the sink has
 pub owed_given : (form : Form) (given : Given) (left : Option (List ℕ)) (owed : Owed) → given.words ≡ spelled form → given.left ≡ left → IsOwed (given_form form left) owed → IsOwed given owed
-owed_given form given left owed spells same (Done (Played p)) = Done (Played (record { asked = p.asked; plays = p.plays; form = spells ∙ p.form; status = p.status; run = run_left p.asked left given.left owed.book (sym same) p.run; text = p.text; sound = p.sound }))
-owed_given form given left owed spells same (Done (Made m)) = Done (Made (record { num = m.num; known = m.known; form = spells ∙ m.form; status = m.status; text = m.text; book = m.book; sound = m.sound }))
-owed_given form given left owed spells same (Done (Told t)) = Done (Told (record { question = t.question; form = spells ∙ t.form; status = t.status; text = t.text; book = t.book; sound = t.sound }))
-owed_given form given left owed spells same (Refused r) = Refused (record { form = record { asked = r.form.asked; reads = r.form.reads; form = spells ∙ r.form.form }; status = r.status; line = r.line; cause = r.cause; refused = subst (λ l. IsRefusedAt l r.line r.cause) (sym same) r.refused; text = r.text; book = r.book; told = r.told })
-owed_given form given left owed spells same (Misused u) = Misused (record { form = λ other known is. u.form other known (sym spells ∙ is); status = u.status; text = u.text; book = u.book; sound = u.sound })
+owed_given form given left owed spells same (Done (Played p)) = Done (Played (record { asked = p.asked; plays = p.plays; form = spells ∙ p.form; status = p.status; script = p.script; kept = p.kept; input = subst (λ l. IsAsked p.asked l p.script) (sym same) p.input; run = p.run; causal = p.causal; text = p.text; sound = p.sound }))
+owed_given form given left owed spells same (Done (Made m)) = Done (Made (record { num = m.num; known = m.known; form = spells ∙ m.form; status = m.status; text = m.text; script = m.script; book = m.book; sound = m.sound }))
+owed_given form given left owed spells same (Done (Told t)) = Done (Told (record { question = t.question; form = spells ∙ t.form; status = t.status; text = t.text; script = t.script; book = t.book; sound = t.sound }))
+owed_given form given left owed spells same (Refused r) = Refused (record { form = record { asked = r.form.asked; reads = r.form.reads; form = spells ∙ r.form.form }; status = r.status; line = r.line; cause = r.cause; refused = subst (λ l. IsRefusedAt l r.line r.cause) (sym same) r.refused; text = r.text; script = r.script; book = r.book; told = r.told })
+owed_given form given left owed spells same (Misused u) = Misused (record { form = λ other known is. u.form other known (sym spells ∙ is); status = u.status; text = u.text; script = u.script; book = u.book; sound = u.sound })
 
 -- ---- the ends
 
@@ -248,10 +254,10 @@ done_sound given owed (Made m) = m.sound
 done_sound given owed (Told t) = t.sound
 
 -- a run whose whole text was taken ends with what is owed
-pub wrote_ends : (given : Given) (owed : Owed) (ended : Ended) (taken : Option (List ℕ)) → IsOwed given owed → ended.status ≡ owed.status → ended.book ≡ owed.book → ended.fault ≡ owed.fault → taken ≡ puts_behind owed.text.items given.taken → EndsSo given ended taken
-wrote_ends given owed ended taken (Done d) status book fault all = record {
+pub wrote_ends : (given : Given) (owed : Owed) (ended : Ended) (taken : Option (List ℕ)) → IsOwed given owed → ended.status ≡ owed.status → ended.script ≡ owed.script → ended.book ≡ owed.book → ended.fault ≡ owed.fault → taken ≡ puts_behind owed.text.items given.taken → EndsSo given ended taken
+wrote_ends given owed ended taken (Done d) status script book fault all = record {
   statuses = inl (status ∙ done_status given owed d);
-  done = λ _. record { owed = owed; kind = d; status = status; book = book; fault = fault; all = all };
+  done = λ _. record { owed = owed; kind = d; status = status; script = script; book = book; fault = fault; all = all };
   misused = λ other. absurd (omega (arith, other, status, done_status given owed d));
   refused = λ other. absurd (omega (arith, other, status, done_status given owed d));
   read_failed = λ other. absurd (omega (arith, other, status, done_status given owed d));
@@ -259,20 +265,20 @@ wrote_ends given owed ended taken (Done d) status book fault all = record {
   no_memory = λ other. absurd (omega (arith, other, status, done_status given owed d));
   sound = λ _. fault ∙ done_sound given owed d;
 }
-wrote_ends given owed ended taken (Refused r) status book fault all = record {
+wrote_ends given owed ended taken (Refused r) status script book fault all = record {
   statuses = inr (inr (inl (status ∙ r.status)));
   done = λ other. absurd (omega (arith, other, status, r.status));
   misused = λ other. absurd (omega (arith, other, status, r.status));
-  refused = λ _. record { owed = owed; kind = r; status = status; book = book; fault = fault; all = all };
+  refused = λ _. record { owed = owed; kind = r; status = status; script = script; book = book; fault = fault; all = all };
   read_failed = λ other. absurd (omega (arith, other, status, r.status));
   write_failed = λ other. absurd (omega (arith, other, status, r.status));
   no_memory = λ other. absurd (omega (arith, other, status, r.status));
   sound = λ other. absurd (other (status ∙ r.status));
 }
-wrote_ends given owed ended taken (Misused u) status book fault all = record {
+wrote_ends given owed ended taken (Misused u) status script book fault all = record {
   statuses = inr (inl (status ∙ u.status));
   done = λ other. absurd (omega (arith, other, status, u.status));
-  misused = λ _. record { owed = owed; kind = u; status = status; book = book; fault = fault; all = all };
+  misused = λ _. record { owed = owed; kind = u; status = status; script = script; book = book; fault = fault; all = all };
   refused = λ other. absurd (omega (arith, other, status, u.status));
   read_failed = λ other. absurd (omega (arith, other, status, u.status));
   write_failed = λ other. absurd (omega (arith, other, status, u.status));
@@ -281,28 +287,28 @@ wrote_ends given owed ended taken (Misused u) status book fault all = record {
 }
 
 -- a run whose write failed ends with a front of what is owed
-pub front_ends : (given : Given) (owed : Owed) (ended : Ended) (taken : Option (List ℕ)) → IsOwed given owed → ended.status ≡ 5 → ended.book ≡ owed.book → ended.fault ≡ None → TookFront owed.text.items given.taken taken → EndsSo given ended taken
-front_ends given owed ended taken kind five book sound front = record {
+pub front_ends : (given : Given) (owed : Owed) (ended : Ended) (taken : Option (List ℕ)) → IsOwed given owed → ended.status ≡ 5 → ended.script ≡ owed.script → ended.book ≡ owed.book → ended.fault ≡ None → TookFront owed.text.items given.taken taken → EndsSo given ended taken
+front_ends given owed ended taken kind five script book sound front = record {
   statuses = inr (inr (inr (inr (inl five))));
   done = λ other. absurd (omega (arith, other, five));
   misused = λ other. absurd (omega (arith, other, five));
   refused = λ other. absurd (omega (arith, other, five));
   read_failed = λ other. absurd (omega (arith, other, five));
-  write_failed = λ _. record { owed = owed; kind = kind; same_book = book; front = front };
+  write_failed = λ _. record { owed = owed; took = record { kind = kind; front = front }; script = script; book = book };
   no_memory = λ other. absurd (omega (arith, other, five));
   sound = λ _. sound;
 }
 
 -- one that memory failed does too, and hands out no book
-pub short_ends : (given : Given) (owed : Owed) (ended : Ended) (taken : Option (List ℕ)) → IsOwed given owed → ended.status ≡ 6 → ended.book ≡ empty_book → ended.fault ≡ None → TookFront owed.text.items given.taken taken → EndsSo given ended taken
-short_ends given owed ended taken kind six book sound front = record {
+pub short_ends : (given : Given) (owed : Owed) (ended : Ended) (taken : Option (List ℕ)) → IsOwed given owed → ended.status ≡ 6 → ended.script ≡ None → ended.book ≡ empty_book → ended.fault ≡ None → TookFront owed.text.items given.taken taken → EndsSo given ended taken
+short_ends given owed ended taken kind six script book sound front = record {
   statuses = inr (inr (inr (inr (inr six))));
   done = λ other. absurd (omega (arith, other, six));
   misused = λ other. absurd (omega (arith, other, six));
   refused = λ other. absurd (omega (arith, other, six));
   read_failed = λ other. absurd (omega (arith, other, six));
   write_failed = λ other. absurd (omega (arith, other, six));
-  no_memory = λ _. record { short = inr (owed.book, record { owed = owed; kind = kind; same_book = refl; front = front }); book = book };
+  no_memory = λ _. record { short = inr (owed, record { kind = kind; front = front }); script = script; book = book };
   sound = λ _. sound;
 }
 
@@ -333,15 +339,42 @@ ends_complete given ended taken asks no_read no_write ends = by_status ends.stat
     by_status (inr (inr (inr (inr (inl five))))) = absurd (no_write five)
     by_status (inr (inr (inr (inr (inr six))))) = inr six
 
--- where a script was to be played and the run ended well, its book is causal
-pub ends_causal : (given : Given) (ended : Ended) (taken : Option (List ℕ)) → EndsSo given ended taken → ended.status ≡ 0 → (play : Plays given.words) → IsCausalRun play.asked given.left ended.book
-ends_causal given ended taken ends zero play = subst (IsCausalRun play.asked given.left) (sym wrote.book) (subst (λ form. IsCausalRun form given.left wrote.owed.book) same p.run)
-  where
-    wrote : Wrote IsDone given ended taken
-    wrote = ends.done zero
+-- what is handed out of a run by a form that plays: the script that it plays, and a book that it leaves of it, which is causal
+record WasPlayed (given : Given) (ended : Ended) (form : Form) : Type 0 where
+  script : Script
+  kept : ended.script ≡ Some script
+  input : IsAsked form given.left script
+  run : IsBookOf form script ended.book
+  causal : IsFitAndCausal script ended.book
 
-    p : IsPlayed given wrote.owed
-    p = played_of given wrote.owed play wrote.kind
+module _ (given : Given) (ended : Ended) (taken : Option (List ℕ)) (ends : EndsSo given ended taken) (zero : ended.status ≡ 0) (play : Plays given.words) where
+  -- where a script was to be played and the run ended well, it was played
+  was_played : WasPlayed given ended play.asked
+  was_played = record {
+    script = p.script;
+    kept = wrote.script ∙ p.kept;
+    input = subst (λ form. IsAsked form given.left p.script) same p.input;
+    run = subst (IsBookOf play.asked p.script) (sym wrote.book) (subst (λ form. IsBookOf form p.script wrote.owed.book) same p.run);
+    causal = subst (IsFitAndCausal p.script) (sym wrote.book) p.causal;
+  }
+    where
+      wrote : Wrote IsDone given ended taken
+      wrote = ends.done zero
 
-    same : p.asked ≡ play.asked
-    same = one_play p.asked play.asked p.plays play.plays (sym p.form ∙ play.form)
+      p : IsPlayed given wrote.owed
+      p = played_of given wrote.owed play wrote.kind
+
+      same : p.asked ≡ play.asked
+      same = one_play p.asked play.asked p.plays play.plays (sym p.form ∙ play.form)
+
+  -- its book is causal
+  pub ends_causal : IsSomeAnd ended.script (λ script. IsFitAndCausal script ended.book)
+  ends_causal = subst (λ kept. IsSomeAnd kept (λ script. IsFitAndCausal script ended.book)) (sym was_played.kept) was_played.causal
+
+  -- it is one that the form leaves of the script
+  pub ends_run : IsSomeAnd ended.script (λ script. IsBookOf play.asked script ended.book)
+  ends_run = subst (λ kept. IsSomeAnd kept (λ script. IsBookOf play.asked script ended.book)) (sym was_played.kept) was_played.run
+
+  -- which is the one that is asked for
+  pub ends_input : IsSomeAnd ended.script (IsAsked play.asked given.left)
+  ends_input = subst (λ kept. IsSomeAnd kept (IsAsked play.asked given.left)) (sym was_played.kept) was_played.input

@@ -10,19 +10,23 @@ use Rattle.io_edge.specs.Streams.{TookFront, puts_behind}
 use Rattle.script_reader.specs.declared.fault.Cause.{Cause}
 use Rattle.script_reader.specs.declared.fault.ScriptFault.TheVariants.{Refused as RefusedAt}
 use Rattle.script_core.specs.declared.script.Script.{Script}
+use Rattle.script_core.specs.Scripts.{IsInRange}
 use Rattle.script_reader.specs.Causes.{cause_text}
 use Rattle.script_reader.specs.Scripts.{script_read}
 use Rattle.run_book.specs.declared.book.Book.{Book}
 use Rattle.run_book.specs.Setups.{Setup, setup_of}
+use Rattle.run_book.specs.Fit.{FitsWith}
 use Rattle.run_book.specs.Causal.{IsCausal}
 use Rattle.print_text.specs.Text.{text_of}
 use Rattle.trail_text.specs.Trails.{trail_text}
 use Rattle.load_text.specs.LastReads.{load_text}
 use Rattle.load_maker.specs.Made.{made_script}
 use Rattle.run_sections.specs.Runs.{IsSectionRunOf}
-use Rattle.world_core.specs.Runs.{IsRunOf}
+use Rattle.run_sections.specs.OneThread.{IsRunOf}
 use Rattle.top_call.specs.declared.engine.Owed.{Owed}
-use Rattle.top_call.specs.declared.top.Ended.{Ended}
+use Rattle.top_call.specs.declared.input.Task.{Task}
+use Rattle.top_call.specs.declared.input.Task.TheVariants.{Play, Refuse}
+use Rattle.top_call.specs.declared.ending.Ended.{Ended}
 
 -- what a run is given: its words, what its source has left, and what its sink has taken
 pub record Given : Type 0 where
@@ -49,6 +53,12 @@ abbrev pub IsPlay : Form → Type 0
 IsPlay (Load num) = IsForm (Load num)
 IsPlay form = IsRead form
 
+-- a form that plays a script with threads in its phases: `run`, or `load` of a number that the program knows
+abbrev pub IsThreaded : Form → Type 0
+IsThreaded (Run trail) = ⊤
+IsThreaded (Load num) = IsForm (Load num)
+IsThreaded _ = ⊥
+
 -- the words ask for a script to be read and played
 pub record Reads (words : List (List ℕ)) : Type 0 where
   pub asked : Form
@@ -61,13 +71,33 @@ pub record Plays (words : List (List ℕ)) : Type 0 where
   pub plays : IsPlay asked
   pub form : words ≡ spelled asked
 
--- the bytes of the script that a form plays: all that the source had left, as far as it tells that, or what is made of
--- the number
-abbrev pub IsInput : Form → Option (List ℕ) → List ℕ → Type 0
-IsInput (Run trail) left bytes = IfSome left (λ all. all ≡ bytes)
-IsInput (Serial trail) left bytes = IfSome left (λ all. all ≡ bytes)
-IsInput (Load num) left bytes = bytes ≡ made_script num
-IsInput _ left bytes = ⊥
+-- the words ask for a script to be played with threads
+pub record AsksThreads (words : List (List ℕ)) : Type 0 where
+  pub asked : Form
+  pub threaded : IsThreaded asked
+  pub form : words ≡ spelled asked
+
+-- the form with threads that words ask for, and none where they ask for none
+abbrev pub IsThreadedForm : List (List ℕ) → Option Form → Type 0
+IsThreadedForm words (Some form) = IsThreaded form × (words ≡ spelled form)
+IsThreadedForm words None = AsksThreads words → ⊥
+
+-- ---- the script that is played
+
+-- the bytes that a source had left, all of them as far as it tells that, are this script
+pub record IsScriptIn (left : Option (List ℕ)) (script : Script) : Type 0 where
+  pub bytes : List ℕ
+  pub input : IfSome left (λ all. all ≡ bytes)
+  pub spelled : script_read bytes ≡ Ok script
+
+-- the script that a form plays: the one that the source had left, or the one that is made of the number
+abbrev pub IsAsked : Form → Option (List ℕ) → Script → Type 0
+IsAsked (Run trail) left script = IsScriptIn left script
+IsAsked (Serial trail) left script = IsScriptIn left script
+IsAsked (Load num) left script = script_read (made_script num) ≡ Ok script
+IsAsked _ left script = ⊥
+
+-- ---- the book of the run, and the texts
 
 -- a book that a form leaves of a script: one of a run section by section, with threads in the phases, or of a run on one
 -- thread
@@ -108,14 +138,9 @@ empty_book = record { n = 1; k = 1; trails = []; logs = [] }
 abbrev pub IsSomeScript : List ℕ → Type 0
 IsSomeScript bytes = (script : Script) × (script_read bytes ≡ Ok script)
 
--- the bytes that the form plays are a script, and the book is one that the form leaves of this script, and causal; where
--- the script is read, the source had this left
-pub record IsCausalRun (form : Form) (left : Option (List ℕ)) (book : Book) : Type 0 where
-  pub bytes : List ℕ
-  pub input : IsInput form left bytes
-  pub script : Script
-  pub spelled : script_read bytes ≡ Ok script
-  pub run : IsBookOf form script book
+-- the book fits the setup that the script asks for, and is causal
+pub record IsFitAndCausal (script : Script) (book : Book) : Type 0 where
+  pub fits : FitsWith book (setup_of script)
   pub causal : IsCausal book (setup_of script)
 
 -- all that a source had left, as far as it tells that, are bytes that are no script: the first line at fault has this
@@ -127,14 +152,19 @@ pub record IsRefusedAt (left : Option (List ℕ)) (line : ℕ) (cause : Cause) :
 
 -- ---- what is owed: a status, a text and a book
 
--- what is owed for a script: status 0, the book of a run of it, and the text that the form writes of this book
+-- what is owed for a script: status 0, the script that is asked for, a book that the form leaves of it, which fits and is
+-- causal, and the text that the form writes of this book
 pub record IsPlayed (given : Given) (owed : Owed) : Type 0 where
   pub asked : Form
   pub plays : IsPlay asked
   pub form : given.words ≡ spelled asked
   pub status : owed.status ≡ 0
-  pub run : IsCausalRun asked given.left owed.book
-  pub text : owed.text.items ≡ form_text asked run.script owed.book
+  pub script : Script
+  pub kept : owed.script ≡ Some script
+  pub input : IsAsked asked given.left script
+  pub run : IsBookOf asked script owed.book
+  pub causal : IsFitAndCausal script owed.book
+  pub text : owed.text.items ≡ form_text asked script owed.book
   pub sound : owed.fault ≡ None
 
 -- what is owed for a number: status 0, and the script that is made of it
@@ -144,6 +174,7 @@ pub record IsMade (given : Given) (owed : Owed) : Type 0 where
   pub form : given.words ≡ spelled (Make num)
   pub status : owed.status ≡ 0
   pub text : owed.text.items ≡ made_script num
+  pub script : owed.script ≡ None
   pub book : owed.book ≡ empty_book
   pub sound : owed.fault ≡ None
 
@@ -153,6 +184,7 @@ pub record IsTold (given : Given) (owed : Owed) : Type 0 where
   pub form : given.words ≡ spelled question
   pub status : owed.status ≡ 0
   pub text : told_text question ≡ Some owed.text.items
+  pub script : owed.script ≡ None
   pub book : owed.book ≡ empty_book
   pub sound : owed.fault ≡ None
 
@@ -170,6 +202,7 @@ pub record IsRefusal (given : Given) (owed : Owed) : Type 0 where
   pub cause : Cause
   pub refused : IsRefusedAt given.left line cause
   pub text : owed.text.items ≡ refusal_text line cause
+  pub script : owed.script ≡ None
   pub book : owed.book ≡ empty_book
   pub told : owed.fault ≡ Some (record { line = line; cause = cause })
 
@@ -178,6 +211,7 @@ pub record IsUsage (given : Given) (owed : Owed) : Type 0 where
   pub form : (form : Form) → IsForm form → given.words ≢ spelled form
   pub status : owed.status ≡ 2
   pub text : owed.text.items ≡ usage_text
+  pub script : owed.script ≡ None
   pub book : owed.book ≡ empty_book
   pub sound : owed.fault ≡ None
 
@@ -193,32 +227,40 @@ pub data IsOwed (given : Given) (owed : Owed) : Type 0 where
 abbrev pub IsStatus : ℕ → Type 0
 IsStatus status = (status ≡ 0) ⊎ ((status ≡ 2) ⊎ ((status ≡ 3) ⊎ ((status ≡ 4) ⊎ ((status ≡ 5) ⊎ (status ≡ 6)))))
 
--- something of this kind is owed, the run ended with its status and its book, and the sink took the
--- whole text
+-- something of this kind is owed, the run ended with its status, its script, its book and its fault, and the sink took
+-- the whole text
 pub record Wrote (IsKind : Given → Owed → Type 0) (given : Given) (ended : Ended) (taken : Option (List ℕ)) : Type 0 where
   pub owed : Owed
   pub kind : IsKind given owed
   pub status : ended.status ≡ owed.status
+  pub script : ended.script ≡ owed.script
   pub book : ended.book ≡ owed.book
   pub fault : ended.fault ≡ owed.fault
   pub all : taken ≡ puts_behind owed.text.items given.taken
 
--- the sink took a front of what is owed, with this book
-pub record WroteFront (given : Given) (book : Book) (taken : Option (List ℕ)) : Type 0 where
-  pub owed : Owed
+-- this is owed, and the sink took a front of its text
+pub record TookFrontOf (given : Given) (owed : Owed) (taken : Option (List ℕ)) : Type 0 where
   pub kind : IsOwed given owed
-  pub same_book : book ≡ owed.book
   pub front : TookFront owed.text.items given.taken taken
+
+-- the sink took a front of what is owed, and its script and its book are handed out
+pub record WroteFront (given : Given) (ended : Ended) (taken : Option (List ℕ)) : Type 0 where
+  pub owed : Owed
+  pub took : TookFrontOf given owed taken
+  pub script : ended.script ≡ owed.script
+  pub book : ended.book ≡ owed.book
 
 -- a script was to be read, the sink took nothing, and there is no run
 pub record WroteNothing (given : Given) (ended : Ended) (taken : Option (List ℕ)) : Type 0 where
   pub form : Reads given.words
   pub nothing : taken ≡ given.taken
+  pub script : ended.script ≡ None
   pub book : ended.book ≡ empty_book
 
 -- the sink took nothing or a front of what is owed, and no run is handed out
 pub record WroteShort (given : Given) (ended : Ended) (taken : Option (List ℕ)) : Type 0 where
-  pub short : (taken ≡ given.taken) ⊎ ((book : Book) × WroteFront given book taken)
+  pub short : (taken ≡ given.taken) ⊎ ((owed : Owed) × TookFrontOf given owed taken)
+  pub script : ended.script ≡ None
   pub book : ended.book ≡ empty_book
 
 -- what a form wants of the source: that it tells that it has a script left, where one is read
@@ -234,6 +276,22 @@ pub record IsAnswerable (given : Given) : Type 0 where
 
 -- ---- on the way to the top call
 
+-- an input asks for a script to be played
+abbrev pub IsToPlay : Task → Type 0
+IsToPlay (Play script) = ⊤
+IsToPlay (Refuse fault) = ⊥
+
+-- what an input asks for that is to be a script: a script, whose numbers are in range, is played, and other bytes are
+-- refused
+abbrev pub IsTaskIn : Option (List ℕ) → Task → Type 0
+IsTaskIn left (Play script) = IsInRange script × IsScriptIn left script
+IsTaskIn left (Refuse fault) = IsRefusedAt left fault.line fault.cause
+
+-- what a form asks for: the script that it plays, or that what it reads is refused
+abbrev pub IsTask : Form → Option (List ℕ) → Task → Type 0
+IsTask form left (Play script) = IsInRange script × IsAsked form left script
+IsTask form left (Refuse fault) = IsRead form × IsRefusedAt left fault.line fault.cause
+
 -- what is given by the words of a form, by a source that has this left, and by a sink that tells nothing
 abbrev pub given_form : Form → Option (List ℕ) → Given
 given_form form left = record { words = spelled form; left = left; taken = None }
@@ -245,6 +303,6 @@ pub record EndsSo (given : Given) (ended : Ended) (taken : Option (List ℕ)) : 
   pub misused : ended.status ≡ 2 → Wrote IsUsage given ended taken
   pub refused : ended.status ≡ 3 → Wrote IsRefusal given ended taken
   pub read_failed : ended.status ≡ 4 → WroteNothing given ended taken
-  pub write_failed : ended.status ≡ 5 → WroteFront given ended.book taken
+  pub write_failed : ended.status ≡ 5 → WroteFront given ended taken
   pub no_memory : ended.status ≡ 6 → WroteShort given ended taken
   pub sound : ended.status ≢ 3 → ended.fault ≡ None

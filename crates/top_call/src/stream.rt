@@ -55,8 +55,10 @@ impl From<Failed> for ReadFault {
 
 #[tactic(auto, using(crate::proofs::Pieces::back_twice))]
 /// Reads until the end, or until the bytes pass the limits of a script. Each read takes a byte or
-/// is the last. After an `Err` some bytes are gone, and no read was made after one that failed.
+/// is the last. After an `Err` some bytes are gone. No read is made after one that failed, and none behind the end:
+/// nothing says that it may (`Source::may_read`).
 pub fn read_input<S: Source>(alloc: Global, source: &mut S) -> Result<Input, ReadFault>
+    requires { S.may_read source.old }
     ensures taken { IfOk result (λ input. S.left source.old ≡ puts_back input.bytes.items (S.left source.new)) }
     ensures limits { IfOk result (λ input. IsTrue input.past_limits ↔ PassesLimits input.bytes.items) }
     ensures whole { IfOk result (λ input. input.past_limits ≡ false → IfSome (S.left source.new) (λ rest. rest ≡ [])) }
@@ -90,10 +92,11 @@ pub fn read_input<S: Source>(alloc: Global, source: &mut S) -> Result<Input, Rea
     })
 }
 
-/// Writes the whole text, offering all that is left of it in each write. After an `Err` a front of
-/// it is written, and no write was made after the one that failed.
+/// Writes the whole text, offering all that is left of it in each write. After an `Err` a front of it is written. No
+/// write is made after one that failed: nothing says that it may (`Sink::may_write`).
 #[tactic(auto, using(crate::proofs::Pieces::behind_twice))]
 pub fn write_all<W: Sink>(sink: &mut W, text: &[u8]) -> Result<(), WriteFault>
+    requires { W.may_write sink.old }
     ensures all { OnOk result (W.taken sink.new ≡ puts_behind text.now (W.taken sink.old)) }
     ensures front { OnErr result (TookFront text.now (W.taken sink.old) (W.taken sink.new)) }
     ensures failed { result ≡ Err WriteFault.Failed → HasRisen (W.faults sink.old) (W.faults sink.new) }

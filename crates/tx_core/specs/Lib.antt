@@ -3,3 +3,4 @@ pub mod Objects
 pub mod Ops
 pub mod States
 pub mod Operations
+pub mod Updates

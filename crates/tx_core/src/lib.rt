@@ -7,10 +7,12 @@ mod names;
 mod op;
 mod state;
 mod tx;
+mod updates;
 
 pub use check::{TxFault, is_small_delta};
 pub use laws::{law_state_order, law_state_tags, law_state_value};
 pub use names::{NamePairs, Names, SharedList};
 pub use op::Op;
 pub use state::{State, Value};
-pub use tx::{Record, Tx, Update, Updates};
+pub use tx::{Record, Tx, Update};
+pub use updates::Updates;

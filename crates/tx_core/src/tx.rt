@@ -2,8 +2,8 @@
 ghost use Rattle.std.specs.Prelude.{◌≡◌, IfOk};
 
 use crate::op::Op;
+use crate::updates::Updates;
 use ids_core::{Dot, NoMemory, ObjectId};
-use list_core::List;
 use vv_core::{Stamp, Vector};
 
 /// An operation on one object.
@@ -12,9 +12,6 @@ pub struct Update {
     pub object: ObjectId,
     pub op: Op,
 }
-
-/// The updates of a transaction in their order, seen as their list.
-pub type Updates = List<Update>;
 
 /// A transaction as its client commits it (Zawirski and others, Middleware 2015).
 #[derive(Clone, Drop)]

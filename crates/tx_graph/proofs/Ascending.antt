@@ -1,8 +1,6 @@
 -- Dots in order, each once: after a sort, and with equal neighbours left out.
 use Rattle.std.proofs.Common.{◌≡◌, true, List, [], refl, sym, subst, IsPermutation}
-use Rattle.std.specs.Ordering.{is_eq, eq_by_cmp}
-use Rattle.std.specs.declared.cmp.Ordering.{Ordering}
-use Rattle.std.specs.declared.cmp.Ordering.TheVariants.{Less, Equal, Greater}
+use Rattle.std.specs.Ordering.{eq_by_cmp}
 use Rattle.std.specs.Cmp.{both_ways}
 use Rattle.std.specs.List.{Contains}
 use Rattle.std.specs.List.Sorted.{IsSorted, IsStrictlySortedBy}
@@ -17,19 +15,14 @@ use Rattle.list_core.proofs.Gets.{In_contains, contains_In}
 use Rattle.ids_core.specs.declared.ids.Dot.{Dot}
 use Rattle.ids_core.specs.Ids.{same_dot}
 use Rattle.ids_core.specs.Orders.{dot_cmp, dot_cmp_total, dot_cmp_same}
+use Rattle.tally_core.proofs.Sparse.{equal_of}
 use Rattle.ids_core.specs.Same.{same_dot-true, same_dot-same, equivalence_of}
-
--- what says that it is equal is so
-is_eq-true : (o : Ordering) → is_eq o ≡ true → o ≡ Equal
-is_eq-true Less is = absurd (false≢true is)
-is_eq-true Equal is = refl
-is_eq-true Greater is = absurd (false≢true is)
 
 -- dots are the same where their order says so
 same_dot-cmp : (d e : Dot) → same_dot d e ≡ eq_by_cmp dot_cmp d e
 same_dot-cmp d e = both_ways (same_dot d e) (eq_by_cmp dot_cmp d e)
     (λ same. subst (λ e. eq_by_cmp dot_cmp d e ≡ true) (same_dot-true d e same) ((eq_by_cmp_equiv dot_cmp_total).refl d))
-    (λ same. same_dot-same d e (dot_cmp_same d e (is_eq-true (dot_cmp d e) same)))
+    (λ same. same_dot-same d e (dot_cmp_same d e (equal_of (dot_cmp d e) same)))
 
 -- in strict order
 pub once_ascending : (sorted once : List Dot) → IsSorted dot_cmp sorted → IsFiltered (DiffersFromLast same_dot) [] sorted once → IsStrictlySortedBy dot_cmp once

@@ -4,7 +4,7 @@ use Rattle.std.specs.Prelude.{Result, Ok, Err, IfOk}
 use Rattle.std.proofs.lemmas.List.{length-map}
 use Rattle.dc_talk.specs.Entries.{Entry}
 use Rattle.dc_talk.specs.Logs.{Logged}
-use Rattle.dc_host.specs.Centres.{CentreTrail}
+use Rattle.dc_door.specs.Centres.{CentreTrail}
 use Rattle.script_core.specs.declared.script.Script.{Script}
 use Rattle.run_book.specs.declared.book.Book.{Book}
 use Rattle.run_book.specs.Setups.{setup_of}
@@ -16,7 +16,8 @@ use Rattle.run_book.proofs.Happenings.Timely.{timely}
 use Rattle.run_book.proofs.Happenings.Playing.{scripted}
 use Rattle.world_core.specs.Worlds.{WorldView, IsWorld}
 use Rattle.script_core.specs.Scripts.{IsInRange}
-use Rattle.world_core.specs.Runs.{IsSound, IsWorldBook, HasPlayed, IsRunOf}
+use Rattle.run_sections.specs.OneThread.{IsRunOf}
+use Rattle.world_core.specs.Runs.{IsSound, IsWorldBook, HasPlayed}
 use Rattle.run_table.proofs.Reading.{trails_match, logs_match}
 use Rattle.world_core.proofs.Worlds.{centre_count}
 

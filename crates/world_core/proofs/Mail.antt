@@ -6,7 +6,7 @@ use Rattle.list_core.specs.Members.{In}
 use Rattle.dc_talk.specs.declared.log.Deed.{Deed}
 use Rattle.script_core.specs.Steps.{IsCount}
 use Rattle.script_core.specs.Mail.{Post, new_post, lying}
-use Rattle.dc_worker.proofs.Mailing.{mailed_sent}
+use Rattle.script_core.proofs.Mailing.{mailed_sent}
 use Rattle.dc_mail.specs.Posts.{place_of, post_at, new_posts, IsCentre}
 use Rattle.dc_mail.proofs.Places.{place_within}
 use Rattle.run_book.specs.Setups.{Setup}

@@ -29,6 +29,7 @@ use Rattle.run_book.proofs.Happenings.Playing.{played_none as none_played, playe
 use Rattle.script_core.specs.Rounds.{ReceiverDeeds, Brings, others}
 use Rattle.script_core.specs.Carrying.{InTurn, no_turn, next_turn}
 use Rattle.list_core.specs.Members.{In}
+use Rattle.list_core.proofs.Gets.{set_else, set_here}
 use Rattle.run_book.proofs.Happenings.WorkerRounds.{others_within}
 use Rattle.run_table.specs.declared.works.Work.{Work}
 use Rattle.run_table.specs.declared.works.Work.TheVariants.{Round, Close}
@@ -37,7 +38,7 @@ use Rattle.world_core.specs.Worlds.{WorldView, IsWorld, Acts, stub_at, progress_
 use Rattle.run_table.specs.Tables.{new_stub, new_stubs, Turn, HasPosts, log_at}
 use Rattle.world_core.specs.Events.{TakesStep, TakesOrder, TakesRound, turn_of}
 use Rattle.world_core.specs.Runs.{HasPlayed, MakesMoves}
-use Rattle.run_table.proofs.Numbered.{get_below, set_else, set_here}
+use Rattle.run_table.proofs.Numbered.{get_below}
 use Rattle.world_core.proofs.Mail.{new_post_at}
 use Rattle.world_core.proofs.Rounds.{worker_range}
 use Rattle.world_core.proofs.Worlds.{stub_named, stub_got}

@@ -19,7 +19,7 @@ use Rattle.dc_talk.specs.declared.log.Deed.TheVariants.{Asked}
 use Rattle.dc_talk.specs.declared.log.Note.{Note}
 use Rattle.dc_talk.specs.Entries.{Entry}
 use Rattle.dc_talk.specs.Logs.{marked}
-use Rattle.dc_host.specs.KeptDoors.{trail_at}
+use Rattle.dc_door.specs.KeptDoors.{trail_at}
 use Rattle.run_book.specs.Setups.{setup_of}
 use Rattle.run_book.specs.Parts.{IsClient}
 use Rattle.run_book.specs.Happenings.{notes_by, trail_in, HasAnswer, Happens}

@@ -5,13 +5,13 @@ use Rattle.std.proofs.lemmas.Option.{slice_get_within}
 use Rattle.dc_talk.specs.declared.log.Deed.{Deed}
 use Rattle.dc_talk.specs.declared.log.Note.{Note}
 use Rattle.dc_talk.specs.Rule.{client_after}
-use Rattle.dc_host.specs.KeptDoors.{shown_of, begun}
+use Rattle.dc_door.specs.KeptDoors.{shown_of, begun}
 use Rattle.script_core.specs.declared.script.Script.{Script}
 use Rattle.script_core.specs.declared.rounds.Role.TheVariants.{Sender, Receiver, Reporter, Pruner}
 use Rattle.script_core.specs.Steps.{IsCount}
 use Rattle.script_core.specs.Mail.{due_in_round, due_at_close}
 use Rattle.script_core.proofs.Arriving.{due_lies, close_lies}
-use Rattle.dc_worker.proofs.RoundDeeds.{sender_carries, reporter_carries, pruner_carries}
+use Rattle.script_core.proofs.RoundDeeds.{sender_carries, reporter_carries, pruner_carries}
 use Rattle.dc_mail.specs.Posts.{post_at}
 use Rattle.client_stub.specs.Playing.{StubView}
 use Rattle.run_book.specs.Setups.{setup_of}

@@ -7,26 +7,27 @@ use Rattle.std.proofs.lemmas.List.Folds.{fold-map}
 use Rattle.std.proofs.lemmas.List.Sums.{fold-append}
 use Rattle.std.proofs.lemmas.List.Elements.{All-weaker}
 use Rattle.std.proofs.Math.ListN.{length-set}
+use Rattle.list_core.proofs.Gets.{set_else, set_here}
 use Rattle.dc_talk.specs.declared.ask.Ask.{Ask}
 use Rattle.dc_talk.specs.declared.calls.Connection.{Connection}
 use Rattle.dc_talk.specs.declared.log.Fate.TheVariants.{Unheard}
 use Rattle.dc_talk.specs.declared.log.Deed.{Deed}
 use Rattle.dc_talk.specs.declared.log.Deed.TheVariants.{Did, Asked, Told}
 use Rattle.dc_talk.specs.declared.log.Note.{Note}
-use Rattle.dc_talk.specs.Logs.{Logged, marked, noted, entries_made}
+use Rattle.dc_talk.specs.Logs.{marked, entries_made}
 use Rattle.dc_talk.specs.Acting.{IsAskBehind}
 use Rattle.dc_talk.specs.Doors.{DoorView, IsBehind, HasDone}
 use Rattle.dc_talk.specs.Clients.{Client, new_client}
 use Rattle.dc_talk.specs.Rule.{after, client_after}
-use Rattle.dc_host.specs.Centres.{CentreTrail}
-use Rattle.dc_host.specs.KeptDoors.{shown_of, begun, trail_at}
+use Rattle.dc_door.specs.Centres.{CentreTrail}
+use Rattle.dc_door.specs.KeptDoors.{shown_of, begun, trail_at}
 use Rattle.script_core.specs.declared.script.Script.{Script}
 use Rattle.script_core.specs.declared.steps.ClientStep.{ClientStep}
 use Rattle.script_core.specs.declared.steps.OperatorStep.{OperatorStep}
 use Rattle.script_core.specs.Steps.{IsOperatorStep}
 use Rattle.script_core.specs.Deeds.{StepDeeds, after_all}
 use Rattle.script_core.specs.Orders.{OperatorDeeds}
-use Rattle.client_stub.specs.Playing.{StubView, AllowsAll, IsLinkBehind}
+use Rattle.client_stub.specs.Playing.{StubView, IsLinkBehind}
 use Rattle.run_book.specs.Setups.{setup_of}
 use Rattle.run_book.specs.Happenings.{Happened, notes_by, happening, GoesToOneOf, IsLinkWithin, ClientDoes, AreTogether}
 use Rattle.run_book.proofs.Happenings.Entries.{own_then, other_then, deeds_marked}
@@ -39,7 +40,6 @@ use Rattle.run_book.specs.Moves.{operator_does}
 use Rattle.world_core.specs.Worlds.{IsWorld, Acts, stub_at, notes_in, seen_of}
 use Rattle.run_table.specs.Tables.{HasStepped, HasOperated, HasAskedOnce, log_in, outside, Turn, HasPosts, log_at}
 use Rattle.world_core.specs.Events.{TakesStep, TakesOrder, AsksOnce, MayAsk}
-use Rattle.run_table.proofs.Numbered.{set_else, set_here}
 use Rattle.world_core.proofs.Mail.{mail_later, mail_after}
 use Rattle.world_core.proofs.Worlds.{centre_count, HasActed, more, world_then, histories_then, stub_named, stub_got}
 

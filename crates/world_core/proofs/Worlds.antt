@@ -15,8 +15,8 @@ use Rattle.dc_talk.specs.declared.log.Deed.{Deed}
 use Rattle.dc_talk.specs.Logs.{Logged, entries_made}
 use Rattle.dc_talk.specs.Answers.{History}
 use Rattle.dc_talk.specs.Rule.{client_after}
-use Rattle.dc_host.specs.Centres.{CentreTrail}
-use Rattle.dc_host.specs.KeptDoors.{entries_of, trail_at}
+use Rattle.dc_door.specs.Centres.{CentreTrail}
+use Rattle.dc_door.specs.KeptDoors.{entries_of, trail_at}
 use Rattle.ids_core.specs.declared.limits.TheConstants.{MOST_CENTRES}
 use Rattle.script_core.specs.declared.script.Script.{Script}
 use Rattle.script_core.specs.Scripts.{IsInRange}

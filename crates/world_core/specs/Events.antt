@@ -12,7 +12,7 @@ use Rattle.dc_talk.specs.declared.log.Fate.TheVariants.{Unheard}
 use Rattle.dc_talk.specs.declared.log.Deed.{Deed}
 use Rattle.dc_talk.specs.declared.log.Deed.TheVariants.{Asked}
 use Rattle.dc_talk.specs.Logs.{marked}
-use Rattle.dc_host.specs.KeptDoors.{trail_at}
+use Rattle.dc_door.specs.KeptDoors.{trail_at}
 use Rattle.script_core.specs.declared.script.Script.{Script}
 use Rattle.script_core.specs.declared.steps.Section.{Section}
 use Rattle.script_core.specs.declared.steps.ClientStep.{ClientStep}

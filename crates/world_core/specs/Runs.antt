@@ -8,7 +8,6 @@ use Rattle.client_stub.specs.Playing.{StubView}
 use Rattle.run_book.specs.declared.book.Book.{Book}
 use Rattle.run_book.specs.Setups.{setup_of}
 use Rattle.run_book.specs.Fit.{FitsWith}
-use Rattle.run_book.specs.Scripted.{HasSteps}
 use Rattle.run_book.specs.Refusals.{IsTimely}
 use Rattle.run_book.specs.Happenings.{Happened}
 use Rattle.run_book.specs.Moves.{Move}
@@ -44,11 +43,3 @@ pub record MakesMoves (moves : List Move) (old new : WorldView) : Type 0 where
   pub script : new.script ≡ old.script
   pub spent : new.spent ≡ old.spent
   pub goes_on : (front : List Move) → HasPlayed front old → HasPlayed (front ++ moves) new
-
--- the book is a run of the script: it is one of its centres, fits its setup, has its steps and is timely
-pub record IsRunOf (script : Script) (b : Book) : Type 0 where
-  pub n : b.n ≡ script.n
-  pub k : b.k ≡ script.k
-  pub fits : FitsWith b (setup_of script)
-  pub steps : HasSteps script b
-  pub timely : IsTimely b (setup_of script)

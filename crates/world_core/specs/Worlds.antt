@@ -8,8 +8,8 @@ use Rattle.dc_talk.specs.declared.log.Deed.{Deed}
 use Rattle.dc_talk.specs.declared.log.Note.{Note}
 use Rattle.dc_talk.specs.Logs.{Logged, marked, entries_made}
 use Rattle.dc_talk.specs.Rule.{client_after}
-use Rattle.dc_host.specs.Centres.{CentreTrail}
-use Rattle.dc_host.specs.KeptDoors.{trail_at}
+use Rattle.dc_door.specs.Centres.{CentreTrail}
+use Rattle.dc_door.specs.KeptDoors.{trail_at}
 use Rattle.script_core.specs.declared.script.Script.{Script}
 use Rattle.script_core.specs.Steps.{IsCount}
 use Rattle.script_core.specs.Deeds.{Progress}

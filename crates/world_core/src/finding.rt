@@ -4,7 +4,7 @@ ghost use Rattle.std.specs.List.{filter_map};
 ghost use Rattle.std.specs.Option.{option_map, option_and_then};
 ghost use Rattle.dc_talk.specs.declared.ask.Ask.TheVariants.{Commit};
 ghost use Rattle.run_book.specs.Moves.{client_step, operator_step, client_steps, operator_steps};
-ghost use Rattle.dc_host.specs.KeptDoors.{trail_at};
+ghost use Rattle.dc_door.specs.KeptDoors.{trail_at};
 ghost use Rattle.run_table.specs.Tables.{log_at};
 ghost use Rattle.run_table.specs.Works.{work_of};
 ghost use Rattle.world_core.specs.Events.{numbered, step_named, role_of, work_in, work_named, commit_of, commit_named, records_of, record_named, delivery_of, if_centre};

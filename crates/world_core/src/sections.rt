@@ -4,7 +4,8 @@ ghost use Rattle.script_core.specs.Rows.{IsLine, IsSection};
 ghost use Rattle.script_core.specs.Scripts.{header_of, IsInRange};
 ghost use Rattle.script_core.specs.Steps.{IsStepOf};
 ghost use Rattle.run_book.specs.Moves.{step_move, section_moves, moves_of};
-ghost use Rattle.world_core.specs.Runs.{MakesMoves, HasPlayed, IsRunOf};
+ghost use Rattle.run_sections.specs.OneThread.{IsRunOf};
+ghost use Rattle.world_core.specs.Runs.{MakesMoves, HasPlayed};
 
 use crate::phases::play_phase;
 use crate::world::World;

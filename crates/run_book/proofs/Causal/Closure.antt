@@ -13,13 +13,12 @@ use Rattle.vv_core.specs.Vectors.{Covers}
 use Rattle.vv_core.proofs.Covering.{Covers_trans}
 use Rattle.tx_core.specs.declared.tx.Tx.{Tx}
 use Rattle.tx_core.specs.declared.tx.Record.{Record}
-use Rattle.dc_talk.specs.Trails.{applied}
 use Rattle.dc_talk.specs.Clients.{Client}
 use Rattle.dc_talk.specs.Rule.{client_after, commits_of}
 use Rattle.dc_talk.proofs.Places.{own_at}
 use Rattle.run_book.specs.Setups.{Setup, centre_settings}
 use Rattle.run_book.specs.declared.book.Book.{Book}
-use Rattle.run_book.specs.Parts.{trail_of, notes_of, IsClient}
+use Rattle.run_book.specs.Parts.{notes_of, IsClient, applied_by_end}
 use Rattle.run_book.specs.Fit.{FitsWith}
 use Rattle.tx_graph.specs.Nodes.{Node, Within, Closed, WellMade}
 use Rattle.run_book.specs.Graphs.{own_list, cover, own_dots, node_of, committed, graph, client_at, basis_at, commits_at}
@@ -75,7 +74,7 @@ module _ (b : Book) (setup : Setup) (fit : FitsWith b setup) where
   -- a record covers the snapshot of its transaction
   snap_deps : (e p : ℕ) (r : Record) → 1 ≤ e → e ≤ b.n → slice_get (own_list b e) p ≡ Some r → Covers r.deps r.tx.snap
   snap_deps e p r low high there =
-      let A = applied b.n (trail_of b e) in
+      let A = applied_by_end b e in
       let each = whole_each b setup fit e low high in
       let o = own_at (centre_settings b setup e) e A each p r there in
       let g = In_get A r o.0 in

@@ -19,7 +19,7 @@ use Rattle.dc_talk.specs.Rule.{commits_of}
 use Rattle.dc_talk.proofs.Places.{own_at}
 use Rattle.run_book.specs.Setups.{Setup, centre_settings}
 use Rattle.run_book.specs.declared.book.Book.{Book}
-use Rattle.run_book.specs.Parts.{trail_of, notes_of, IsClient, applied_at}
+use Rattle.run_book.specs.Parts.{trail_of, notes_of, IsClient, applied_at, applied_by_end}
 use Rattle.run_book.specs.Fit.{FitsWith}
 use Rattle.run_book.specs.Graphs.{own_list, committed}
 use Rattle.run_book.proofs.Numbered.{Numbered, numbered_In}
@@ -39,7 +39,7 @@ module _ (b : Book) (setup : Setup) (fit : FitsWith b setup) where
   -- a record that its origin has stamped carries a commit of its client
   pub own_commit : (e p : ℕ) (r : Record) → 1 ≤ e → e ≤ b.n → slice_get (own_list b e) p ≡ Some r → IsCommitted b setup fit r.tx
   own_commit e p r low high there =
-      let o = own_at (centre_settings b setup e) e (applied b.n (trail_of b e)) (whole_each b setup fit e low high) p r there in
+      let o = own_at (centre_settings b setup e) e (applied_by_end b e) (whole_each b setup fit e low high) p r there in
       by_prefixes (λ X. In r (applied b.n X) → IsCommitted b setup fit r.tx) (trail_of b e)
       (λ q here.
       ⊎_elim

@@ -12,13 +12,12 @@ use Rattle.vv_core.specs.declared.stamp.Stamp.{Stamp}
 use Rattle.vv_core.specs.Vectors.{at, centres, Covers}
 use Rattle.tx_core.specs.declared.tx.Record.{Record}
 use Rattle.dc_talk.specs.Records.{first_stamp}
-use Rattle.dc_talk.specs.Trails.{applied}
 use Rattle.dc_talk.specs.Laws.{IsStampedAfter}
 use Rattle.dc_talk.proofs.Firsts.{first_stamp_is}
 use Rattle.dc_talk.proofs.Places.{own_at}
 use Rattle.run_book.specs.Setups.{Setup, centre_settings}
 use Rattle.run_book.specs.declared.book.Book.{Book}
-use Rattle.run_book.specs.Parts.{trail_of}
+use Rattle.run_book.specs.Parts.{applied_by_end}
 use Rattle.run_book.specs.Fit.{FitsWith}
 use Rattle.run_book.specs.Graphs.{own_list, cover}
 use Rattle.run_book.specs.Sound.{deps_in, IsSound}
@@ -71,9 +70,9 @@ covered_deps b v d sound x =
 
 module _ (b : Book) (setup : Setup) (fit : FitsWith b setup) where
   -- a record that a centre has applied is covered where its stamp is within the vector
-  pub applied_covered : (i : ℕ) → 1 ≤ i → i ≤ b.n → (r : Record) → In r (applied b.n (trail_of b i)) → (v : List ℕ) → r.stamp.seq ≤ at v r.stamp.centre → Covered b v r.tx.dot
+  pub applied_covered : (i : ℕ) → 1 ≤ i → i ≤ b.n → (r : Record) → In r (applied_by_end b i) → (v : List ℕ) → r.stamp.seq ≤ at v r.stamp.centre → Covered b v r.tx.dot
   applied_covered i low high r here v within =
-      let g = In_get (applied b.n (trail_of b i)) r here in
+      let g = In_get (applied_by_end b i) r here in
       let placed = (whole_each b setup fit i low high).holds g.0 r g.1 in
       record {
         centre = r.stamp.centre;
@@ -92,7 +91,7 @@ module _ (b : Book) (setup : Setup) (fit : FitsWith b setup) where
   before v client number sound low x = first (made.before (omega (arith, which, low)))
     where
       A : List Record
-      A = applied b.n (trail_of b x.centre)
+      A = applied_by_end b x.centre
 
       own : In x.item A × (x.item.stamp ≡ record { centre = x.centre; seq = x.place + 1 })
       own = own_at (centre_settings b setup x.centre) x.centre A (whole_each b setup fit x.centre x.low x.high) x.place x.item x.there

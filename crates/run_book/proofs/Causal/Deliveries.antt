@@ -27,7 +27,7 @@ use Rattle.dc_talk.proofs.Firsts.{first_stamp_is}
 use Rattle.dc_talk.proofs.Places.{count_few, own_at}
 use Rattle.run_book.specs.Setups.{Setup, centre_settings}
 use Rattle.run_book.specs.declared.book.Book.{Book}
-use Rattle.run_book.specs.Parts.{trail_of, applied_at}
+use Rattle.run_book.specs.Parts.{trail_of, applied_at, applied_by_end}
 use Rattle.run_book.specs.Fit.{FitsWith, IsHandedOn, IsReported}
 use Rattle.run_book.specs.Refusals.{IsEntry}
 use Rattle.run_book.proofs.Held.{dot_at}
@@ -40,13 +40,13 @@ module _ (b : Book) (setup : Setup) (fit : FitsWith b setup) where
   -- where a record that was sent stands in what its origin has applied, in order
   record IsPlaced (item : Record) : Type 0 where
     place : ℕ
-    there : slice_get (applied b.n (trail_of b item.stamp.centre)) place ≡ Some item
-    order : IsInOrder (centre_settings b setup item.stamp.centre) (take place (applied b.n (trail_of b item.stamp.centre))) item
+    there : slice_get (applied_by_end b item.stamp.centre) place ≡ Some item
+    order : IsInOrder (centre_settings b setup item.stamp.centre) (take place (applied_by_end b item.stamp.centre)) item
 
   -- each record that was sent stands there
   placed : (item : Record) (hops : ℕ) → IsHandedOn b item hops → IsPlaced item
   placed item hops sent =
-      let A = applied b.n (trail_of b item.stamp.centre) in
+      let A = applied_by_end b item.stamp.centre in
       let origin = handed_range b setup fit item hops sent in
       let each = whole_each b setup fit item.stamp.centre origin.0 origin.1 in
       let own = own_at (centre_settings b setup item.stamp.centre) item.stamp.centre A each (item.stamp.seq - 1) item (handed_there b setup fit item hops sent) in
@@ -58,7 +58,7 @@ module _ (b : Book) (setup : Setup) (fit : FitsWith b setup) where
   sent_fits item hops sent =
       let p = placed item hops sent in
       let home = handed_range b setup fit item hops sent in
-      let A = applied b.n (trail_of b item.stamp.centre) in
+      let A = applied_by_end b item.stamp.centre in
       let few = count_few (centre_settings b setup item.stamp.centre) A (whole_each b setup fit item.stamp.centre home.0 home.1) in
       fits_item b.n item
       (record { centre = p.order.centre; seq = (omega (arith, p.order.number), p.order.few); width = p.order.width; fit = p.order.fit })
@@ -78,7 +78,7 @@ module _ (b : Book) (setup : Setup) (fit : FitsWith b setup) where
       A = applied_at b i p
 
       B : List Record
-      B = applied b.n (trail_of b item.stamp.centre)
+      B = applied_by_end b item.stamp.centre
 
       previous : Dot
       previous = dot_at item.tx.dot.client (item.tx.dot.number - 1)

@@ -21,7 +21,6 @@ use Rattle.dc_talk.specs.declared.calls.Change.TheVariants.{Inc, Write, Add, Rem
 use Rattle.dc_talk.specs.declared.calls.Outcome.TheVariants.{Fine, Refused}
 use Rattle.dc_talk.specs.declared.calls.Refusal.TheVariants.{TooManyTags}
 use Rattle.dc_talk.specs.declared.log.Note.{Note}
-use Rattle.dc_talk.specs.Trails.{applied}
 use Rattle.dc_talk.specs.Clients.{Client, draft_updates}
 use Rattle.dc_talk.specs.Calls.{named, op_of, over, tags_in, is_modest, viewed, look_up_outcome, change_outcome}
 use Rattle.dc_talk.specs.Rule.{client_after, commits_of, Follows}
@@ -30,7 +29,7 @@ use Rattle.dc_talk.proofs.Places.{count_few}
 use Rattle.run_book.specs.Graphs.{commits_at}
 use Rattle.run_book.specs.Setups.{Setup, centre_settings}
 use Rattle.run_book.specs.declared.book.Book.{Book}
-use Rattle.run_book.specs.Parts.{trail_of, notes_of, IsClient}
+use Rattle.run_book.specs.Parts.{notes_of, IsClient, applied_by_end}
 use Rattle.run_book.specs.Fit.{FitsWith}
 use Rattle.run_book.specs.Sound.{IsSound}
 use Rattle.run_book.proofs.Sessions.{change_fine}
@@ -112,7 +111,7 @@ module _ (b : Book) (setup : Setup) (fit : FitsWith b setup) where
   sound_small v wide sound zero = omega arith
   sound_small v wide sound (suc e) = ⊎_elim
       (λ past. omega (arith, at_past v (suc e) (omega (arith, wide, past))))
-      (λ le. omega (arith, sound.bounded (suc e), own_length (suc e) (applied b.n (trail_of b (suc e))), count_few (centre_settings b setup (suc e)) (applied b.n (trail_of b (suc e))) (whole_each b setup fit (suc e) (omega arith) le) (suc e)))
+      (λ le. omega (arith, sound.bounded (suc e), own_length (suc e) (applied_by_end b (suc e)), count_few (centre_settings b setup (suc e)) (applied_by_end b (suc e)) (whole_each b setup fit (suc e) (omega arith) le) (suc e)))
       (cases_lt b.n (suc e))
 
   -- each commit of a session is fit

@@ -20,7 +20,7 @@ use Rattle.dc_talk.specs.Rule.{after, client_after}
 use Rattle.dc_talk.proofs.Places.{own_at}
 use Rattle.run_book.specs.declared.book.Book.{Book}
 use Rattle.run_book.specs.Setups.{Setup, centre_settings}
-use Rattle.run_book.specs.Parts.{trail_of, notes_of, IsClient}
+use Rattle.run_book.specs.Parts.{trail_of, notes_of, IsClient, applied_by_end}
 use Rattle.run_book.specs.Fit.{FitsWith}
 use Rattle.run_book.specs.Graphs.{own_list, cover, own_dots, client_at, basis_at}
 use Rattle.run_book.specs.Known.{IsKnownAt, HeardSnapshot, IsKnown}
@@ -102,7 +102,7 @@ module _ (b : Book) (setup : Setup) (fit : FitsWith b setup) (a : ℕ) (client :
       ⊎_elim
       (λ covered.
       let x = cover_in b s.vector d covered in
-      let stamp : x.item.stamp ≡ record { centre = x.centre; seq = x.place + 1 } = (own_at (centre_settings b setup x.centre) x.centre (applied b.n (trail_of b x.centre)) (whole_each b setup fit x.centre x.low x.high) x.place x.item x.there).1 in
+      let stamp : x.item.stamp ≡ record { centre = x.centre; seq = x.place + 1 } = (own_at (centre_settings b setup x.centre) x.centre (applied_by_end b x.centre) (whole_each b setup fit x.centre x.low x.high) x.place x.item x.there).1 in
       let centre : x.item.stamp.centre ≡ x.centre = ap (λ (s : Stamp). s.centre) stamp in
       let seq = ap (λ (s : Stamp). s.seq) stamp in
       let k = vector_known m x.item.stamp (omega (arith, seq)) (subst (λ e. x.item.stamp.seq ≤ at s.vector e) (sym centre) (omega (arith, seq, x.within))) in

@@ -34,7 +34,7 @@ use Rattle.dc_talk.proofs.Applied.{new_record}
 use Rattle.dc_talk.proofs.Growth.{later_covers, later_guard, applied_push}
 use Rattle.run_book.specs.Setups.{Setup, centre_settings}
 use Rattle.run_book.specs.declared.book.Book.{Book}
-use Rattle.run_book.specs.Parts.{trail_of, notes_of, exchanged, entries_by, IsClient}
+use Rattle.run_book.specs.Parts.{trail_of, notes_of, exchanged, entries_by, IsClient, applied_at}
 use Rattle.dc_talk.specs.Logs.{exchanged_in}
 use Rattle.run_book.specs.Fit.{FitsWith}
 use Rattle.run_book.specs.Graphs.{client_at}
@@ -82,7 +82,7 @@ module _ (b : Book) (setup : Setup) (a : ℕ) where
     reached_hello : (i client : ℕ) (need : List ℕ) (through : ℕ) → HasEntry b setup i (record { caller = a; ask = Hello client need; say = Welcome through }) X → client ≡ s.client → need ≡ s.vector → (sent : ℕ) → sent ≤ through → IsReached b a (X ++ note ∷ []) s.vector (record { centre = i; sent = sent })
     reached_hello i client need through x same here sent le =
         let by = welcome_by (centre_settings b setup i) (take x.place (trail_of b i)) client need through x.is in
-        let A = applied b.n (take x.place (trail_of b i)) in
+        let A = applied_at b i x.place in
         let which : guard client A ≡ guard (a - 1) A = ap (λ c. guard c A) (same ∙ who) in
         record {
           low = x.low;
@@ -127,11 +127,11 @@ module _ (b : Book) (setup : Setup) (a : ℕ) where
         }
 
     -- the centre has a commit behind the entry that stamped it
-    stamped_there : (i place : ℕ) (entry : Entry) (tx : Tx) (stamp : Stamp) → slice_get (trail_of b i) place ≡ Some entry → entry.ask ≡ CommitAsk tx → entry.say ≡ Stamped stamp → tx.dot.number ≤ guard tx.dot.client (applied b.n (take (suc place) (trail_of b i)))
+    stamped_there : (i place : ℕ) (entry : Entry) (tx : Tx) (stamp : Stamp) → slice_get (trail_of b i) place ≡ Some entry → entry.ask ≡ CommitAsk tx → entry.say ≡ Stamped stamp → tx.dot.number ≤ guard tx.dot.client (applied_at b i (suc place))
     stamped_there i place entry tx stamp there asks says =
-        let A = applied b.n (take place (trail_of b i)) in
+        let A = applied_at b i place in
         let r = new_record b.n A tx stamp in
-        let grows : applied b.n (take (suc place) (trail_of b i)) ≡ grown b.n A entry.ask entry.say = ap (applied b.n) (take_one_more (trail_of b i) place entry there) ∙ applied_push b.n (take place (trail_of b i)) entry in
+        let grows : applied_at b i (suc place) ≡ grown b.n A entry.ask entry.say = ap (applied b.n) (take_one_more (trail_of b i) place entry there) ∙ applied_push b.n (take place (trail_of b i)) entry in
         let one : grown b.n A entry.ask entry.say ≡ A ++ r ∷ [] = ap (λ ask. grown b.n A ask entry.say) asks ∙ ap (grown b.n A (CommitAsk tx)) says in
         subst (λ A. tx.dot.number ≤ guard tx.dot.client A) (sym (grows ∙ one)) (in_guard (A ++ r ∷ []) r (In_right A (r ∷ []) r (inl refl)))
 
@@ -139,7 +139,7 @@ module _ (b : Book) (setup : Setup) (a : ℕ) where
     reached_stamped : (link : Connection) (tx : Tx) (stamp : Stamp) (sent : ℕ) → note.deed ≡ Asked link.centre (CommitAsk tx) (Heard (Stamped stamp)) → HasEntry b setup link.centre (record { caller = a; ask = CommitAsk tx; say = Stamped stamp }) X → tx.dot.client ≡ s.client → sent ≤ max link.sent tx.dot.number → IsReached b a X s.vector link → IsReached b a (X ++ note ∷ []) s.vector (record link { sent = sent })
     reached_stamped link tx stamp sent deed x own le r =
         let Y = take x.place (trail_of b link.centre) in
-        let A = applied b.n (take (suc x.place) (trail_of b link.centre)) in
+        let A = applied_at b link.centre (suc x.place) in
         let later = no_sooner X s.vector link (CommitAsk tx) (Stamped stamp) x r in
         let guards = later_guard b.n (a - 1) (trail_of b link.centre) r.place (suc x.place) (omega (arith, later)) in
         let new = stamped_there link.centre x.place (record { caller = a; ask = CommitAsk tx; say = Stamped stamp }) tx stamp x.there refl refl in

@@ -20,7 +20,7 @@ use Rattle.dc_talk.proofs.Places.{have_stamp, own_there}
 use Rattle.dc_talk.proofs.Growth.{carried_later}
 use Rattle.run_book.specs.Setups.{Setup, centre_settings}
 use Rattle.run_book.specs.declared.book.Book.{Book}
-use Rattle.run_book.specs.Parts.{trail_of, applied_at}
+use Rattle.run_book.specs.Parts.{trail_of, applied_at, applied_by_end}
 use Rattle.run_book.specs.Fit.{FitsWith, IsHandedOn}
 use Rattle.run_book.specs.Graphs.{own_list}
 
@@ -34,7 +34,7 @@ module _ (b : Book) (setup : Setup) (fit : FitsWith b setup) where
   each_at i p low high = in_order_at (centre_settings b setup i) (trail_of b i) (history_of i low high) p
 
   -- and in the end
-  pub whole_each : (i : ℕ) → 1 ≤ i → i ≤ b.n → Each (IsInOrder (centre_settings b setup i)) (applied b.n (trail_of b i))
+  pub whole_each : (i : ℕ) → 1 ≤ i → i ≤ b.n → Each (IsInOrder (centre_settings b setup i)) (applied_by_end b i)
   whole_each i low high = in_order (centre_settings b setup i) (trail_of b i) (history_of i low high)
 
   -- ---- with hops
@@ -76,12 +76,12 @@ module _ (b : Book) (setup : Setup) (fit : FitsWith b setup) where
       (came_whole i (with_hops item 0) h.range.0 h.range.1 h.there)
 
   -- a record that its origin has applied stands in its own list
-  own_here : (e : ℕ) (r : Record) → 1 ≤ e → e ≤ b.n → r.stamp.centre ≡ e → In r (applied b.n (trail_of b e)) → slice_get (own_list b r.stamp.centre) (r.stamp.seq - 1) ≡ Some r
+  own_here : (e : ℕ) (r : Record) → 1 ≤ e → e ≤ b.n → r.stamp.centre ≡ e → In r (applied_by_end b e) → slice_get (own_list b r.stamp.centre) (r.stamp.seq - 1) ≡ Some r
   own_here e r low high own here =
       let each = whole_each e low high in
-      let g = In_get (applied b.n (trail_of b e)) r here in
+      let g = In_get (applied_by_end b e) r here in
       let number = (each.holds g.0 r g.1).number in
-      subst (λ o. slice_get (own_list b o) (r.stamp.seq - 1) ≡ Some r) (sym own) (own_there (centre_settings b setup e) (applied b.n (trail_of b e)) each r.stamp.seq r (omega (arith, number)) here (λ i. record { centre = own i; seq = r.stamp.seq }))
+      subst (λ o. slice_get (own_list b o) (r.stamp.seq - 1) ≡ Some r) (sym own) (own_there (centre_settings b setup e) (applied_by_end b e) each r.stamp.seq r (omega (arith, number)) here (λ i. record { centre = own i; seq = r.stamp.seq }))
 
   -- each record that a centre has stands in the own list of its origin: by induction on hops
   there_by : (hops i : ℕ) (item : Record) → Has i item hops → slice_get (own_list b item.stamp.centre) (item.stamp.seq - 1) ≡ Some item
@@ -94,7 +94,7 @@ module _ (b : Book) (setup : Setup) (fit : FitsWith b setup) where
 
   pub handed_range : (item : Record) (hops : ℕ) → IsHandedOn b item hops → (1 ≤ item.stamp.centre) × (item.stamp.centre ≤ b.n)
   handed_range item hops on =
-      let A = applied b.n (trail_of b on.centre) in
+      let A = applied_by_end b on.centre in
       let here : In item A = In_map (λ (x : Sent). x.item) (carried b.n (trail_of b on.centre)) (with_hops item hops) (has_handed item hops on).there in
       let g = In_get A item here in
       ((whole_each on.centre on.range.0 on.range.1).holds g.0 item g.1).centre
@@ -116,7 +116,7 @@ module _ (b : Book) (setup : Setup) (fit : FitsWith b setup) where
       (⊎_elim (λ stamped. inl stamped.1) (λ brought. inr (brought.0, brought.2)) (came_by (centre_settings b setup i) (trail_of b i) (fit.histories i low high) p m.0 m.1))
 
   -- the same of what a centre has in the end
-  pub agreement_whole : (i : ℕ) → 1 ≤ i → i ≤ b.n → (r : Record) → In r (applied b.n (trail_of b i)) → slice_get (own_list b r.stamp.centre) (r.stamp.seq - 1) ≡ Some r
+  pub agreement_whole : (i : ℕ) → 1 ≤ i → i ≤ b.n → (r : Record) → In r (applied_by_end b i) → slice_get (own_list b r.stamp.centre) (r.stamp.seq - 1) ≡ Some r
   agreement_whole i low high r = by_prefixes (λ X. In r (applied b.n X) → slice_get (own_list b r.stamp.centre) (r.stamp.seq - 1) ≡ Some r) (trail_of b i) (λ p. agreement i p low high r)
 
   -- the record at place k of centre e's own list, which centre i has applied by the first p entries of its trail

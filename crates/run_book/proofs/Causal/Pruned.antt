@@ -11,9 +11,9 @@ use Rattle.list_core.specs.Choices.{when}
 use Rattle.ids_core.specs.declared.object.ObjectId.{ObjectId}
 use Rattle.vv_core.specs.declared.stamp.Stamp.{Stamp}
 use Rattle.vv_core.specs.declared.stamp.Lack.{Lack}
-use Rattle.vv_core.specs.Vectors.{at, zeros, centres, kth_largest, Covers, IsFirstLack}
+use Rattle.vv_core.specs.Vectors.{at, zeros, centres, Covers, IsFirstLack}
 use Rattle.vv_core.proofs.Covering.{Covers_trans}
-use Rattle.vv_core.proofs.Entrywise.{at-zeros, at-meet_of}
+use Rattle.vv_core.proofs.Entrywise.{at-zeros}
 use Rattle.dc_talk.specs.declared.ask.TheConstants.{MOST_SENT}
 use Rattle.tx_core.specs.Checks.{is_within}
 use Rattle.dc_talk.specs.declared.ask.Ask.{Ask}
@@ -24,7 +24,7 @@ use Rattle.dc_talk.specs.declared.sent.Sent.{Sent}
 use Rattle.dc_talk.specs.declared.settings.Settings.{Settings}
 use Rattle.dc_talk.specs.Entries.{Entry}
 use Rattle.dc_talk.specs.Records.{vector}
-use Rattle.dc_talk.specs.Trails.{carried, applied, told, rows, stable, all_known, Horizon, horizon, horizon_after}
+use Rattle.dc_talk.specs.Trails.{carried, applied, told, all_known, Horizon, horizon, horizon_after}
 use Rattle.dc_talk.specs.Objects.{state_at}
 use Rattle.dc_talk.specs.Answers.{fits, lacking, send_answer, part_of, row, answer}
 use Rattle.dc_talk.proofs.Answers.{lack_holds, lack_first, answer_holds, fitting, no_misfit, misfit}
@@ -38,6 +38,7 @@ use Rattle.run_book.specs.Fit.{FitsWith}
 use Rattle.run_book.specs.Sound.{IsSound}
 use Rattle.run_book.specs.Known.{IsKnownToAll, WasKnownBy}
 use Rattle.run_book.specs.Refusals.{IsEntry, IsRelay, IsSendAnswer, IsPruneAnswer}
+use Rattle.run_book.proofs.Served.{stable_within}
 use Rattle.run_book.proofs.Causal.CentreVectors.{zeros_are_sound, stable_sound}
 use Rattle.run_book.proofs.Causal.KnownToK.{stable_known}
 use Rattle.run_book.proofs.Causal.Moments.{row_moment, row_reported}
@@ -47,10 +48,6 @@ use Rattle.run_book.proofs.Causal.Moments.{row_moment, row_reported}
 -- a centre has what it had by an earlier entry
 pub front_covers : (n : ℕ) (trail : List Entry) (q : ℕ) → Covers (vector n (applied n trail)) (vector n (applied n (take q trail)))
 front_covers n trail q = let front = applied_front n trail q in subst (λ A. Covers (vector n A) (vector n (applied n (take q trail)))) (sym front.1) (vector_front n (applied n (take q trail)) front.0)
-
--- a stable vector is within the centre's own
-stable_held : (s : Settings) (trail : List Entry) → Covers (vector s.n (applied s.n trail)) (stable s trail)
-stable_held s trail = record { holds = λ e. omega (arith, at-meet_of (kth_largest s.k (rows s trail)) (vector s.n (applied s.n trail)) e) }
 
 -- after a trail the centre has what base and mark cover
 record AreHeld (s : Settings) (trail : List Entry) (h : Horizon) : Type 0 where
@@ -64,7 +61,7 @@ none_held v n = record { holds = λ e. omega (arith, at-zeros n e) }
 horizon_held : (s : Settings) (trail : List Entry) → AreHeld s trail (horizon s trail)
 horizon_held s trail = by_prefixes (λ X. AreHeld s trail (horizon s X)) trail
     (by_prunes s trail (AreHeld s trail) (record { base = none_held (vector s.n (applied s.n trail)) s.n; mark = none_held (vector s.n (applied s.n trail)) s.n })
-    (λ p h. record { base = h.mark; mark = Covers_trans _ _ _ (front_covers s.n trail p) (stable_held s (take p trail)) }))
+    (λ p h. record { base = h.mark; mark = Covers_trans _ _ _ (front_covers s.n trail p) (stable_within s (take p trail)) }))
 
 -- what is folded, the centre has
 pub base_held : (s : Settings) (trail : List Entry) → Covers (vector s.n (applied s.n trail)) (horizon s trail).base
@@ -181,7 +178,7 @@ module _ (b : Book) (setup : Setup) (fit : FitsWith b setup) where
         X = take stands.place (trail_of b i)
 
         have : List ℕ
-        have = vector b.n (applied b.n (take stands.place (trail_of b i)))
+        have = vector b.n (applied_at b i stands.place)
 
         base : List ℕ
         base = (horizon_at b setup i stands.place).base

@@ -1,9 +1,10 @@
 -- The book of what happened among several centres fits.
-use Rattle.std.proofs.Common.{◌≡◌, ℕ, zero, suc, ◌+◌, ◌-◌, ◌*◌, ◌≤◌, ◌<◌, ⊎_elim, List, [], ◌∷◌, length, take, Some, refl, sym, ap, ◌∙◌, subst, arith}
-use Rattle.std.specs.Prelude.{slice_get, slice_index_or}
+use Rattle.std.proofs.Common.{◌≡◌, ℕ, zero, suc, ◌+◌, ◌-◌, ◌*◌, ◌≤◌, ◌<◌, ⊎_elim, List, [], ◌∷◌, take, Some, refl, sym, ap, ◌∙◌, subst, arith}
+use Rattle.std.specs.Prelude.{slice_get}
 use Rattle.std.proofs.lemmas.Option.{none-some}
 use Rattle.std.proofs.lemmas.Bool.{cases_lt}
 use Rattle.list_core.specs.Members.{In}
+use Rattle.list_core.proofs.Gets.{past_end}
 use Rattle.tx_core.specs.declared.tx.Tx.{Tx}
 use Rattle.tx_core.specs.declared.tx.Record.{Record}
 use Rattle.dc_talk.specs.declared.settings.Settings.{Settings}
@@ -24,12 +25,6 @@ use Rattle.run_book.specs.Fit.{InForm, IsHandedOn, IsReported, FitsWith}
 use Rattle.run_book.specs.Happenings.{Happened, notes_by, trail_in, AreTogether, InRange, IsBookOf}
 use Rattle.run_book.proofs.Happenings.Entries.{paired_in}
 use Rattle.run_book.proofs.Happenings.Places.{answered_later, reached_one, follows, noted, entered, actor_range, calls, refreshes, commits, delivered, learned, answer_there, own}
-
--- past the end of a list there is the default
-past_end : {X : Type 0} (xs : List X) (i : ℕ) (d : X) → length xs ≤ i → slice_index_or xs i d ≡ d
-past_end [] i d le = refl
-past_end (x ∷ xs) zero d le = absurd (omega (arith, le))
-past_end (x ∷ xs) (suc i) d le = past_end xs i d (omega (arith, le))
 
 module _ (b : Book) (n k clients : ℕ) (all : List Happened) (is : IsBookOf b n k clients all) where
   -- an entry of a trail of the book is one of what happened

@@ -5,4 +5,4 @@ use Rattle.samples.specs.declared.gate.Gate.{Gate}
 use Rattle.benchmarks.proofs.lock.alone.Given as goal
 
 abbrev pub invariant-calls : goal.invariant-calls
-invariant-calls l = IsKept (λ most log guest. nat_lt (length log) most) (λ (gate : Gate) log. gate.inside ≡ min (length log) gate.most) (λ (gate : Gate). gate.most) l.kept.machine l.kept.trail.entries
+invariant-calls l = IsKept (λ most log guest enters. enters ≡ nat_lt (length log) most) (λ (gate : Gate) log. gate.inside ≡ min (length log) gate.most) (λ (gate : Gate). gate.most) l.kept.machine l.kept.trail.entries

@@ -1,4 +1,4 @@
-use Rattle.dc_host.specs.Centres.{all_seen}
+use Rattle.dc_door.specs.Centres.{all_seen}
 use Rattle.dc_host.specs.Hosts.{AreOpened}
 use Rattle.dc_host.proofs.hosts.open_all.Given as goal
 

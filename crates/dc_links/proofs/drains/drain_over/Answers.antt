@@ -6,9 +6,9 @@ use Rattle.dc_talk.specs.Acting.{acting}
 use Rattle.dc_talk.specs.declared.sent.Sent.{Sent}
 use Rattle.mail_link.specs.Ends.{GiverView}
 use Rattle.dc_links.specs.Links.{column_of, rows_of, put_between}
-use Rattle.dc_links.specs.Rounds.{inward, DrainsFrom}
+use Rattle.dc_links.specs.Rounds.{inward, DrainsFrom, StopsFrom}
 use Rattle.dc_links.proofs.Places.{taker_link, takers_stay, givers_there, put_there}
-use Rattle.dc_links.proofs.Taking.{drained_from}
+use Rattle.dc_links.proofs.Taking.{drained_from, stops_from}
 use Rattle.dc_links.proofs.drains.drain_over.Goals as goal
 
 pub returns-in_err-drain_round-clause-ends : goal.returns-in_err-drain_round-clause-ends
@@ -52,3 +52,18 @@ returns-clause-drains g c =
     let put : put_between (rows_of rows) c.args.from c.args.to ≡ giver.put = put_there rows c.args.from row high sent c.args.to giver wide own in
     subst (λ from. DrainsFrom c.args.from c.args.to (rows_of rows) (inward takers inlets) (inward (slice_set takers (from - 1) c.drain_round.new.taker) (slice_set inlets (from - 1) c.drain_round.new.inlet)) a b) (sym same)
     (drained_from c.args.from c.args.to _ (rows_of rows) takers taker c.drain_round.new.taker inlets inlet c.drain_round.new.inlet a b c.requires.row.0 lt within is there c.in_ok-drain_round.ensures.closes (c.in_ok-drain_round.ensures.all ∙ ap length (sym put)))
+
+pub returns-in_err-drain_round-clause-stops : goal.returns-in_err-drain_round-clause-stops
+returns-in_err-drain_round-clause-stops g c =
+    let takers = c.args.takers.now.items in let taker = c.index_mut-2.result.now in
+    let inlets = c.args.inlets.now.items in let inlet = c.index_mut.result.now in
+    let a = acting (g.D.Door.shown c.args.door.now) c.args.log.now in
+    let b = acting (g.D.Door.shown c.drain_round.new.door) c.drain_round.new.log in
+    let same : c.from-place.result ≡ c.args.from = search rules in
+    let lt : c.args.from - 1 < length takers = search rules in
+    let within : c.args.from - 1 < length inlets = search rules in
+    let is : taker ≡ get_or takers (c.args.from - 1) taker = search rules in
+    let there : inlet ≡ get_or inlets (c.args.from - 1) inlet = search rules in
+    let stops : StopsFrom c.args.from c.args.to (inward takers inlets) (inward (slice_set takers (c.from-place.result - 1) c.drain_round.new.taker) (slice_set inlets (c.from-place.result - 1) c.drain_round.new.inlet)) a b = subst (λ from. StopsFrom c.args.from c.args.to (inward takers inlets) (inward (slice_set takers (from - 1) c.drain_round.new.taker) (slice_set inlets (from - 1) c.drain_round.new.inlet)) a b) (sym same)
+    (stops_from c.args.from c.args.to takers taker c.drain_round.new.taker inlets inlet c.drain_round.new.inlet a b c.requires.row.0 lt within is there c.in_err-drain_round.ensures.part) in
+    search rules

@@ -2,9 +2,9 @@ use Rattle.std.proofs.Common.{rules, ◌≡◌, ◌<◌, ◌-◌, length, get_or
 use Rattle.std.specs.Prelude.{slice_set}
 use Rattle.dc_talk.specs.Acting.{acting}
 use Rattle.dc_links.specs.Links.{row_of}
-use Rattle.dc_links.specs.Rounds.{SendsTo}
+use Rattle.dc_links.specs.Rounds.{SendsTo, PutsPart}
 use Rattle.dc_links.proofs.Places.{giver_link, givers_stay}
-use Rattle.dc_links.proofs.Sending.{sends_to}
+use Rattle.dc_links.proofs.Sending.{sends_to, puts_part}
 use Rattle.dc_links.proofs.sends.send_over.Goals as goal
 
 pub returns-in_err-send_round-clause-ends : goal.returns-in_err-send_round-clause-ends
@@ -34,3 +34,12 @@ returns-clause-sends g c =
     let lt : c.args.to - 1 < length givers = search rules in
     let is : giver ≡ get_or givers (c.args.to - 1) giver = search rules in
     subst (λ to. SendsTo c.args.from c.args.to givers (slice_set givers (to - 1) c.send_round.new.giver) a b) (sym same) (sends_to c.args.from c.args.to _ givers giver c.send_round.new.giver a b c.requires.column.0 lt is c.in_ok-send_round.ensures.posts)
+
+pub returns-in_err-send_round-clause-stops : goal.returns-in_err-send_round-clause-stops
+returns-in_err-send_round-clause-stops g c =
+    let givers = c.args.givers.now.items in let giver = c.index_mut.result.now in
+    let same : c.from.result ≡ c.args.to = search rules in
+    let lt : c.args.to - 1 < length givers = search rules in
+    let is : giver ≡ get_or givers (c.args.to - 1) giver = search rules in
+    let stops : PutsPart c.args.to givers (slice_set givers (c.from.result - 1) c.send_round.new.giver) = subst (λ to. PutsPart c.args.to givers (slice_set givers (to - 1) c.send_round.new.giver)) (sym same) (puts_part c.args.to givers giver c.send_round.new.giver c.requires.column.0 lt is c.in_err-send_round.ensures.kept) in
+    search rules

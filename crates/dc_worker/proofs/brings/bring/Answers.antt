@@ -1,8 +1,9 @@
 use Rattle.std.proofs.lemmas.List.{nil_from_length}
 use Rattle.std.proofs.Common.{rules, arith, ◌≡◌, [], refl, ◌∙◌}
 use Rattle.dc_talk.specs.Acting.{acting, IsCutShort}
+use Rattle.dc_worker.specs.Brings.{BringsPart}
 use Rattle.dc_worker.proofs.Work.{cut_then}
-use Rattle.dc_worker.proofs.Bringing.{brings_on_none, brings_on_more, brings_on_all, after_all}
+use Rattle.dc_worker.proofs.Bringing.{brings_on_none, brings_on_more, brings_on_all, after_all, brings_part_next}
 use Rattle.dc_worker.proofs.brings.bring.Goals as goal
 
 pub items-init : goal.items-init
@@ -13,7 +14,15 @@ returns-in_err-bring_one-clause-short g c =
     let a = acting (g.D.Door.shown c.args.door.now) c.args.log.now in
     let b = acting (g.D.Door.shown c.items.door) c.items.log in
     let e = acting (g.D.Door.shown c.bring_one.new.door) c.bring_one.new.log in
-    let cut : IsCutShort a e = cut_then a b e _ c.items.invariant.brings.brought.adds c.in_err-bring_one.ensures.short in
+    let cut : IsCutShort a e = cut_then a b e _ c.items.invariant.brings.receives.brings.adds c.in_err-bring_one.ensures.short in
+    search rules
+
+pub returns-in_err-bring_one-clause-part : goal.returns-in_err-bring_one-clause-part
+returns-in_err-bring_one-clause-part g c =
+    let a = acting (g.D.Door.shown c.args.door.now) c.args.log.now in
+    let b = acting (g.D.Door.shown c.items.door) c.items.log in
+    let e = acting (g.D.Door.shown c.bring_one.new.door) c.bring_one.new.log in
+    let part : BringsPart c.args.at c.args.items.items c.args.inlet.now c.bring_one.new.inlet a e = brings_part_next c.args.at c.args.inlet.now c.args.items.items c.items.item-iterator.rest.items c.next.new.self.rest.items c.items.inlet c.bring_one.new.inlet a b e c.in-Some.item c.in-Some.ensures.steps.0 c.items.invariant.brings c.in_err-bring_one.ensures.short c.in_err-bring_one.ensures.left in
     search rules
 
 pub items-preserved : goal.items-preserved

@@ -1,25 +1,33 @@
 use Rattle.dc_talk.specs.Acting.{acting, IsCutShort}
-use Rattle.std.specs.Option.{option_to_list}
 use Rattle.script_core.specs.Links.{arrivals}
 use Rattle.script_core.specs.Rounds.{Brings}
 use Rattle.dc_worker.specs.Work.{AddsSuch}
 use Rattle.dc_worker.proofs.Work.{cut_then, on_turn, err_turn}
-use Rattle.dc_worker.proofs.Bringing.{brings_rest}
+use Rattle.dc_worker.specs.Brings.{BringsPart}
+use Rattle.dc_worker.proofs.Bringing.{brings_rest, brings_part_held}
 use Rattle.dc_worker.proofs.brings.bring_rest.Goals as goal
 
 pub returns-clause-brings : goal.returns-clause-brings
 returns-clause-brings g c =
     let a = acting (g.D.Door.shown c.args.door.now) c.args.log.now in
     let b = acting (g.D.Door.shown c.bring.new.door) c.bring.new.log in
-    let e = acting (g.D.Door.shown c.bring_some.new.door) c.bring_some.new.log in
-    let held = option_to_list c.release-held.result in
-    on_turn c.bring_some.result (AddsSuch (Brings c.args.at held) b e) (AddsSuch (Brings c.args.at (arrivals c.args.inlet.now c.args.items.items)) a e)
-    (λ last. brings_rest c.args.at c.args.inlet.now c.args.items.items held c.bring.new.inlet a b e c.in_ok-bring.ensures.brings c.in_ok-bring.ensures.inlet c.release-held.ensures.held last)
-    c.bring_some.ensures.brings
+    let e = acting (g.D.Door.shown c.bring_held.new.door) c.bring_held.new.log in
+    on_turn c.bring_held.result (AddsSuch (Brings c.args.at c.bring.new.inlet.held) b e) (AddsSuch (Brings c.args.at (arrivals c.args.inlet.now c.args.items.items)) a e)
+    (λ last. brings_rest c.args.at c.args.inlet.now c.args.items.items c.bring.new.inlet a b e c.in_ok-bring.ensures.brings c.in_ok-bring.ensures.inlet last)
+    c.bring_held.ensures.brings
 
 pub returns-clause-short : goal.returns-clause-short
 returns-clause-short g c =
     let a = acting (g.D.Door.shown c.args.door.now) c.args.log.now in
     let b = acting (g.D.Door.shown c.bring.new.door) c.bring.new.log in
-    let e = acting (g.D.Door.shown c.bring_some.new.door) c.bring_some.new.log in
-    err_turn c.bring_some.result (IsCutShort b e) (IsCutShort a e) (λ cut. cut_then a b e _ c.in_ok-bring.ensures.brings.adds cut) c.bring_some.ensures.short
+    let e = acting (g.D.Door.shown c.bring_held.new.door) c.bring_held.new.log in
+    err_turn c.bring_held.result (IsCutShort b e) (IsCutShort a e) (λ cut. cut_then a b e _ c.in_ok-bring.ensures.brings.adds cut) c.bring_held.ensures.short
+
+pub returns-clause-part : goal.returns-clause-part
+returns-clause-part g c =
+    let a = acting (g.D.Door.shown c.args.door.now) c.args.log.now in
+    let b = acting (g.D.Door.shown c.bring.new.door) c.bring.new.log in
+    let e = acting (g.D.Door.shown c.bring_held.new.door) c.bring_held.new.log in
+    err_turn c.bring_held.result (IsCutShort b e) (BringsPart c.args.at c.args.items.items c.args.inlet.now c.bring_held.new.inlet a e)
+    (λ cut. brings_part_held c.args.at c.args.inlet.now c.args.items.items c.bring.new.inlet c.bring_held.new.inlet a b e c.in_ok-bring.ensures.brings c.in_ok-bring.ensures.inlet c.bring_held.ensures.inlet cut)
+    c.bring_held.ensures.short

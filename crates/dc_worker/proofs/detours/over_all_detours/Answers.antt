@@ -4,7 +4,7 @@ use Rattle.script_core.specs.Carrying.{InTurn}
 use Rattle.dc_worker.specs.Work.{CarriesSuch}
 use Rattle.dc_worker.specs.Rounds.{DoesRelay, detours_from, detours_of}
 use Rattle.dc_worker.proofs.Work.{cut_then}
-use Rattle.dc_worker.proofs.Turns.{turns_none, over_more, detours_all}
+use Rattle.dc_worker.proofs.Turns.{turns_none, over_more}
 use Rattle.dc_worker.proofs.detours.over_all_detours.Goals as goal
 
 pub centres-init : goal.centres-init
@@ -33,5 +33,4 @@ returns-clause-does g c =
     let a = acting (g.D.Door.shown c.args.door.now) c.args.log.now in
     let e = acting (g.D.Door.shown c.centres.door) c.centres.log in
     let all : c.centres.before ≡ c.args.n = omega arith in
-    subst (λ ts. CarriesSuch (InTurn DoesRelay ts) a e) (detours_all c.args.n)
-    (subst (λ k. CarriesSuch (InTurn DoesRelay (detours_of c.args.n k)) a e) all c.centres.invariant.does)
+    subst (λ k. CarriesSuch (InTurn DoesRelay (detours_of c.args.n k)) a e) all c.centres.invariant.does

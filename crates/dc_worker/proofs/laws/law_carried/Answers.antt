@@ -2,8 +2,8 @@ use Rattle.std.proofs.Common.{[]}
 use Rattle.dc_talk.specs.declared.ask.Ask.TheVariants.{Send}
 use Rattle.script_core.proofs.Provenance.{carries_more, carries_then, sends_carry, ships_carry, relays_carry, tells_carry, settles_carry}
 use Rattle.dc_worker.proofs.Bringing.{brings_carry}
-use Rattle.dc_worker.proofs.Mailing.{mails_carry}
-use Rattle.dc_worker.proofs.RoundDeeds.{sender_carries, reporter_carries, pruner_carries}
+use Rattle.script_core.proofs.Mailing.{mails_carry}
+use Rattle.script_core.proofs.RoundDeeds.{sender_carries, reporter_carries, pruner_carries}
 use Rattle.dc_worker.proofs.laws.law_carried.Goals as goal
 
 pub returns-clause-sends : goal.returns-clause-sends

@@ -1,5 +1,5 @@
-use Rattle.dc_worker.proofs.Mailing.{mailed_route, mailed_other, mailed_more, mailed_sent}
-use Rattle.dc_worker.proofs.RoundDeeds.{mailed_round}
+use Rattle.script_core.proofs.Mailing.{mailed_route, mailed_other, mailed_more, mailed_sent}
+use Rattle.script_core.proofs.RoundDeeds.{mailed_round}
 use Rattle.dc_worker.proofs.laws.law_mailed.Goals as goal
 
 pub returns-clause-route : goal.returns-clause-route

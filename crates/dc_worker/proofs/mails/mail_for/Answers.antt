@@ -1,7 +1,7 @@
 use Rattle.std.proofs.Common.{sym, ap, ◌∙◌}
 use Rattle.dc_talk.specs.Acting.{acting}
 use Rattle.script_core.specs.Carrying.{route}
-use Rattle.dc_worker.proofs.Mailing.{items_of, mails_for}
+use Rattle.dc_worker.proofs.Sending.{items_of, mails_for}
 use Rattle.dc_worker.proofs.mails.mail_for.Goals as goal
 
 pub returns-in-Ended-clause-mails : goal.returns-in-Ended-clause-mails

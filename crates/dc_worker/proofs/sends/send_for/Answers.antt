@@ -1,23 +1,4 @@
-use Rattle.std.proofs.Common.{rules, ap}
-use Rattle.dc_talk.specs.declared.ask.Ask.TheVariants.{Send}
-use Rattle.dc_talk.specs.Acting.{acting, IsCutShort}
-use Rattle.script_core.specs.Carrying.{route}
-use Rattle.dc_worker.proofs.Work.{cut_then}
-use Rattle.dc_worker.specs.Sends.{own_part}
-use Rattle.dc_worker.proofs.Sending.{asks_for_vector}
 use Rattle.dc_worker.proofs.sends.send_for.Goals as goal
 
-pub returns-in_err-say-in-Vector-clause-short : goal.returns-in_err-say-in-Vector-clause-short
-returns-in_err-say-in-Vector-clause-short g c =
-    let a = acting (g.D.Door.shown c.args.door.now) c.args.log.now in
-    let b = acting (g.D.Door.shown c.ask_unheard.new.door) c.ask_unheard.new.log in
-    let e = acting (g.D.Door.shown c.ask_unheard-in-Vector.new.door) c.ask_unheard-in-Vector.new.log in
-    let cut : IsCutShort a e = cut_then a b e _ c.in_ok-say.ensures.asks c.in_err-say-in-Vector.ensures.short in
-    search rules
-
-pub returns-in_ok-say-in-Vector-clause-sends : goal.returns-in_ok-say-in-Vector-clause-sends
-returns-in_ok-say-in-Vector-clause-sends g c =
-    let a = acting (g.D.Door.shown c.args.door.now) c.args.log.now in
-    let b = acting (g.D.Door.shown c.ask_unheard.new.door) c.ask_unheard.new.log in
-    let e = acting (g.D.Door.shown c.ask_unheard-in-Vector.new.door) c.ask_unheard-in-Vector.new.log in
-    asks_for_vector a b e (route c.args.from c.args.to) (own_part (route c.args.from c.args.to) c.args.most) (Send c.entry_of-after.result c.args.most) c.in-Vector.vector _ c.in_ok-say-in-Vector.say c.handed_of.result c.in_ok-say.ensures.asks c.in-Vector.is (ap (λ k. Send k c.args.most) c.entry_of-after.ensures) c.in_ok-say-in-Vector.ensures.asks c.handed_of.ensures
+pub returns-clause-sends : goal.returns-clause-sends
+returns-clause-sends g c = c.hand_on.ensures.asks

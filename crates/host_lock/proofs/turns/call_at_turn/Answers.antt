@@ -22,7 +22,7 @@ note-requires-clause-entry g c κs within =
       c.in-Ok.ensures.trail ∙ ap (λ (l : L). l ++ e ∷ []) t.3.trail,
       c.requires.number,
       (λ s by. let same : s ≡ m.settings c.swap_out-kept.result.machine = (let h : Some s ≡ Some (m.settings c.swap_out-kept.result.machine) = sym by ∙ t.2 in cc h) in
-          c.in-Ok.ensures.reply ∙ (ap (λ (l : L). m.reply (m.settings c.swap_out-kept.result.machine) l c.args.ask.now) t.3.trail ∙ ap (λ (z : _). m.reply z (v.opening ++ t.0) c.args.ask.now) (sym same))),
+          subst (λ (z : _). m.reply z (v.opening ++ t.0) c.args.ask.now c.in-Ok.say) (sym same) (subst (λ (l : L). m.reply (m.settings c.swap_out-kept.result.machine) l c.args.ask.now c.in-Ok.say) t.3.trail c.in-Ok.ensures.reply)),
       subst (λ (l : L). length l + 1 < 2 ^ 62) t.3.trail low,
     )
 

@@ -4,5 +4,5 @@ use Rattle.std.proofs.lemmas.Fn.{filter_same}
 use Rattle.op_log.specs.Tables.{stays}
 use Rattle.op_log.proofs.sweep.leave.Goals as goal
 
-pub returns : goal.returns
-returns c = filter_same _ (stays c.args.base.now (values_of c.args.slots.now.entries)) _ (λ x b q called. search rules) _ _ c.retain.ensures.filtered
+pub returns-clause-there : goal.returns-clause-there
+returns-clause-there c = filter_same _ (stays c.args.base.now (values_of c.args.slots.now.entries)) _ (λ x b q called. search rules) _ _ c.retain.ensures.there

@@ -10,7 +10,7 @@ use Rattle.op_log.proofs.sweep.sweep_centre.Given as goal
 
 abbrev pub invariant-loop-place : goal.invariant-loop-place
 invariant-loop-place l = record {
-  may : MaySwept l.base (values_of l.slots.entries) l.chains.entries;
-  kept : StaysSwept l.base (values_of l.slots.entries) l.fn.chains.entries l.chains.entries;
-  swept : (p : Place) → In p (reached_of l.base l.centre l.places.keys) → In p l.place-iterator ⊎ ((x : Logged) → In x (values_of l.slots.entries) → x.number ≡ p.number → (u : Update) → In u x.tx.updates → IsSwept l.base (values_of l.slots.entries) l.chains.entries u.object);
+  may : MaySwept l.base (values_of l.slots.entries) l.chains;
+  kept : StaysSwept l.base (values_of l.slots.entries) l.fn.chains l.chains;
+  swept : (p : Place) → In p (reached_of l.base l.centre l.places.keys) → In p l.place-iterator ⊎ ((x : Logged) → In x (values_of l.slots.entries) → x.number ≡ p.number → (u : Update) → In u x.tx.updates → IsSwept l.base (values_of l.slots.entries) l.chains u.object);
 }

@@ -16,4 +16,4 @@ loop-centre-preserved c = record {
 }
 
 pub returns : goal.returns
-returns c = all_swept c.args.base.now (values_of c.args.slots.now.entries) c.args.places.now.keys c.loop-centre.chains.entries c.requires.placed c.loop-centre.invariant.may (λ centre small. c.loop-centre.invariant.swept centre (let width = c.width-centre-end.ensures.width in let past = c.loop-centre-test.false in omega (arith, small, width, past)))
+returns c = all_swept c.args.base.now (values_of c.args.slots.now.entries) c.args.places.now.keys c.loop-centre.chains c.requires.placed c.loop-centre.invariant.may (λ centre small. c.loop-centre.invariant.swept centre (let width = c.width-centre-end.ensures.width in let past = c.loop-centre-test.false in omega (arith, small, width, past)))

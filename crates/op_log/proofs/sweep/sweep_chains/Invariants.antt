@@ -10,6 +10,6 @@ use Rattle.op_log.proofs.sweep.sweep_chains.Given as goal
 
 abbrev pub invariant-loop-centre : goal.invariant-loop-centre
 invariant-loop-centre l = record {
-  may : MaySwept l.base (values_of l.slots.entries) l.chains.entries;
-  swept : (centre : ℕ) → centre < l.centre → (p : Place) → In p (reached_of l.base centre l.places.keys) → (x : Logged) → In x (values_of l.slots.entries) → x.number ≡ p.number → (u : Update) → In u x.tx.updates → IsSwept l.base (values_of l.slots.entries) l.chains.entries u.object;
+  may : MaySwept l.base (values_of l.slots.entries) l.chains;
+  swept : (centre : ℕ) → centre < l.centre → (p : Place) → In p (reached_of l.base centre l.places.keys) → (x : Logged) → In x (values_of l.slots.entries) → x.number ≡ p.number → (u : Update) → In u x.tx.updates → IsSwept l.base (values_of l.slots.entries) l.chains u.object;
 }

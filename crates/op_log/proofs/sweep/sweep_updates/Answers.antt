@@ -17,6 +17,6 @@ loop-update-preserved c = record {
   kept = λ o swept. c.sweep_at.ensures.kept o (c.loop-update.invariant.kept o swept);
   swept = λ u i. ⊎_elim
       (λ j. c.sweep_at.ensures.kept u.object (c.loop-update.invariant.swept u j))
-      (λ same. subst (λ (u : Update). IsSwept c.args.base.now (values_of c.args.slots.now.entries) c.sweep_at.new.chains.entries u.object) (sym same) c.sweep_at.ensures.swept)
+      (λ same. subst (λ (u : Update). IsSwept c.args.base.now (values_of c.args.slots.now.entries) c.sweep_at.new.chains u.object) (sym same) c.sweep_at.ensures.swept)
       (In_more (take c.loop-update.update-index c.args.updates.now) c.update-item.result u (subst (λ l. In u l) (take_more c.args.updates.now c.loop-update.update-index c.update-item.result c.loop-update-test.true ∙ ap (λ v. take c.loop-update.update-index c.args.updates.now ++ v ∷ []) (sym c.update-item.is)) i));
 }

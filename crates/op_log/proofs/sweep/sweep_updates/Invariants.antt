@@ -7,7 +7,7 @@ use Rattle.op_log.proofs.sweep.sweep_updates.Given as goal
 
 abbrev pub invariant-loop-update : goal.invariant-loop-update
 invariant-loop-update l = record {
-  may : MaySwept l.base (values_of l.slots.entries) l.chains.entries;
-  kept : StaysSwept l.base (values_of l.slots.entries) l.fn.chains.entries l.chains.entries;
-  swept : (u : Update) → In u (take l.update-index l.updates) → IsSwept l.base (values_of l.slots.entries) l.chains.entries u.object;
+  may : MaySwept l.base (values_of l.slots.entries) l.chains;
+  kept : StaysSwept l.base (values_of l.slots.entries) l.fn.chains l.chains;
+  swept : (u : Update) → In u (take l.update-index l.updates) → IsSwept l.base (values_of l.slots.entries) l.chains u.object;
 }

@@ -1,4 +1,4 @@
-use Rattle.run_laws.proofs.Outputs.{one_either_way, one_by_sections}
+use Rattle.run_laws.proofs.InOrder.{one_either_way, one_by_sections}
 use Rattle.run_laws.proofs.laws.law_no_phase.Goals as goal
 
 pub returns-clause-alike : goal.returns-clause-alike

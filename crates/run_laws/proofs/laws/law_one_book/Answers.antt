@@ -1,4 +1,4 @@
-use Rattle.run_laws.proofs.Outputs.{one_book}
+use Rattle.run_laws.proofs.InOrder.{one_book}
 use Rattle.run_laws.proofs.laws.law_one_book.Goals as goal
 
 pub returns : goal.returns

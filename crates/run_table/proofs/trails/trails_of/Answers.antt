@@ -2,7 +2,7 @@ use Rattle.std.proofs.Common.{List, map, ap, sym, ◌∙◌}
 use Rattle.std.proofs.lemmas.List.{map-id}
 use Rattle.std.proofs.lemmas.Iterator.Adapters.{YieldsList-from_vec}
 use Rattle.std.proofs.lemmas.Iterator.Consumers.{YieldsList-end}
-use Rattle.dc_host.specs.Centres.{CentreTrail, KeptCentre, all_seen}
+use Rattle.dc_door.specs.Centres.{CentreTrail, KeptCentre, all_seen}
 use Rattle.run_table.proofs.trails.trails_of.Goals as goal
 
 pub returns : goal.returns

@@ -1,5 +1,5 @@
 use Rattle.std.proofs.Common.{◌≡◌, map}
-use Rattle.dc_host.specs.Centres.{CentreTrail, all_seen}
+use Rattle.dc_door.specs.Centres.{CentreTrail, all_seen}
 use Rattle.run_table.proofs.trails.trails_of.Given as goal
 
 abbrev pub invariant-kept : goal.invariant-kept

@@ -1,6 +1,6 @@
 use Rattle.std.proofs.Common.{◌≡◌, rules, refl, ap}
-use Rattle.dc_host.specs.Centres.{all_seen}
-use Rattle.dc_host.specs.KeptDoors.{KeptView}
+use Rattle.dc_door.specs.Centres.{all_seen}
+use Rattle.dc_door.specs.KeptDoors.{KeptView}
 use Rattle.thread_run.proofs.Beginning.{begun_of, rows_dealt, is_scene, is_cast}
 use Rattle.thread_run.proofs.Ending.{crews_are, centres_are, clients_are, giver_rows, taker_rows, rows_back, inlets_count, inlets_each, kept_few, kept_is}
 use Rattle.thread_run.proofs.PlayedPhases.{phase_played}

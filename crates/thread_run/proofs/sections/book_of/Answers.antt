@@ -1,5 +1,5 @@
 use Rattle.std.proofs.Common.{map, refl, ap, ◌∙◌}
-use Rattle.dc_host.specs.Centres.{CentreTrail}
+use Rattle.dc_door.specs.Centres.{CentreTrail}
 use Rattle.thread_run.proofs.Joining.{table_book}
 use Rattle.thread_run.proofs.sections.book_of.Goals as goal
 

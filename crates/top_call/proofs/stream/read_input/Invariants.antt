@@ -11,4 +11,5 @@ invariant-loop-turn g l = record {
   long : l.turn ≤ vec_len l.bytes;
   counts : Counts l.count l.bytes.items;
   within : PassesLimits l.bytes.items → ⊥;
+  may : g.S.Source.may_read l.source;
 }

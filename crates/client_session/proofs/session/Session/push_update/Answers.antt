@@ -1,6 +1,6 @@
 use Rattle.std.proofs.Common.{sym, ap, length, ◌∙◌}
 use Rattle.dc_talk.specs.Clients.{next_dot}
-use Rattle.client_pending.proofs.Ops.{no_error}
+use Rattle.object_lists.proofs.Ops.{no_error}
 use Rattle.client_session.proofs.Standing.{pushed, let_go, failed}
 use Rattle.client_session.proofs.session.Session.push_update.Goals as goal
 

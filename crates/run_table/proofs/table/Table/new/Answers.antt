@@ -1,7 +1,7 @@
 use Rattle.std.proofs.Common.{◌≡◌, List, length, sym, ap, ◌∙◌, arith}
 use Rattle.std.proofs.lemmas.List.FromFn.{length-map-range_with_len}
 use Rattle.std.proofs.lemmas.List.{length-map}
-use Rattle.dc_host.specs.Centres.{CentreTrail, seen_of, new_centre}
+use Rattle.dc_door.specs.Centres.{CentreTrail, seen_of, new_centre}
 use Rattle.run_table.proofs.table.Table.new.Goals as goal
 
 pub new-requires-clause-number : goal.new-requires-clause-number

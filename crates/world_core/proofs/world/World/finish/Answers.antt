@@ -1,5 +1,5 @@
 use Rattle.std.proofs.Common.{map, refl, ap, ◌∙◌, subst}
-use Rattle.dc_host.specs.Centres.{CentreTrail}
+use Rattle.dc_door.specs.Centres.{CentreTrail}
 use Rattle.world_core.specs.Worlds.{WorldView, seen_of}
 use Rattle.world_core.specs.Runs.{IsWorldBook}
 use Rattle.world_core.proofs.Books.{world_book}

@@ -1,6 +1,0 @@
-use Rattle.client_pending.specs.Indexes.{listed}
-use Rattle.client_pending.proofs.Ops.{last_more}
-use Rattle.client_pending.proofs.turns.take_last_of.Goals as goal
-
-pub loop-update-preserved : goal.loop-update-preserved
-loop-update-preserved c = last_more (listed c.args.index.now.entries) (listed c.loop-update.index.entries) (listed c.take_last.new.index.entries) c.args.updates.now c.loop-update.update-index c.update-item.result c.loop-update-test.true c.update-item.is c.loop-update.invariant c.take_last.ensures.there c.take_last.ensures.apart

@@ -1,0 +1,2 @@
+pub mod NewCentres
+pub mod Trails

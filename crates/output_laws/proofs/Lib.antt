@@ -1,0 +1,3 @@
+pub mod TrailTexts
+pub mod Refusals
+pub mod Outputs
