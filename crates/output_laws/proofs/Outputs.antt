@@ -15,7 +15,7 @@ use Rattle.load_maker.specs.Made.{made_script}
 use Rattle.print_text.specs.Text.{text_of}
 use Rattle.trail_text.specs.Trails.{trail_text}
 use Rattle.run_book.specs.Setups.{Setup, setup_of}
-use Rattle.top_call.specs.Runs.{IsAsked, IsBookOf, IsDone, IsOwed, IsPlay, IsPlayed, IsRead, IsRefusal, IsRefusedAt, IsUsage, Played, Made, Told, Done, Refused, Misused, Plays, Wrote, form_text, run_text, told_text}
+use Rattle.top_call.specs.Runs.{IsBookOf, IsDone, IsOwed, IsPlay, IsPlayed, IsRead, IsRefusal, IsRefusedAt, IsUsage, Played, Made, Told, Done, Refused, Misused, Plays, Wrote, form_text, run_text, told_text}
 use Rattle.top_call.proofs.Owing.{asked_said, asks, no_question, one_play, play_known, play_of, played_of, plays_by, question_known, read_known, read_of, read_plays}
 use Rattle.std.proofs.lemmas.Option.{none-some}
 use Rattle.top_call.specs.declared.engine.Owed.{Owed}

@@ -1,6 +1,6 @@
 -- The text of a book tells the values that its clients read.
-use Rattle.std.proofs.Common.{◌≡◌, ◌≤◌, ◌<◌, ℕ, zero, suc, ◌+◌, ◌-◌, inl, inr, ⊎_elim, Bool, true, List, [], ◌∷◌, ◌++◌, length, map, Option, Some, None, refl, sym, ap, ◌∙◌, subst, arith}
-use Rattle.std.specs.Prelude.{◌==◌, filter, flat_map, slice_get, slice_index_or}
+use Rattle.std.proofs.Common.{◌≡◌, ◌≤◌, ◌<◌, ℕ, zero, suc, ◌+◌, ◌-◌, inl, inr, ⊎_elim, List, [], ◌∷◌, ◌++◌, length, map, Some, refl, sym, ap, ◌∙◌, subst, arith}
+use Rattle.std.specs.Prelude.{◌==◌, flat_map, slice_index_or}
 use Rattle.std.specs.List.{filter_map, cons_option, range_with_len}
 use Rattle.std.proofs.lemmas.Bool.{eq-eqb}
 use Rattle.std.proofs.lemmas.Grind.{flat_map-append}
@@ -14,9 +14,7 @@ use Rattle.ids_core.specs.declared.object.ObjectId.{ObjectId}
 use Rattle.vv_core.specs.Vectors.{most}
 use Rattle.vv_core.proofs.Reaching.{In-most}
 use Rattle.tx_core.specs.declared.state.Value.{Value}
-use Rattle.dc_talk.specs.declared.calls.Call.{Call}
 use Rattle.dc_talk.specs.declared.calls.Call.TheVariants.{Read}
-use Rattle.dc_talk.specs.declared.calls.Outcome.{Outcome}
 use Rattle.dc_talk.specs.declared.calls.Outcome.TheVariants.{Got}
 use Rattle.dc_talk.specs.declared.line.Line.{Line}
 use Rattle.dc_talk.specs.declared.line.Line.TheVariants.{ReadValue}
@@ -29,7 +27,7 @@ use Rattle.run_book.specs.declared.book.Book.{Book}
 use Rattle.run_book.specs.Causal.{Reads}
 use Rattle.run_book.specs.Fit.{FitsWith}
 use Rattle.run_book.specs.Parts.{idle_log, notes_of, IsClient}
-use Rattle.run_book.specs.Setups.{Setup, setup_of}
+use Rattle.run_book.specs.Setups.{Setup}
 use Rattle.run_laws.specs.ReadLines.{line_of, section_lines, lines_of, printed, value_told, value_due, HasRead, TellsValues}
 use Rattle.run_laws.proofs.RunLines.{IsTale}
 

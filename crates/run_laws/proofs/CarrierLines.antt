@@ -1,10 +1,9 @@
 -- The operator and the workers tell no values that were read.
-use Rattle.std.proofs.Common.{◌≡◌, ℕ, Bool, true, false, cond, List, [], ◌∷◌, ◌++◌, Option, Some, None, refl, sym, subst}
+use Rattle.std.proofs.Common.{◌≡◌, ℕ, Bool, true, false, cond, List, [], ◌∷◌, ◌++◌, Option, None, refl, sym, subst}
 use Rattle.std.specs.Prelude.{MatchBool}
-use Rattle.std.specs.Option.{option_map}
 use Rattle.dc_talk.specs.declared.sent.Sent.{Sent}
 use Rattle.dc_talk.specs.declared.ask.Ask.{Ask}
-use Rattle.dc_talk.specs.declared.ask.Ask.TheVariants.{Send, Stop, Start, Deliver, Report, Learn, Prune as PruneAsk}
+use Rattle.dc_talk.specs.declared.ask.Ask.TheVariants.{Stop, Start, Report, Learn, Prune as PruneAsk}
 use Rattle.dc_talk.specs.declared.say.Say.{Say}
 use Rattle.dc_talk.specs.declared.say.Say.TheVariants.{Base, Down as DownSay, Misfit, Records, Vector}
 use Rattle.dc_talk.specs.declared.log.Fate.TheVariants.{Unheard}
@@ -13,12 +12,10 @@ use Rattle.dc_talk.specs.declared.log.Deed.TheVariants.{Asked}
 use Rattle.dc_talk.specs.declared.line.ShipEnd.{ShipEnd}
 use Rattle.dc_talk.specs.declared.line.Line.{Line}
 use Rattle.dc_talk.specs.declared.line.Line.TheVariants as line
-use Rattle.script_core.specs.declared.rounds.Role.{Role}
-use Rattle.script_core.specs.declared.rounds.Role.TheVariants.{Sender, Receiver, Reporter, Pruner}
 use Rattle.script_core.specs.declared.steps.OperatorStep.{OperatorStep}
 use Rattle.script_core.specs.declared.steps.OperatorStep.TheVariants.{Down, Up, ShipOne, Ship, Relay, Tell, Prune, Link, Settle}
 use Rattle.script_core.specs.Deeds.{told}
-use Rattle.script_core.specs.Carrying.{Route, route, Detour, detour, detours, routes, ship_line, relay_line, tell_line, is_there, delivery_end, Delivers, AfterSend, Sends, AfterReport, Supplies, own_need, origin_need, Ships, Relays, AfterTold, Tells, InTurn, no_turn, next_turn, Passes, Settles, last_pass, one_pass}
+use Rattle.script_core.specs.Carrying.{Route, route, detour, detours, routes, ship_line, relay_line, tell_line, is_there, delivery_end, Delivers, AfterSend, Sends, AfterReport, Supplies, own_need, origin_need, Ships, Relays, AfterTold, Tells, InTurn, no_turn, next_turn, Passes, Settles, last_pass, one_pass}
 use Rattle.script_core.specs.Orders.{Orders, base_line, OperatorDeeds}
 use Rattle.script_core.specs.Rounds.{AfterNeeded, Brings, Mails, SenderDeeds, ReceiverDeeds, ReporterDeeds, PrunerDeeds, is_prune_round, others}
 use Rattle.run_laws.proofs.ClientLines.{AreTold, both_told, mapped_told}

@@ -1,6 +1,6 @@
 -- The notes of a run tell the values that its clients read, and are of sections that are counted from 1.
 use Rattle.std.proofs.Common.{◌≡◌, ◌≢◌, ◌≤◌, ◌<◌, ℕ, zero, suc, ◌+◌, ◌-◌, ◌*◌, ⊎_elim, inl, inr, Bool, true, false, cond, List, [], ◌∷◌, ◌++◌, length, map, Option, Some, None, refl, sym, ap, ◌∙◌, subst, arith}
-use Rattle.std.specs.Prelude.{◌==◌, All, max, nat_le, flat_map, slice_get, slice_index_or}
+use Rattle.std.specs.Prelude.{◌==◌, All, max, nat_le, flat_map, slice_get}
 use Rattle.std.specs.List.{filter_map, cons_option, range_with_len}
 use Rattle.std.specs.Option.{option_map}
 use Rattle.std.proofs.lemmas.Bool.{cases_eq, cases_lt, eqb-true}
@@ -9,13 +9,13 @@ use Rattle.std.proofs.lemmas.Option.{none-some, same_Some}
 use Rattle.list_core.specs.Members.{In}
 use Rattle.list_core.proofs.Members.{All-In, In_either, In_from_flat_map, In_from_map}
 use Rattle.list_core.proofs.Passing.{In_from_filter_map}
+use Rattle.list_core.proofs.Gets.{past_end}
 use Rattle.vv_core.specs.Vectors.{centres}
 use Rattle.dc_talk.specs.declared.log.Deed.{Deed}
 use Rattle.dc_talk.specs.declared.log.Note.{Note}
 use Rattle.dc_talk.specs.declared.line.Line.{Line}
 use Rattle.dc_talk.specs.Logs.{Logged}
 use Rattle.script_core.specs.declared.script.Script.{Script}
-use Rattle.script_core.specs.declared.steps.ClientStep.{ClientStep}
 use Rattle.script_core.specs.declared.steps.OperatorStep.{OperatorStep}
 use Rattle.script_core.specs.declared.steps.Section.{Section}
 use Rattle.script_core.specs.declared.steps.Step.{Step}
@@ -230,12 +230,6 @@ sections_tale script number here last (section ∷ rest) lefts low clients (next
     both_tale a (left.notes a) (flat_map (λ (left : Left). left.notes a) more)
     (section_tale script number section here left new plays low clients a range)
     (sections_tale script (number + 1) new last rest more (omega (arith, low)) (λ client there. (client_tale script number section here left new plays low clients client there).1) later a range)
-
--- past the end of a list there is the default
-past_end : {X : Type 0} (xs : List X) (i : ℕ) (d : X) → length xs ≤ i → slice_index_or xs i d ≡ d
-past_end [] i d le = refl
-past_end (x ∷ xs) zero d le = absurd (omega (arith, le))
-past_end (x ∷ xs) (suc i) d le = past_end xs i d (omega (arith, le))
 
 -- the notes of a book of a run section by section
 pub sections_run_tale : (script : Script) (b : Book) → IsSectionRunOf script b → (a : ℕ) → IsTale a (notes_of b a)
