@@ -129,12 +129,21 @@ def copy_repository(repository, to):
             folder = os.path.join(repository, "crates", crate, part)
             if os.path.isdir(folder):
                 shutil.copytree(folder, os.path.join(to, "crates", crate, part))
+        take_library(repository, crate, to)
+
+
+def take_library(repository, crate, to):
+    """Takes the library of a crate that `rt ci` left in the repository, where it did: `rt check` compares it with the
+    crate's files, and proves the crate again only where they differ."""
+    library = os.path.join(repository, "crates", crate, "out", "rlib")
+    if os.path.isdir(library):
+        shutil.copytree(library, os.path.join(to, "crates", crate, "out", "rlib"), symlinks=True, copy_function=link_or_copy)
 
 
 def link_or_copy(file, to):
-    """Copies a file. What checks keep of a proof is linked where that can be done: a check puts a new file in the
-    place of such a one, and never writes into it."""
-    if file.endswith(".oantt"):
+    """Copies a file. What checks keep of a proof, and the files of a library, are linked where that can be done: a check
+    puts a new file in the place of such a one, and never writes into it."""
+    if file.endswith(".oantt") or "/out/rlib/" in file:
         with contextlib.suppress(OSError):
             return os.link(file, to)
     return shutil.copy2(file, to)
