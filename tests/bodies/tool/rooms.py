@@ -137,12 +137,13 @@ def take_library(repository, crate, to):
     crate's files, and proves the crate again only where they differ."""
     library = os.path.join(repository, "crates", crate, "out", "rlib")
     if os.path.isdir(library):
-        shutil.copytree(library, os.path.join(to, "crates", crate, "out", "rlib"), symlinks=True, copy_function=link_or_copy)
+        place = os.path.join(to, "crates", crate, "out", "rlib")
+        shutil.copytree(library, place, symlinks=True, copy_function=link_or_copy)
 
 
 def link_or_copy(file, to):
-    """Copies a file. What checks keep of a proof, and the files of a library, are linked where that can be done: a check
-    puts a new file in the place of such a one, and never writes into it."""
+    """Copies a file. What checks keep of a proof, and the files of a library, are linked where that can be done: a
+    check puts a new file in the place of such a one, and never writes into it."""
     if file.endswith(".oantt") or "/out/rlib/" in file:
         with contextlib.suppress(OSError):
             return os.link(file, to)
