@@ -1,11 +1,12 @@
 -- Links by their places.
-use Rattle.std.proofs.Common.{◌≡◌, ◌≢◌, ◌<◌, ◌⊎◌, inl, inr, ℕ, ◌*◌, ◌==◌, true, false, cond, List, length, sym, ap, ◌∙◌, arith}
+use Rattle.std.proofs.Common.{◌≡◌, ◌≢◌, ◌<◌, ◌⊎◌, inl, inr, ℕ, ◌*◌, ◌==◌, true, false, cond, List, length, get_or, sym, ap, ◌∙◌, subst, arith}
 use Rattle.std.specs.Prelude.{◌&&◌, slice_set}
 use Rattle.std.proofs.lemmas.Bool.{cases_eq, eq-eqb, ne_eqb}
-use Rattle.std.proofs.lemmas.List.{get_or-set_same, get_or-set_other}
+use Rattle.std.proofs.lemmas.List.{get_or-set_same, get_or-set_other, set-get_or}
 use Rattle.ids_core.specs.declared.limits.TheConstants.{MOST_CENTRES}
 use Rattle.script_core.specs.Mail.{Post, new_post}
-use Rattle.dc_mail.specs.Posts.{place_of, post_at, IsCentre, HasSet}
+use Rattle.dc_talk.specs.Acting.{Acting}
+use Rattle.dc_mail.specs.Posts.{place_of, post_at, IsCentre, HasSet, PostPart, PostsPart}
 
 -- a place is one of as many as there are pairs of centres
 pub place_within : (from to : ℕ) → IsCentre from → IsCentre to → place_of from to < MOST_CENTRES * MOST_CENTRES
@@ -15,6 +16,10 @@ place_within from to f t = omega (arith, f, t)
 places_apart : (from to i j : ℕ) → IsCentre from → IsCentre to → IsCentre i → IsCentre j → (from ≢ i) ⊎ (to ≢ j) → place_of from to ≢ place_of i j
 places_apart from to i j f t g h (inl other) = λ same. other (omega (arith, same, f, t, g, h))
 places_apart from to i j f t g h (inr other) = λ same. other (omega (arith, same, f, t, g, h))
+
+-- a place that is set to what is there
+pub set_again : (posts : List Post) (k : ℕ) (post new : Post) → post ≡ get_or posts k post → new ≡ post → slice_set posts k new ≡ posts
+set_again posts k post new there same = ap (slice_set posts k) (same ∙ there) ∙ set-get_or posts k post
 
 module _ (posts : List Post) (many : length posts ≡ MOST_CENTRES * MOST_CENTRES) (i j : ℕ) (g : IsCentre i) (h : IsCentre j) (post : Post) where
   -- a link that was changed is as it was made
@@ -43,3 +48,12 @@ module _ (posts : List Post) (many : length posts ≡ MOST_CENTRES * MOST_CENTRE
   -- so that one alone was set
   pub has_set : (new : List Post) → new ≡ slice_set posts (place_of i j) post → HasSet i j post posts new
   has_set new is = record { each = λ from to f t. ap (λ posts. post_at posts from to) is ∙ post_set_at from to f t }
+
+  -- where some of it is taken
+  pub posts_part : (was : Post) (new : List Post) (a b : Acting) → was ≡ post_at posts i j → new ≡ slice_set posts (place_of i j) post → PostPart j was post a b → PostsPart i j posts new a b
+  posts_part was new a b there is got =
+      let here : post_at new i j ≡ post = ap (λ posts. post_at posts i j) is ∙ post_here in
+      record {
+        set = subst (λ post. HasSet i j post posts new) (sym here) (has_set new is);
+        part = subst (λ post. PostPart j (post_at posts i j) post a b) (sym here) (subst (λ was. PostPart j was post a b) there got);
+      }

@@ -4,7 +4,7 @@ ghost use Rattle.ids_core.specs.declared.limits.TheConstants.{MOST_CENTRES};
 ghost use Rattle.dc_talk.specs.Acting.{acting, IsCutShort};
 ghost use Rattle.dc_talk.specs.Doors.{IsBehind};
 ghost use Rattle.script_core.specs.Mail.{due_at_close, post_closed};
-ghost use Rattle.dc_mail.specs.Rounds.{HasReceived};
+ghost use Rattle.dc_mail.specs.Rounds.{HasReceived, ReceivedPart};
 
 use crate::posts::Posts;
 use dc_talk::{Door, Log};
@@ -12,7 +12,8 @@ use ids_core::NoMemory;
 use std::alloc::Global;
 
 /// Takes from the link from each other centre of the `n` behind the door all that lies there, and delivers to this one
-/// what comes of it and what is held. An `Err` is want of memory: a part of the round may have been made.
+/// what comes of it and what is held. An `Err` is want of memory: the round was made over the links from some first
+/// centres, and over the next one in part.
 pub fn close_all<D: Door>(
     alloc: Global,
     posts: &mut Posts,
@@ -27,6 +28,7 @@ pub fn close_all<D: Door>(
     ensures place { D.place door.new ≡ D.place door.old }
     ensures receives { OnOk result (HasReceived due_at_close post_closed n to posts.old posts.new (acting (D.shown door.old) log.old) (acting (D.shown door.new) log.new)) }
     ensures short { OnErr result (IsCutShort (acting (D.shown door.old) log.old) (acting (D.shown door.new) log.new)) }
+    ensures part { OnErr result (ReceivedPart due_at_close post_closed n to posts.old posts.new (acting (D.shown door.old) log.old) (acting (D.shown door.new) log.new)) }
 {
     'others: for before in 0..n {
         let from = before + 1;

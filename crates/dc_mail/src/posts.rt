@@ -8,7 +8,7 @@ ghost use Rattle.script_core.specs.Mail.{post_put, post_set, due_in_round, post_
 ghost use Rattle.script_core.specs.Rounds.{Brings};
 ghost use Rattle.dc_worker.specs.Inlets.{HasCount};
 ghost use Rattle.dc_worker.specs.Work.{AddsSuch};
-ghost use Rattle.dc_mail.specs.Posts.{place_of, post_at, IsCentre, new_posts, HasSet};
+ghost use Rattle.dc_mail.specs.Posts.{place_of, post_at, IsCentre, new_posts, HasSet, PostsPart};
 
 use crate::spot::Spot;
 use dc_talk::{Door, LinkFault, Log, Records};
@@ -95,6 +95,7 @@ impl Posts {
         requires from { IsCentre from }
         requires to { IsCentre to }
         ensures ok { OnOk result (HasSet from to (post_put items (post_at self.old from to)) self.old self.new) }
+        ensures err { OnErr result (self.new ≡ self.old) }
     {
         self.spots[place_of(from, to)].put(items)
     }
@@ -114,6 +115,7 @@ impl Posts {
         ensures brings { OnOk result (AddsSuch (Brings to (due_in_round (post_at self.old from to))) (acting (D.shown door.old) log.old) (acting (D.shown door.new) log.new)) }
         ensures posts { OnOk result (HasSet from to (post_after_round (post_at self.old from to)) self.old self.new) }
         ensures short { OnErr result (IsCutShort (acting (D.shown door.old) log.old) (acting (D.shown door.new) log.new)) }
+        ensures part { OnErr result (PostsPart from to self.old self.new (acting (D.shown door.old) log.old) (acting (D.shown door.new) log.new)) }
     {
         self.spots[place_of(from, to)].bring_round(door, to, log)
     }
@@ -134,6 +136,7 @@ impl Posts {
         ensures brings { OnOk result (AddsSuch (Brings to (due_at_close (post_at self.old from to))) (acting (D.shown door.old) log.old) (acting (D.shown door.new) log.new)) }
         ensures posts { OnOk result (HasSet from to (post_closed (post_at self.old from to)) self.old self.new) }
         ensures short { OnErr result (IsCutShort (acting (D.shown door.old) log.old) (acting (D.shown door.new) log.new)) }
+        ensures part { OnErr result (PostsPart from to self.old self.new (acting (D.shown door.old) log.old) (acting (D.shown door.new) log.new)) }
     {
         self.spots[place_of(from, to)].bring_all(alloc, door, to, log)
     }

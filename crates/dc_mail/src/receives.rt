@@ -4,14 +4,15 @@ ghost use Rattle.ids_core.specs.declared.limits.TheConstants.{MOST_CENTRES};
 ghost use Rattle.dc_talk.specs.Acting.{acting, IsCutShort};
 ghost use Rattle.dc_talk.specs.Doors.{IsBehind};
 ghost use Rattle.script_core.specs.Mail.{due_in_round, post_after_round};
-ghost use Rattle.dc_mail.specs.Rounds.{HasReceived};
+ghost use Rattle.dc_mail.specs.Rounds.{HasReceived, ReceivedPart};
 
 use crate::posts::Posts;
 use dc_talk::{Door, Log};
 use ids_core::NoMemory;
 
 /// Takes from the link from each other centre of the `n` behind the door at most 64 records, and delivers to this one
-/// what comes of them. An `Err` is want of memory: a part of the round may have been made.
+/// what comes of them. An `Err` is want of memory: the round was made over the links from some first centres, and over
+/// the next one in part.
 pub fn receive_all<D: Door>(
     posts: &mut Posts,
     door: &mut D,
@@ -25,6 +26,7 @@ pub fn receive_all<D: Door>(
     ensures place { D.place door.new ≡ D.place door.old }
     ensures receives { OnOk result (HasReceived due_in_round post_after_round n to posts.old posts.new (acting (D.shown door.old) log.old) (acting (D.shown door.new) log.new)) }
     ensures short { OnErr result (IsCutShort (acting (D.shown door.old) log.old) (acting (D.shown door.new) log.new)) }
+    ensures part { OnErr result (ReceivedPart due_in_round post_after_round n to posts.old posts.new (acting (D.shown door.old) log.old) (acting (D.shown door.new) log.new)) }
 {
     'others: for before in 0..n {
         let from = before + 1;

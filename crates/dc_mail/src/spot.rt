@@ -7,6 +7,7 @@ ghost use Rattle.script_core.specs.Mail.{new_post, post_put, post_set, taken_in_
 ghost use Rattle.script_core.specs.Rounds.{Brings};
 ghost use Rattle.dc_worker.specs.Inlets.{HasCount};
 ghost use Rattle.dc_worker.specs.Work.{AddsSuch};
+ghost use Rattle.dc_mail.specs.Posts.{PostPart};
 
 use dc_talk::{Door, LinkFault, Log, Records, Sent};
 use dc_worker::{Inlet, bring, bring_rest};
@@ -99,6 +100,7 @@ impl Spot {
         ensures brings { OnOk result (AddsSuch (Brings at (due_in_round self.old)) (acting (D.shown door.old) log.old) (acting (D.shown door.new) log.new)) }
         ensures spot { OnOk result (self.new ≡ post_after_round self.old) }
         ensures short { OnErr result (IsCutShort (acting (D.shown door.old) log.old) (acting (D.shown door.new) log.new)) }
+        ensures part { OnErr result (PostPart at self.old self.new (acting (D.shown door.old) log.old) (acting (D.shown door.new) log.new)) }
     {
         let items = take_first(&mut self.waits, MOST_MAILED as usize)?;
         bring(door, at, &mut self.inlet, items, log)
@@ -117,6 +119,7 @@ impl Spot {
         ensures brings { OnOk result (AddsSuch (Brings at (due_at_close self.old)) (acting (D.shown door.old) log.old) (acting (D.shown door.new) log.new)) }
         ensures spot { OnOk result (self.new ≡ post_closed self.old) }
         ensures short { OnErr result (IsCutShort (acting (D.shown door.old) log.old) (acting (D.shown door.new) log.new)) }
+        ensures part { OnErr result (PostPart at self.old self.new (acting (D.shown door.old) log.old) (acting (D.shown door.new) log.new)) }
     {
         let items = Vec::from(replace(&mut self.waits, VecDeque::new(alloc)));
         bring_rest(door, at, &mut self.inlet, items, log)

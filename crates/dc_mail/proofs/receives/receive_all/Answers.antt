@@ -1,7 +1,8 @@
-use Rattle.std.proofs.Common.{rules, refl, ◌∙◌}
+use Rattle.std.proofs.Common.{◌<◌, arith, rules, refl, ◌∙◌}
 use Rattle.dc_talk.specs.Acting.{acting, IsCutShort}
 use Rattle.dc_worker.proofs.Work.{cut_then}
 use Rattle.script_core.specs.Mail.{due_in_round, post_after_round}
+use Rattle.dc_mail.specs.Rounds.{ReceivedPart}
 use Rattle.dc_mail.proofs.Rounds.{received_none, received_self, received_next}
 use Rattle.dc_mail.proofs.receives.receive_all.Goals as goal
 
@@ -14,6 +15,23 @@ returns-in_err-bring_round-clause-short g c =
     let b = acting (g.D.Door.shown c.others.door) c.others.log in
     let e = acting (g.D.Door.shown c.bring_round.new.door) c.bring_round.new.log in
     let cut : IsCutShort a e = cut_then a b e _ c.others.invariant.receives.adds c.in_err-bring_round.ensures.short in
+    search rules
+
+pub returns-in_err-bring_round-clause-part : goal.returns-in_err-bring_round-clause-part
+returns-in_err-bring_round-clause-part g c =
+    let few : c.others.before < c.args.n = omega arith in
+    let a = acting (g.D.Door.shown c.args.door.now) c.args.log.now in
+    let b = acting (g.D.Door.shown c.others.door) c.others.log in
+    let e = acting (g.D.Door.shown c.bring_round.new.door) c.bring_round.new.log in
+    let part : ReceivedPart due_in_round post_after_round c.args.n c.args.to c.args.posts.now c.bring_round.new.self a e = record {
+      before = c.others.before;
+      few = few;
+      other = c.if-from-to.false;
+      mid = c.others.posts;
+      between = b;
+      received = c.others.invariant.receives;
+      takes = c.in_err-bring_round.ensures.part;
+    } in
     search rules
 
 pub others-preserved-then-from-to : goal.others-preserved-then-from-to
