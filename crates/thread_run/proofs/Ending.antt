@@ -1,19 +1,14 @@
 -- What the calls that end a phase require.
-use Rattle.std.proofs.Common.{◌≡◌, ◌-◌, ◌≤◌, List, [], ◌∷◌, map, length, drop, sym, ap, ◌∙◌, subst, arith}
-use Rattle.std.specs.Prelude.{slice_get, All}
+use Rattle.std.proofs.Common.{◌≡◌, ◌-◌, ◌≤◌, List, [], ◌∷◌, map, length, sym, ap, ◌∙◌, subst, arith}
+use Rattle.std.specs.Prelude.{All}
 use Rattle.std.specs.List.{AllZip, range_with_len}
 use Rattle.std.specs.Global.{Vec}
 use Rattle.std.proofs.lemmas.List.{length-map}
 use Rattle.std.proofs.lemmas.List.Elements.{All-nil, All-cons, All-head, All-tail, All-map}
-use Rattle.std.proofs.lemmas.Option.{none-some, same_Some}
-use Rattle.list_core.proofs.Gets.{In_get, all_get}
-use Rattle.list_core.proofs.Members.{In-All}
 use Rattle.ids_core.specs.declared.limits.TheConstants.{MOST_CENTRES}
 use Rattle.vv_core.specs.Vectors.{centres}
 use Rattle.dc_talk.specs.declared.sent.Sent.{Sent}
-use Rattle.host_lock.specs.Hosts.{IsOf}
 use Rattle.dc_door.specs.Centres.{KeptCentre, IsKeptCentre}
-use Rattle.dc_host.specs.HostDoors.{CentreHost, CentrePass, bare}
 use Rattle.dc_host.specs.Hosts.{bare_rows, rows_of, new_rows, AreClosed}
 use Rattle.dc_links.specs.Links.{rows_of as ends_of, AreGivers, AreTakers, AreGiverRows, AreTakerRows}
 use Rattle.mail_link.specs.Ends.{GiverView, TakerView}
@@ -21,15 +16,14 @@ use Rattle.script_core.specs.Links.{Inlet}
 use Rattle.script_core.specs.Steps.{IsCount}
 use Rattle.run_table.specs.declared.table.Table.{Table}
 use Rattle.run_sections.specs.Sections.{actors_of}
-use Rattle.phase_actors.specs.declared.callers.Caller.{Caller}
 use Rattle.phase_play.specs.declared.crews.Crew.{Crew}
 use Rattle.phase_actors.specs.declared.clients.Player.{Player}
 use Rattle.phase_actors.specs.declared.scene.Scene.{Scene}
 use Rattle.phase_play.specs.declared.threads.Cast.{Cast}
-use Rattle.phase_actors.specs.Playing.{IsCaller, IsSameCaller}
 use Rattle.phase_actors.specs.Actors.{IsSenderOf, IsReceiverOf, HasTakenSteps}
 use Rattle.phase_play.specs.Casts.{IsCrewOf, HasCrewPlayed, HaveAllPlayed}
-use Rattle.thread_run.proofs.Zips.{get_source, get_image, zip_same}
+use Rattle.phase_actors.proofs.Passing.{caller_stays}
+use Rattle.thread_run.proofs.Zips.{zip_same}
 use Rattle.thread_run.proofs.Callers.{HasCrewDone}
 use Rattle.thread_run.proofs.Redeeming.{rows_stay, as_many, all_kept}
 use Rattle.thread_run.proofs.Carrying.{row_there}
@@ -42,29 +36,6 @@ all_partners R P Q [] [] each all z = All-nil Q
 all_partners R P Q [] (y ∷ ys) each all z = absurd z
 all_partners R P Q (x ∷ xs) [] each all z = absurd z
 all_partners R P Q (x ∷ xs) (y ∷ ys) each all z = All-cons Q y ys (each x y (All-head P x xs all) z.0) (all_partners R P Q xs ys each (All-tail P x xs all) z.1)
-
--- passes with which more was done are of the same hosts
-of_hosts : (hosts : List CentreHost) (ps qs : List CentrePass) → map bare qs ≡ map bare ps → AllZip IsOf hosts ps → AllZip IsOf hosts qs
-of_hosts [] [] [] same z = tt
-of_hosts [] [] (q ∷ qs) same z = absurd (none-some (bare q) (sym (ap (λ (l : List CentrePass). slice_get l 0) same)))
-of_hosts [] (p ∷ ps) qs same z = absurd z
-of_hosts (h ∷ hosts) [] qs same z = absurd z
-of_hosts (h ∷ hosts) (p ∷ ps) [] same z = absurd (none-some (bare p) (ap (λ (l : List CentrePass). slice_get l 0) same))
-of_hosts (h ∷ hosts) (p ∷ ps) (q ∷ qs) same z =
-    let first : bare q ≡ bare p = same_Some (bare q) (bare p) (ap (λ (l : List CentrePass). slice_get l 0) same) in (
-      (ap (λ (x : CentrePass). x.table) first ∙ z.0.0, ap (λ (x : CentrePass). x.settings) first ∙ z.0.1, ap (λ (x : CentrePass). x.opening) first ∙ z.0.2),
-      of_hosts hosts ps qs (ap (drop 1) same) z.1,
-    )
-
--- so is a caller with the same passes
-caller_stays : (hosts : List CentreHost) (old new : Caller) → IsSameCaller old new → IsCaller hosts old → IsCaller hosts new
-caller_stays hosts old new same is = record {
-  each = of_hosts hosts old.row.items new.row.items same.1 is.each;
-  numbered = In-All (λ pass. pass.number ≡ new.log.actor) new.row.items (λ pass there.
-      let at = In_get new.row.items pass there in
-      let was = get_source bare old.row.items at.0 (bare pass) (ap (λ row. slice_get row at.0) (sym same.1) ∙ get_image bare new.row.items at.0 pass at.1) in
-      ap (λ (p : CentrePass). p.number) (sym was.gives) ∙ (all_get (λ (p : CentrePass). p.number ≡ old.log.actor) old.row.items at.0 was.source is.numbered was.there ∙ sym same.0));
-}
 
 -- ---- behind the threads
 
