@@ -1,9 +1,10 @@
 // Commits that are pending.
-ghost use Rattle.std.specs.Prelude.{◌≡◌, ◌≤◌, ◌++◌, ◌∷◌, [], length, drop, flat_map, IfErr, OnOk};
+ghost use Rattle.std.specs.Prelude.{◌≡◌, ◌≤◌, ◌++◌, ◌∷◌, [], length, drop, flat_map, IfErr, OnOk, OnErr};
 ghost use Rattle.std.specs.Bool.{OnFalse};
 ghost use Rattle.ids_core.specs.declared.limits.TheConstants.{MOST_UPDATES};
 ghost use Rattle.tx_core.specs.States.{fold_of};
 ghost use Rattle.tx_core.specs.Operations.{ops_of};
+ghost use Rattle.client_pending.specs.Folding.{FoldsPart};
 
 use crate::turns::{Index, put, take_txs};
 use ids_core::{Mark, NoMemory, ObjectId};
@@ -84,17 +85,19 @@ impl Pending {
     }
 
     /// Folds the operations of all commits on an object, in their order, into its state. Where memory
-    /// is refused the state may hold a part of them.
+    /// is refused the first ones alone are folded into it.
     pub fn fold(&self, object: &ObjectId, state: &mut State) -> Result<(), NoMemory>
-        ensures { OnOk result (state.new ≡ fold_of state.old (flat_map (ops_of object.now) self.now)) }
+        ensures all { OnOk result (state.new ≡ fold_of state.old (flat_map (ops_of object.now) self.now)) }
+        ensures part { OnErr result (FoldsPart (flat_map (ops_of object.now) self.now) state.old state.new) }
     {
         fold_all(self.index.get(object), state)
     }
 }
 
-// Folds marked operations into a state, in their order.
+// Folds marked operations into a state, in their order. Where memory is refused the first ones alone are.
 fn fold_all(marked: &[(Mark, Op)], state: &mut State) -> Result<(), NoMemory>
-    ensures { OnOk result (state.new ≡ fold_of state.old marked.now) }
+    ensures all { OnOk result (state.new ≡ fold_of state.old marked.now) }
+    ensures part { OnErr result (FoldsPart marked.now state.old state.new) }
 {
     for (mark, op) in marked {
         state.fold(mark, op)?;
