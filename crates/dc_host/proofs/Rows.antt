@@ -3,7 +3,7 @@ use Rattle.std.proofs.Common.{◌≡◌, ◌≤◌, ◌<◌, ℕ, zero, suc, ◌
 use Rattle.std.specs.Prelude.{All, slice_get, slice_set, remove}
 use Rattle.std.specs.List.{AllZip, cons_option, range_with_len}
 use Rattle.std.specs.Global.{Vec}
-use Rattle.std.proofs.lemmas.List.{length-map, map-append}
+use Rattle.std.proofs.lemmas.List.{length-map, map-append, map-set, get_or-map}
 use Rattle.std.proofs.lemmas.List.FromFn.{map-range_with_len_more, length-map-range_with_len}
 use Rattle.std.proofs.lemmas.List.Elements.{All-nil, All-cons, All-map, All-push, filter_map-append}
 use Rattle.std.proofs.lemmas.Option.{none-some, same_Some}
@@ -57,6 +57,19 @@ widened_more [] passes pass row lt is = absurd (omega (arith, lt))
 widened_more (first ∷ rows) [] pass row lt is = λ i. (is i ++ pass ∷ []) ∷ sym (widened_none rows) i
 widened_more (first ∷ rows) (one ∷ passes) pass row lt is = ap (λ (l : List (List CentrePass)). (first ++ one ∷ []) ∷ l) (widened_more rows passes pass row (omega (arith, lt)) is)
 
+-- a row of some rows has its pass
+pub pass_more : (first : List (List CentrePass)) (passes : List CentrePass) (pass : CentrePass) (rows longer : List (Vec CentrePass)) (row wider : Vec CentrePass) (place : ℕ) → place ≡ length passes → length rows ≡ length first → length passes < length first → rows_of rows ≡ widened first passes → row ≡ get_or rows place row → wider.items ≡ row.items ++ pass ∷ [] → longer ≡ slice_set rows place wider → rows_of longer ≡ widened first (passes ++ pass ∷ [])
+pass_more first passes pass rows longer row wider place at long within are is more set =
+    let inside : place < length rows = omega (arith, at, long, within) in
+    let read : row.items ≡ get_or (widened first passes) (length passes) row.items =
+    ap (λ (row : Vec CentrePass). row.items) is
+    ∙ (sym (get_or-map (λ (row : Vec CentrePass). row.items) rows place row row.items inside)
+    ∙ (λ i. get_or (are i) (at i) row.items)) in
+    ap rows_of set
+    ∙ (map-set (λ (row : Vec CentrePass). row.items) rows place wider
+    ∙ ((λ i. slice_set (are i) (at i) (more i))
+    ∙ widened_more first passes pass row.items within read))
+
 -- the new passes of a host, by their numbers
 fresh_all : (h : CentreHost) (n : ℕ) → fresh_passes h n ≡ map (fresh h) (range_with_len 1 n)
 fresh_all h zero = refl
@@ -74,7 +87,7 @@ rows_wider hosts h first (suc n) = λ i. sym (map-append (λ (host : CentreHost)
 
 module _ {X Y : Type 0} (R : X → Y → Type 0) where
   -- one of both more
-  zip_more : (xs : List X) (ys : List Y) (x : X) (y : Y) → AllZip R xs ys → R x y → AllZip R (xs ++ x ∷ []) (ys ++ y ∷ [])
+  pub zip_more : (xs : List X) (ys : List Y) (x : X) (y : Y) → AllZip R xs ys → R x y → AllZip R (xs ++ x ∷ []) (ys ++ y ∷ [])
   zip_more [] [] x y z r = (r, tt)
   zip_more [] (b ∷ ys) x y z r = absurd z
   zip_more (a ∷ xs) [] x y z r = absurd z

@@ -65,7 +65,8 @@ pub fn add_column(
 {
     let mut place = 0;
     'passes: for pass in column {
-        rows[place].push(pass)?;
+        let row = &mut rows[place];
+        row.push(pass)?;
         place += 1;
     }
     Ok(())
