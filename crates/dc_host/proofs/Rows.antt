@@ -47,7 +47,7 @@ empty_more rows longer row n are more none =
     ap rows_of more ∙ (rows_more rows row ∙ ((λ i. are i ++ none i ∷ []) ∙ sym (map-range_with_len_more (new_row []) 1 n (n + 1) (omega arith))))
 
 -- a column without a pass
-widened_none : (rows : List (List CentrePass)) → widened rows [] ≡ rows
+pub widened_none : (rows : List (List CentrePass)) → widened rows [] ≡ rows
 widened_none [] = refl
 widened_none (row ∷ rows) = refl
 
@@ -58,9 +58,9 @@ widened_more (first ∷ rows) [] pass row lt is = λ i. (is i ++ pass ∷ []) �
 widened_more (first ∷ rows) (one ∷ passes) pass row lt is = ap (λ (l : List (List CentrePass)). (first ++ one ∷ []) ∷ l) (widened_more rows passes pass row (omega (arith, lt)) is)
 
 -- a row of some rows has its pass
-pub pass_more : (first : List (List CentrePass)) (passes : List CentrePass) (pass : CentrePass) (rows longer : List (Vec CentrePass)) (row wider : Vec CentrePass) (place : ℕ) → place ≡ length passes → length rows ≡ length first → length passes < length first → rows_of rows ≡ widened first passes → row ≡ get_or rows place row → wider.items ≡ row.items ++ pass ∷ [] → longer ≡ slice_set rows place wider → rows_of longer ≡ widened first (passes ++ pass ∷ [])
-pass_more first passes pass rows longer row wider place at long within are is more set =
-    let inside : place < length rows = omega (arith, at, long, within) in
+pub pass_more : (first : List (List CentrePass)) (passes : List CentrePass) (pass : CentrePass) (rows longer : List (Vec CentrePass)) (row wider : Vec CentrePass) (place : ℕ) → place ≡ length passes → place < length rows → length rows ≡ length first → rows_of rows ≡ widened first passes → row ≡ get_or rows place row → wider.items ≡ row.items ++ pass ∷ [] → longer ≡ slice_set rows place wider → rows_of longer ≡ widened first (passes ++ pass ∷ [])
+pass_more first passes pass rows longer row wider place at inside long are is more set =
+    let within : length passes < length first = omega (arith, at, inside, long) in
     let read : row.items ≡ get_or (widened first passes) (length passes) row.items =
     ap (λ (row : Vec CentrePass). row.items) is
     ∙ (sym (get_or-map (λ (row : Vec CentrePass). row.items) rows place row row.items inside)
