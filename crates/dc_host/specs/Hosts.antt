@@ -45,7 +45,7 @@ abbrev pub column : ℕ → List (List CentrePass) → List CentrePass
 column place rows = filter_map (λ row. slice_get row place) rows
 
 -- the rows, each with its pass of a column behind, as far as the column goes
-pub widened : List (List CentrePass) → List CentrePass → List (List CentrePass)
+abbrev pub widened : List (List CentrePass) → List CentrePass → List (List CentrePass)
 widened [] passes = []
 widened (row ∷ rows) [] = row ∷ rows
 widened (row ∷ rows) (pass ∷ passes) = (row ++ pass ∷ []) ∷ widened rows passes

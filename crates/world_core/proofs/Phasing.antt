@@ -55,23 +55,17 @@ module _ (clients : ℕ) (section : Section) (dealt : Dealt) (is : IsDealt clien
       let short : length (line_of dealt client) ≤ later - 1 = omega (arith, low, leb-false turn (length (line_of dealt client)) few) in
       ap (option_map (λ step. move number later (client_does client step))) (ap (λ line. slice_get line (later - 1)) (sym (is.each client count.0 count.1)) ∙ slice_get_past (line_of dealt client) (later - 1) short)
 
-  -- so those that have as many have all moves of this turn, and of the later ones
+  -- so one client more makes no difference
+  left_one : (client : ℕ) (all : List ℕ) (later : ℕ) (test : Bool) → IsCount clients client → turn ≤ later → nat_le turn (length (line_of dealt client)) ≡ test → filter_map (client_turn number section later) (filter (λ client. nat_le turn (length (line_of dealt client))) all) ≡ filter_map (client_turn number section later) all → filter_map (client_turn number section later) (cond test (client ∷ filter (λ client. nat_le turn (length (line_of dealt client))) all) (filter (λ client. nat_le turn (length (line_of dealt client))) all)) ≡ filter_map (client_turn number section later) (client ∷ all)
+  left_one client all later true count low more rest = ap (λ (moves : List Move). cons_option (client_turn number section later client) moves) rest
+  left_one client all later false count low few rest = rest ∙ ap (λ (o : Option Move). cons_option o (filter_map (client_turn number section later) all)) (sym (no_turn client later count low few))
+
+  -- those that have as many have all moves of this turn, and of the later ones
   pub left_same : (all : List ℕ) (later : ℕ) → turn ≤ later → All (IsCount clients) all → filter_map (client_turn number section later) (filter (λ client. nat_le turn (length (line_of dealt client))) all) ≡ filter_map (client_turn number section later) all
   left_same [] later low counts = refl
-  left_same (client ∷ all) later low counts = go (has client) refl
-    where
-      turns : ℕ → Option Move
-      turns = client_turn number section later
-
-      has : ℕ → Bool
-      has client = nat_le turn (length (line_of dealt client))
-
-      rest : filter_map turns (filter has all) ≡ filter_map turns all
-      rest = left_same all later low (All-tail (IsCount clients) client all counts)
-
-      go : (b : Bool) → has client ≡ b → filter_map turns (cond b (client ∷ filter has all) (filter has all)) ≡ filter_map turns (client ∷ all)
-      go true more = ap (λ (moves : List Move). cons_option (turns client) moves) rest
-      go false few = rest ∙ ap (λ (o : Option Move). cons_option o (filter_map turns all)) (sym (no_turn client later (All-head (IsCount clients) client all counts) low few))
+  left_same (client ∷ all) later low counts =
+      left_one client all later (nat_le turn (length (line_of dealt client))) (All-head (IsCount clients) client all counts) low refl
+      (left_same all later low (All-tail (IsCount clients) client all counts))
 
   -- ---- the operator
 

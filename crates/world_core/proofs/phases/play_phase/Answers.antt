@@ -8,7 +8,7 @@ use Rattle.run_book.specs.Moves.{client_turn, turn_moves, most_steps}
 use Rattle.world_core.specs.Worlds.{WorldView}
 use Rattle.world_core.specs.Runs.{MakesMoves}
 use Rattle.world_core.proofs.Making.{makes_none}
-use Rattle.run_table.specs.Dealing.{line_of}
+use Rattle.run_table.specs.Dealing.{line_of, IsDealt}
 use Rattle.run_table.proofs.Lines.{most_few}
 use Rattle.world_core.proofs.Phasing.{counted_then, all_count, left_same}
 use Rattle.world_core.proofs.phases.play_phase.Goals as goal
@@ -33,19 +33,20 @@ turns-init c =
 pub play_turn-requires-clause-clients : goal.play_turn-requires-clause-clients
 play_turn-requires-clause-clients c =
     let a = c.args.world.now in
-    let left = c.leave_those_with.new.clients.items in
-    let counts : All (IsCount a.script.clients) left = subst (λ (left : List ℕ). All (IsCount a.script.clients) left) (sym c.leave_those_with.ensures) (All-filter (λ client. nat_le (c.turns.before + 1) (length (line_of c.in_ok-dealt.dealt client))) (IsCount a.script.clients) c.turns.left.items c.turns.invariant.counts) in
+    let left = c.as_slice.result.now in
+    let counts : All (IsCount a.script.clients) left = subst (λ (left : List ℕ). All (IsCount a.script.clients) left) (sym (c.as_slice.ensures.value ∙ c.leave_those_with.ensures)) (All-filter (λ client. nat_le (c.turns.before + 1) (length (line_of c.in_ok-dealt.dealt client))) (IsCount a.script.clients) c.turns.left.items c.turns.invariant.counts) in
     subst (λ (script : Script). All (IsCount script.clients) left) (sym c.turns.invariant.makes.script) counts
 
 pub play_turn-requires-clause-those : goal.play_turn-requires-clause-those
 play_turn-requires-clause-those c =
     let a = c.args.world.now in
+    let dealt : IsDealt a.script.clients c.args.section.now.steps c.in_ok-dealt.dealt = subst (λ (w : WorldView). IsDealt w.script.clients c.args.section.now.steps c.in_ok-dealt.dealt) c.world.view_is c.in_ok-dealt.ensures in
     let turn = c.turns.before + 1 in
     let turns = client_turn c.args.number c.args.section.now turn in
-    let left = c.leave_those_with.new.clients.items in
+    let left = c.as_slice.result.now in
     let same : filter_map turns left ≡ filter_map turns (range_with_len 1 a.script.clients) =
-    ap (λ (left : List ℕ). filter_map turns left) c.leave_those_with.ensures
-    ∙ (left_same a.script.clients c.args.section.now c.in_ok-dealt.dealt c.in_ok-dealt.ensures c.args.number turn c.turns.left.items turn (omega arith) c.turns.invariant.counts
+    ap (λ (left : List ℕ). filter_map turns left) (c.as_slice.ensures.value ∙ c.leave_those_with.ensures)
+    ∙ (left_same a.script.clients c.args.section.now c.in_ok-dealt.dealt dealt c.args.number turn c.turns.left.items turn (omega arith) c.turns.invariant.counts
     ∙ c.turns.invariant.same turn (omega arith)) in
     subst (λ (script : Script). filter_map turns left ≡ filter_map turns (range_with_len 1 script.clients)) (sym c.turns.invariant.makes.script) same
 
@@ -54,8 +55,8 @@ turns-preserved c =
     let a = c.args.world.now in
     let mid = c.turns.world in
     let turn = c.turns.before + 1 in
-    let left = c.leave_those_with.new.clients.items in
     let was = c.turns.invariant in
+    let dealt : IsDealt a.script.clients c.args.section.now.steps c.in_ok-dealt.dealt = subst (λ (w : WorldView). IsDealt w.script.clients c.args.section.now.steps c.in_ok-dealt.dealt) c.world.view_is c.in_ok-dealt.ensures in
     record {
       makes = counted_then (turn_moves a.script c.args.number c.args.section.now) c.turns.before a mid c.play_turn.new.world was.makes
           (subst (λ (script : Script). MakesMoves (turn_moves script c.args.number c.args.section.now turn) mid c.play_turn.new.world) was.makes.script c.in_ok-play_turn.ensures);
@@ -63,6 +64,6 @@ turns-preserved c =
       same = λ later behind.
           let turns = client_turn c.args.number c.args.section.now later in
           ap (λ (left : List ℕ). filter_map turns left) c.leave_those_with.ensures
-          ∙ (left_same a.script.clients c.args.section.now c.in_ok-dealt.dealt c.in_ok-dealt.ensures c.args.number turn c.turns.left.items later (omega (arith, behind)) was.counts
+          ∙ (left_same a.script.clients c.args.section.now c.in_ok-dealt.dealt dealt c.args.number turn c.turns.left.items later (omega (arith, behind)) was.counts
           ∙ was.same later (omega (arith, behind)));
     }
