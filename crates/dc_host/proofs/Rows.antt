@@ -1,10 +1,10 @@
--- Rows of passes: cut into columns, dealt to callers, and sorted by host at the end.
+-- Rows of passes: widened by the passes of each host, and cut into columns again at the end.
 use Rattle.std.proofs.Common.{◌≡◌, ◌≤◌, ◌<◌, ℕ, zero, suc, ◌+◌, ◌-◌, List, [], ◌∷◌, ◌++◌, map, length, drop, get_or, Option, Some, refl, sym, ap, ◌∙◌, subst, arith}
-use Rattle.std.specs.Prelude.{All, slice_get, remove}
+use Rattle.std.specs.Prelude.{All, slice_get, slice_set, remove}
 use Rattle.std.specs.List.{AllZip, cons_option, range_with_len}
 use Rattle.std.specs.Global.{Vec}
-use Rattle.std.proofs.lemmas.List.{map-append}
-use Rattle.std.proofs.lemmas.List.FromFn.{map-range_with_len_more}
+use Rattle.std.proofs.lemmas.List.{length-map, map-append, map-set, get_or-map}
+use Rattle.std.proofs.lemmas.List.FromFn.{map-range_with_len_more, length-map-range_with_len}
 use Rattle.std.proofs.lemmas.List.Elements.{All-nil, All-cons, All-map, All-push, filter_map-append}
 use Rattle.std.proofs.lemmas.Option.{none-some, same_Some}
 use Rattle.list_core.proofs.Gets.{all_get}
@@ -13,7 +13,7 @@ use Rattle.dc_host.specs.declared.columns.Column.{Column}
 use Rattle.dc_host.specs.declared.hosts.Opened.{Opened}
 use Rattle.dc_door.specs.Centres.{CentreTrail, KeptCentre, seen_of, all_seen}
 use Rattle.dc_host.specs.HostDoors.{CentreHost, CentrePass, bare, ArePasses}
-use Rattle.dc_host.specs.Hosts.{AreFor, rows_of, IsHostOf, new_row, new_rows, new_columns, bare_rows, column, tails, IsColumnOf, HasRow, AreOpened, HasHost, MayClose, IsClosed, AreClosed}
+use Rattle.dc_host.specs.Hosts.{AreFor, rows_of, IsHostOf, new_row, new_rows, bare_rows, column, widened, tails, IsColumnOf, HasRow, AreOpened, HasHost, MayClose, IsClosed, AreClosed}
 
 -- ---- columns
 
@@ -39,11 +39,55 @@ column_tails : (rows : List (List CentrePass)) (i : ℕ) → column i (tails row
 column_tails [] i = refl
 column_tails (row ∷ rows) i = λ j. cons_option (after_first row i j) (column_tails rows i j)
 
+-- ---- each caller has its pass of one host more
+
+-- one caller more has none yet
+pub empty_more : (rows longer : List (Vec CentrePass)) (row : Vec CentrePass) (n : ℕ) → rows_of rows ≡ new_rows [] 1 n → longer ≡ rows ++ row ∷ [] → row.items ≡ [] → rows_of longer ≡ new_rows [] 1 (n + 1)
+empty_more rows longer row n are more none =
+    ap rows_of more ∙ (rows_more rows row ∙ ((λ i. are i ++ none i ∷ []) ∙ sym (map-range_with_len_more (new_row []) 1 n (n + 1) (omega arith))))
+
+-- a column without a pass
+pub widened_none : (rows : List (List CentrePass)) → widened rows [] ≡ rows
+widened_none [] = refl
+widened_none (row ∷ rows) = refl
+
+-- one pass more
+widened_more : (rows : List (List CentrePass)) (passes : List CentrePass) (pass : CentrePass) (row : List CentrePass) → length passes < length rows → row ≡ get_or (widened rows passes) (length passes) row → slice_set (widened rows passes) (length passes) (row ++ pass ∷ []) ≡ widened rows (passes ++ pass ∷ [])
+widened_more [] passes pass row lt is = absurd (omega (arith, lt))
+widened_more (first ∷ rows) [] pass row lt is = λ i. (is i ++ pass ∷ []) ∷ sym (widened_none rows) i
+widened_more (first ∷ rows) (one ∷ passes) pass row lt is = ap (λ (l : List (List CentrePass)). (first ++ one ∷ []) ∷ l) (widened_more rows passes pass row (omega (arith, lt)) is)
+
+-- a row of some rows has its pass
+pub pass_more : (first : List (List CentrePass)) (passes : List CentrePass) (pass : CentrePass) (rows longer : List (Vec CentrePass)) (row wider : Vec CentrePass) (place : ℕ) → place ≡ length passes → place < length rows → length rows ≡ length first → rows_of rows ≡ widened first passes → row ≡ get_or rows place row → wider.items ≡ row.items ++ pass ∷ [] → longer ≡ slice_set rows place wider → rows_of longer ≡ widened first (passes ++ pass ∷ [])
+pass_more first passes pass rows longer row wider place at inside long are is more set =
+    let within : length passes < length first = omega (arith, at, inside, long) in
+    let read : row.items ≡ get_or (widened first passes) (length passes) row.items =
+    ap (λ (row : Vec CentrePass). row.items) is
+    ∙ (sym (get_or-map (λ (row : Vec CentrePass). row.items) rows place row row.items inside)
+    ∙ (λ i. get_or (are i) (at i) row.items)) in
+    ap rows_of set
+    ∙ (map-set (λ (row : Vec CentrePass). row.items) rows place wider
+    ∙ ((λ i. slice_set (are i) (at i) (more i))
+    ∙ widened_more first passes pass row.items within read))
+
+-- the new passes of a host, by their numbers
+fresh_all : (h : CentreHost) (n : ℕ) → fresh_passes h n ≡ map (fresh h) (range_with_len 1 n)
+fresh_all h zero = refl
+fresh_all h (suc n) =
+    let more : map (fresh h) (range_with_len 1 (n + 1)) ≡ map (fresh h) (range_with_len 1 n) ++ fresh h (suc n) ∷ [] = map-range_with_len_more (fresh h) 1 n (suc n) (omega arith) in
+    let next : n + 1 ≡ suc n = omega arith in
+    ap (λ (l : List CentrePass). l ++ fresh h (suc n) ∷ []) (fresh_all h n) ∙ (sym more ∙ ap (λ k. map (fresh h) (range_with_len 1 k)) next)
+
+-- the new rows with the new passes of a host more
+rows_wider : (hosts : List CentreHost) (h : CentreHost) (first n : ℕ) → widened (new_rows hosts first n) (map (fresh h) (range_with_len first n)) ≡ new_rows (hosts ++ h ∷ []) first n
+rows_wider hosts h first zero = refl
+rows_wider hosts h first (suc n) = λ i. sym (map-append (λ (host : CentreHost). fresh host first) hosts (h ∷ [])) i ∷ rows_wider hosts h (first + 1) n i
+
 -- ---- hosts are opened one by one
 
 module _ {X Y : Type 0} (R : X → Y → Type 0) where
   -- one of both more
-  zip_more : (xs : List X) (ys : List Y) (x : X) (y : Y) → AllZip R xs ys → R x y → AllZip R (xs ++ x ∷ []) (ys ++ y ∷ [])
+  pub zip_more : (xs : List X) (ys : List Y) (x : X) (y : Y) → AllZip R xs ys → R x y → AllZip R (xs ++ x ∷ []) (ys ++ y ∷ [])
   zip_more [] [] x y z r = (r, tt)
   zip_more [] (b ∷ ys) x y z r = absurd z
   zip_more (a ∷ xs) [] x y z r = absurd z
@@ -55,47 +99,17 @@ opened_more n kept one o p h ps are is count new has =
     subst (λ (centres : List CentreTrail). AreOpened n centres p) (sym (map-append seen_of kept (one ∷ []))) (record {
       hosts = subst (AllZip IsHostOf (all_seen kept ++ seen_of one ∷ [])) (sym has.hosts) (zip_more IsHostOf (all_seen kept) o.hosts.items (seen_of one) h are.hosts is);
       callers_of = subst (AreFor n) (sym has.hosts) (All-push (λ (host : CentreHost). host.callers ≡ n) o.hosts.items h are.callers_of count);
-      passes = has.passes_of ∙ ((λ i. are.passes i ++ new i ∷ []) ∙ sym (ap (λ (hosts : List CentreHost). new_columns hosts n) has.hosts ∙ map-append (λ (host : CentreHost). fresh_passes host n) o.hosts.items (h ∷ [])));
+      rows = has.rows ∙ ((λ i. widened (are.rows i) ((new ∙ fresh_all h n) i)) ∙ (rows_wider o.hosts.items h 1 n ∙ sym (ap (λ (hosts : List CentreHost). new_rows hosts 1 n) has.hosts)));
     })
 
--- ---- passes are dealt caller by caller
+-- so many new passes of it as there are rows
+pub passes_for : (n : ℕ) (centres : List CentreTrail) (o : Opened) (h : CentreHost) (ps : List CentrePass) → AreOpened n centres o → ps ≡ fresh_passes h n → length ps ≡ length o.rows.items
+passes_for n centres o h ps are new =
+    let of_host : length ps ≡ n = ap (λ (l : List CentrePass). length l) (new ∙ fresh_all h n) ∙ length-map-range_with_len (fresh h) 1 n in
+    let of_rows : length (rows_of o.rows.items) ≡ n = ap (λ (l : List (List CentrePass)). length l) are.rows ∙ length-map-range_with_len (new_row o.hosts.items) 1 n in
+    of_host ∙ (sym of_rows ∙ length-map o.rows.items (λ (row : Vec CentrePass). row.items))
 
--- the passes of so many callers from one on, for each host
-abbrev pub columns_from : List CentreHost → ℕ → ℕ → List (List CentrePass)
-columns_from hosts first count = map (λ (host : CentreHost). map (fresh host) (range_with_len first count)) hosts
-
--- the new passes of a host, by their numbers
-fresh_all : (h : CentreHost) (n : ℕ) → fresh_passes h n ≡ map (fresh h) (range_with_len 1 n)
-fresh_all h zero = refl
-fresh_all h (suc n) =
-    let more : map (fresh h) (range_with_len 1 (n + 1)) ≡ map (fresh h) (range_with_len 1 n) ++ fresh h (suc n) ∷ [] = map-range_with_len_more (fresh h) 1 n (suc n) (omega arith) in
-    let next : n + 1 ≡ suc n = omega arith in
-    ap (λ (l : List CentrePass). l ++ fresh h (suc n) ∷ []) (fresh_all h n) ∙ (sym more ∙ ap (λ k. map (fresh h) (range_with_len 1 k)) next)
-
--- so it is of all hosts
-pub all_fresh : (hosts : List CentreHost) (n : ℕ) → new_columns hosts n ≡ columns_from hosts 1 n
-all_fresh [] n = refl
-all_fresh (h ∷ hosts) n = λ i. fresh_all h n i ∷ all_fresh hosts n i
-
--- the first column is the row of the first caller
-first_dealt : (hosts : List CentreHost) (k n : ℕ) → column 0 (columns_from hosts k (suc n)) ≡ new_row hosts k
-first_dealt [] k n = refl
-first_dealt (h ∷ hosts) k n = ap (λ (l : List CentrePass). fresh h k ∷ l) (first_dealt hosts k n)
-
--- what is left are the columns of the others
-rest_dealt : (hosts : List CentreHost) (k n : ℕ) → tails (columns_from hosts k (suc n)) ≡ columns_from hosts (k + 1) n
-rest_dealt [] k n = refl
-rest_dealt (h ∷ hosts) k n = ap (λ (l : List (List CentrePass)). map (fresh h) (range_with_len (k + 1) n) ∷ l) (rest_dealt hosts k n)
-
--- one caller more has its row
-pub deals_one : (hosts : List CentreHost) (n i : ℕ) (columns rest : List (List CentrePass)) (rows rows' : List (Vec CentrePass)) (row : Vec CentrePass) → i < n → columns ≡ columns_from hosts (i + 1) (n - i) → rows_of rows ≡ new_rows hosts 1 i → row.items ≡ column 0 columns → rest ≡ tails columns → rows' ≡ rows ++ row ∷ []
-    → (rest ≡ columns_from hosts (i + 1 + 1) (n - (i + 1))) × (rows_of rows' ≡ new_rows hosts 1 (i + 1))
-deals_one hosts n i columns rest rows rows' row lt are dealt first left more =
-    let some : n - i ≡ suc (n - (i + 1)) = omega (arith, lt) in
-    let long : columns ≡ columns_from hosts (i + 1) (suc (n - (i + 1))) = are ∙ ap (λ k. columns_from hosts (i + 1) k) some in (
-      left ∙ (ap tails long ∙ rest_dealt hosts (i + 1) (n - (i + 1))),
-      ap rows_of more ∙ (rows_more rows row ∙ ((λ j. dealt j ++ (first ∙ (ap (column 0) long ∙ first_dealt hosts (i + 1) (n - (i + 1)))) j ∷ []) ∙ sym (map-range_with_len_more (new_row hosts) 1 i (i + 1) (omega arith)))),
-    )
+-- ---- the passes of a caller
 
 -- the row of a caller has one pass of each host, with the caller's number
 pub are_dealt : (hosts : List CentreHost) (caller : ℕ) (row : List CentrePass) → row ≡ new_row hosts caller → ArePasses hosts caller row

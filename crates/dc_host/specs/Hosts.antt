@@ -3,7 +3,7 @@
 use Rattle.std.specs.Prelude.{◌≡◌, ℕ, List, [], ◌∷◌, ◌++◌, map, length, drop, Some, slice_get, All}
 use Rattle.std.specs.List.{AllZip, filter_map, range_with_len}
 use Rattle.std.specs.Global.{Vec}
-use Rattle.host_lock.specs.Hosts.{fresh, fresh_passes, InOrder, IsWhole}
+use Rattle.host_lock.specs.Hosts.{fresh, InOrder, IsWhole}
 use Rattle.dc_talk.specs.Answers.{IsAnswer}
 use Rattle.dc_host.specs.declared.columns.Column.{Column}
 use Rattle.dc_host.specs.declared.hosts.Opened.{Opened}
@@ -36,10 +36,6 @@ new_row hosts caller = map (λ (host : CentreHost). fresh host caller) hosts
 abbrev pub new_rows : List CentreHost → ℕ → ℕ → List (List CentrePass)
 new_rows hosts first count = map (new_row hosts) (range_with_len first count)
 
--- the new passes of each host in order
-abbrev pub new_columns : List CentreHost → ℕ → List (List CentrePass)
-new_columns hosts callers = map (λ (host : CentreHost). fresh_passes host callers) hosts
-
 -- the passes of each caller as they were before any call
 abbrev pub bare_rows : List (List CentrePass) → List (List CentrePass)
 bare_rows rows = map (map bare) rows
@@ -47,6 +43,12 @@ bare_rows rows = map (map bare) rows
 -- the passes of the host at a place, counted from 0
 abbrev pub column : ℕ → List (List CentrePass) → List CentrePass
 column place rows = filter_map (λ row. slice_get row place) rows
+
+-- the rows, each with its pass of a column behind, as far as the column goes
+abbrev pub widened : List (List CentrePass) → List CentrePass → List (List CentrePass)
+widened [] passes = []
+widened (row ∷ rows) [] = row ∷ rows
+widened (row ∷ rows) (pass ∷ passes) = (row ++ pass ∷ []) ∷ widened rows passes
 
 -- the rows without the passes of the first host
 abbrev pub tails : List (List CentrePass) → List (List CentrePass)
@@ -62,16 +64,16 @@ pub record HasRow (old : Column) (row : List CentrePass) (new : Column) : Type 0
   pub first : new.first.items ≡ old.first.items ++ column 0 (row ∷ [])
   pub rest : rows_of new.rest.items ≡ rows_of old.rest.items ++ drop 1 row ∷ []
 
--- the hosts that were opened, each with its passes
+-- the hosts that were opened, and the new passes of all callers
 pub record AreOpened (callers : ℕ) (centres : List CentreTrail) (o : Opened) : Type 0 where
   pub hosts : AllZip IsHostOf centres o.hosts.items
   pub callers_of : AreFor callers o.hosts.items
-  pub passes : rows_of o.passes.items ≡ new_columns o.hosts.items callers
+  pub rows : rows_of o.rows.items ≡ new_rows o.hosts.items 1 callers
 
--- one host more, with its passes
+-- one host more, of which each caller has its pass
 pub record HasHost (old : Opened) (host : CentreHost) (passes : List CentrePass) (new : Opened) : Type 0 where
   pub hosts : new.hosts.items ≡ old.hosts.items ++ host ∷ []
-  pub passes_of : rows_of new.passes.items ≡ rows_of old.passes.items ++ passes ∷ []
+  pub rows : rows_of new.rows.items ≡ widened (rows_of old.rows.items) passes
 
 -- each host finds all its passes in the column at its place, in order
 pub record MayClose (hosts : List CentreHost) (rows : List (List CentrePass)) : Type 0 where

@@ -1,6 +1,6 @@
-// Rows of passes, cut into the passes of each host.
-ghost use Rattle.std.specs.Prelude.{IfOk, OnOk};
-ghost use Rattle.dc_host.specs.Hosts.{rows_of, IsColumnOf, HasRow};
+// Rows of passes, made of the passes of each host, and cut into them again.
+ghost use Rattle.std.specs.Prelude.{◌≡◌, [], length, IfOk, OnOk};
+ghost use Rattle.dc_host.specs.Hosts.{rows_of, new_rows, widened, IsColumnOf, HasRow};
 
 use dc_centre::Centre;
 use host_lock::Pass;
@@ -38,4 +38,36 @@ pub fn cut(alloc: Global, rows: Vec<Vec<Pass<Centre>>>) -> Result<Column, NoMemo
         add_row(&mut column, row)?;
     }
     Ok(column)
+}
+
+/// A row without a pass for each of so many callers, with room for so many passes.
+pub fn empty_rows(
+    alloc: Global,
+    callers: u32,
+    width: usize,
+) -> Result<Vec<Vec<Pass<Centre>>>, NoMemory>
+    ensures { IfOk result (λ rows. rows_of rows.items ≡ new_rows [] 1 callers) }
+{
+    let mut rows = Vec::with_capacity(alloc, callers as usize)?;
+    'callers: for _caller in 0..callers {
+        rows.push(Vec::with_capacity(alloc, width)?)?;
+    }
+    Ok(rows)
+}
+
+/// Puts a pass of a column behind each row, in order.
+pub fn add_column(
+    rows: &mut Vec<Vec<Pass<Centre>>>,
+    column: Vec<Pass<Centre>>,
+) -> Result<(), NoMemory>
+    requires { length column.items ≡ length rows.old.items }
+    ensures { OnOk result (rows_of rows.new.items ≡ widened (rows_of rows.old.items) column.items) }
+{
+    let mut place = 0;
+    'passes: for pass in column {
+        let row = &mut rows[place];
+        row.push(pass)?;
+        place += 1;
+    }
+    Ok(())
 }

@@ -1,12 +1,11 @@
 // The centres of a system, each under a lock of its own.
-ghost use Rattle.std.specs.Prelude.{◌≡◌, ◌≤◌, IfOk, OnOk, All, List};
+ghost use Rattle.std.specs.Prelude.{◌≡◌, ◌≤◌, length, IfOk, OnOk, All};
 ghost use Rattle.std.specs.List.{AllZip};
 ghost use Rattle.host_lock.specs.Hosts.{fresh_passes};
 ghost use Rattle.dc_door.specs.Centres.{all_seen, seen_of, IsKeptCentre};
-ghost use Rattle.dc_host.specs.HostDoors.{CentreHost};
-ghost use Rattle.dc_host.specs.Hosts.{AreFor, rows_of, bare_rows, new_rows, new_columns, IsHostOf, AreOpened, HasHost, MayClose, AreClosed};
+ghost use Rattle.dc_host.specs.Hosts.{AreFor, rows_of, bare_rows, new_rows, IsHostOf, AreOpened, HasHost, MayClose, AreClosed};
 
-use crate::columns::{Column, cut};
+use crate::columns::{Column, add_column, cut, empty_rows};
 use dc_centre::Centre;
 use host_lock::{Host, Pass};
 use ids_core::NoMemory;
@@ -34,11 +33,11 @@ impl Model for Hosts {
     ghost invariant = { λ h. AreFor h.callers h.hosts.items };
 }
 
-/// The hosts in order, and the passes of each.
+/// The hosts in order, and of each caller its passes of them.
 #[derive(Drop)]
 pub struct Opened {
     pub hosts: Vec<Host<Centre>>,
-    pub passes: Vec<Vec<Pass<Centre>>>,
+    pub rows: Vec<Vec<Pass<Centre>>>,
 }
 
 impl Hosts {
@@ -57,8 +56,7 @@ impl Hosts {
         ensures each { IfOk result (λ r. AreFor callers r.0.hosts) }
         ensures passes { IfOk result (λ r. rows_of r.1.items ≡ new_rows r.0.hosts 1 callers) }
     {
-        let Opened { hosts, passes } = open_all(alloc, kept, callers)?;
-        let rows = deal(alloc, passes, callers)?;
+        let Opened { hosts, rows } = open_all(alloc, kept, callers)?;
         Ok((Hosts { hosts, callers }, rows))
     }
 
@@ -91,17 +89,17 @@ impl Hosts {
     }
 }
 
-// One host more.
+// One host more, of which each caller gets its pass.
 fn add_host(
     opened: &mut Opened,
     host: Host<Centre>,
     passes: Vec<Pass<Centre>>,
 ) -> Result<(), NoMemory>
+    requires { length passes.items ≡ length opened.old.rows.items }
     ensures { OnOk result (HasHost opened.old host passes.items opened.new) }
 {
     opened.hosts.push(host)?;
-    opened.passes.push(passes)?;
-    Ok(())
+    add_column(&mut opened.rows, passes)
 }
 
 // A host over one centre.
@@ -127,30 +125,13 @@ fn open_all(alloc: Global, kept: Vec<Kept<Centre>>, callers: u32) -> Result<Open
 {
     let mut opened = Opened {
         hosts: Vec::new(alloc),
-        passes: Vec::new(alloc),
+        rows: empty_rows(alloc, callers, kept.len())?,
     };
     'kept: for one in kept {
         let (host, passes) = open_one(alloc, one, callers)?;
         add_host(&mut opened, host, passes)?;
     }
     Ok(opened)
-}
-
-// The new passes of each host, dealt to the callers.
-fn deal(
-    alloc: Global,
-    mut columns: Vec<Vec<Pass<Centre>>>,
-    callers: u32,
-) -> Result<Vec<Vec<Pass<Centre>>>, NoMemory>
-    ensures { IfOk result (λ rows. (hosts : List CentreHost) → rows_of columns.items ≡ new_columns hosts callers → rows_of rows.items ≡ new_rows hosts 1 callers) }
-{
-    let mut rows = Vec::new(alloc);
-    'callers: for _dealt in 0..callers {
-        let Column { first, rest } = cut(alloc, columns)?;
-        rows.push(first)?;
-        columns = rest;
-    }
-    Ok(rows)
 }
 
 // The centres of these hosts, with their trails.

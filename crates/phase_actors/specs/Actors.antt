@@ -1,13 +1,14 @@
 -- The actors of a phase, each before it and behind its part.
-use Rattle.std.specs.Prelude.{◌≡◌, ℕ, ◌+◌, replicate, length, List}
+use Rattle.std.specs.Prelude.{◌≡◌, ◌≤◌, ◌<◌, ℕ, ◌+◌, replicate, length, List, Some, slice_get}
 use Rattle.dc_talk.specs.declared.sent.Sent.{Sent}
 use Rattle.mail_link.specs.Ends.{GiverView}
 use Rattle.dc_links.specs.Links.{AreGivers, AreTakers}
 use Rattle.run_book.specs.Moves.{operator_steps}
 use Rattle.run_sections.specs.Orders.{takes_some}
+use Rattle.run_table.specs.Dealing.{line_of}
 use Rattle.phase_actors.specs.Playing.{seen_by, IsCaller, IsSameCaller}
 use Rattle.phase_actors.specs.Workers.{PlaysOperator, PlaysSender, PlaysReceiver, PlaysReporter, PlaysPruner, Closes, sending, receiving}
-use Rattle.phase_actors.specs.Clients.{SeatView, IsSeat, HasTurnedOnce, HasComeTo, IsPlayer, HasClientPlayed}
+use Rattle.phase_actors.specs.Clients.{SeatView, IsSeat, HasGoneOn, HasStood, IsPlayer, HasClientPlayed}
 use Rattle.phase_actors.specs.declared.scene.Scene.{Scene}
 use Rattle.phase_actors.specs.declared.callers.Caller.{Caller}
 use Rattle.phase_actors.specs.declared.senders.SenderEnd.{SenderEnd}
@@ -76,14 +77,28 @@ IsPlayerOf scene player = IsPlayer scene.hosts.now.hosts scene.script.now.client
 abbrev pub IsSeatOf : Scene → SeatView → Type 0
 IsSeatOf scene seat = IsSeat scene.script.now.n scene.script.now.clients seat
 
--- what it did in a turn, and in the first so many turns; it is one still
-pub record HasTurnedSeat (scene : Scene) (turn : ℕ) (old new : SeatView) : Type 0 where
-  pub is : IsSeatOf scene new
-  pub turned : HasTurnedOnce scene.section.now scene.number turn old new
+-- there is a client at a place to whom a step is left
+pub record IsLeftAt (scene : Scene) (seats : List SeatView) (place : ℕ) : Type 0 where
+  pub seat : SeatView
+  pub there : slice_get seats place ≡ Some seat
+  pub left : seat.taken < length (line_of scene.dealt.now seat.client)
 
-pub record HasSeatCome (scene : Scene) (turns : ℕ) (old new : SeatView) : Type 0 where
+-- it took some steps more, and is one still
+pub record HasSeatGone (scene : Scene) (old new : SeatView) : Type 0 where
   pub is : IsSeatOf scene new
-  pub come : HasComeTo scene.section.now scene.number turns old new
+  pub gone : HasGoneOn scene.section.now scene.number old new
+
+-- it took one step more
+pub record HasTurnedSeat (scene : Scene) (old new : SeatView) : Type 0 where
+  pub went : HasSeatGone scene old new
+  pub taken : new.taken ≡ old.taken + 1
+
+-- it took all steps that were left to it, and got up
+pub record HasEnded (scene : Scene) (old : SeatView) (player : Player) : Type 0 where
+  pub seat : SeatView
+  pub went : HasSeatGone scene old seat
+  pub all : length (line_of scene.dealt.now seat.client) ≤ seat.taken
+  pub stood : HasStood seat player
 
 -- it took its steps
 abbrev pub HasTakenSteps : Scene → Player → Player → Type 0

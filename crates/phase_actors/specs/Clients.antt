@@ -1,5 +1,5 @@
 -- What the clients do in a phase.
-use Rattle.std.specs.Prelude.{◌≡◌, ℕ, ◌-◌, take, map, length, List}
+use Rattle.std.specs.Prelude.{◌≡◌, ℕ, take, map, length, List}
 use Rattle.dc_talk.specs.Logs.{Logged}
 use Rattle.dc_talk.specs.Doors.{DoorView}
 use Rattle.dc_talk.specs.Acting.{Acting, acting}
@@ -41,24 +41,25 @@ HasTurned section number turns old new = PlaysClient number (take turns (client_
 
 -- ---- over hosts
 
--- a client before a door over hosts, with its log
+-- a client before a door over hosts, with its log, and how many of its steps it took
 pub record SeatView : Type 0 where
   pub client : ℕ
   pub stub : StubView
   pub door : HostDoorView
   pub log : Logged
+  pub taken : ℕ
 
 -- the client at a seat
 abbrev pub seated : SeatView → ClientAt
 seated seat = client_at seat.client seat.stub (shown_over seat.door) seat.log
 
--- the seat of a client with its passes and its log
+-- the seat of a client with its passes and its log, which took no step yet
 abbrev pub seat_of : Player → SeatView
-seat_of p = record { client = p.client; stub = p.stub; door = record { actor = p.caller.log.actor; passes = p.caller.row.items }; log = p.caller.log }
+seat_of p = record { client = p.client; stub = p.stub; door = record { actor = p.caller.log.actor; passes = p.caller.row.items }; log = p.caller.log; taken = 0 }
 
 -- the player that got up from a seat, whose door is the actor's of its log
 abbrev pub HasStood : SeatView → Player → Type 0
-HasStood seat player = seat.door.actor ≡ seat.log.actor → seat_of player ≡ seat
+HasStood seat player = seat.door.actor ≡ seat.log.actor → seat_of player ≡ record seat { taken = 0 }
 
 -- a client of so many, before so many centres
 pub record IsSeat (n clients : ℕ) (seat : SeatView) : Type 0 where
@@ -72,15 +73,10 @@ pub record IsSameSeat (old new : SeatView) : Type 0 where
   pub actor : new.door.actor ≡ old.door.actor
   pub passes : map bare new.door.passes ≡ map bare old.door.passes
 
--- it took its step of a turn, where it has one
-pub record HasTurnedOnce (section : Section) (number turn : ℕ) (old new : SeatView) : Type 0 where
+-- it took steps behind those that it had taken: as many as it tells
+pub record HasGoneOn (section : Section) (number : ℕ) (old new : SeatView) : Type 0 where
   pub same : IsSameSeat old new
-  pub turned : (first : ClientAt) → HasTurned section number (turn - 1) first (seated old) → HasTurned section number turn first (seated new)
-
--- it took its steps of the first so many turns
-pub record HasComeTo (section : Section) (number turns : ℕ) (old new : SeatView) : Type 0 where
-  pub same : IsSameSeat old new
-  pub turned : HasTurned section number turns (seated old) (seated new)
+  pub turned : (first : ClientAt) → HasTurned section number old.taken first (seated old) → HasTurned section number new.taken first (seated new)
 
 -- a client before the phase
 pub record IsPlayer (hosts : List CentreHost) (clients : ℕ) (p : Player) : Type 0 where

@@ -1,11 +1,12 @@
 // The clients of a phase, some of them in one thread, which take their steps in turns.
-ghost use Rattle.std.specs.Prelude.{◌≡◌, ◌≤◌, ◌-◌, map, IfOk, OnOk, All};
+ghost use Rattle.std.specs.Prelude.{◌≡◌, ◌≤◌, ◌<◌, ◌-◌, map, length, IfOk, OnOk, IsTrue, All};
 ghost use Rattle.std.specs.List.{AllZip};
 ghost use Rattle.script_core.specs.Steps.{IsCount};
 ghost use Rattle.client_stub.specs.Playing.{IsLinkBehind};
+ghost use Rattle.run_table.specs.Dealing.{line_of};
 ghost use Rattle.phase_actors.specs.Scenes.{IsScene};
 ghost use Rattle.phase_actors.specs.Clients.{ClientAt, client_at, HasTurned, seat_of, HasStood};
-ghost use Rattle.phase_actors.specs.Actors.{IsPlayerOf, HasTakenSteps, IsSeatOf, HasTurnedSeat, HasSeatCome};
+ghost use Rattle.phase_actors.specs.Actors.{IsPlayerOf, HasTakenSteps, IsSeatOf, IsLeftAt, HasTurnedSeat, HasSeatGone, HasEnded};
 
 use crate::callers::Caller;
 use crate::pace::Pace;
@@ -27,13 +28,14 @@ pub struct Player {
     pub stub: Stub,
 }
 
-// A client before a door to the centres, with its log.
+// A client before a door to the centres, with its log, and how many of its steps it took.
 #[derive(Drop)]
 struct Seat<'a, R, G: Gate> {
     client: u32,
     stub: Stub,
     door: HostDoor<'a, R, &'a G>,
     log: Log,
+    taken: u32,
 }
 
 impl<'a, R, G: Gate> Model for Seat<'a, R, G> {
@@ -44,7 +46,7 @@ impl<'a, R, G: Gate> Model for Seat<'a, R, G> {
 
     ghost coded = { Prim.hlevel state_codes };
 
-    ghost view = { λ s. record { client = s.client; stub = s.stub; door = s.door; log = s.log } };
+    ghost view = { λ s. record { client = s.client; stub = s.stub; door = s.door; log = s.log; taken = s.taken } };
 }
 
 // A client takes its step of a turn's number through a door, where it has one.
@@ -73,70 +75,114 @@ fn take_turn<D: Door>(
     Ok(())
 }
 
-// The same of a client before its door.
+// Whether a step is left to a client at its seat.
+fn has_more<R, G: Gate>(scene: Scene<'_>, seat: &Seat<'_, R, G>) -> bool
+    ensures { IsTrue result ↔ (seat.now.taken < length (line_of scene.dealt.now seat.now.client)) }
+{
+    (seat.taken as usize) < scene.dealt.step_count(seat.client)
+}
+
+// Whether there is a client at this place to whom a step is left.
+fn is_left<R, G: Gate>(scene: Scene<'_>, seats: &[Seat<'_, R, G>], place: usize) -> bool
+    ensures { IsTrue result → IsLeftAt scene seats.now place }
+{
+    match seats.get(place) {
+        Some(seat) => has_more(scene, seat),
+        None => false,
+    }
+}
+
+// A client takes the next one of the steps that are left to it.
 fn turn_one<'a, R: Wait, G: Gate>(
     alloc: Global,
     scene: Scene<'a>,
-    turn: u32,
-    seat: Seat<'a, R, G>,
-) -> Result<Seat<'a, R, G>, NoMemory>
+    seat: &mut Seat<'a, R, G>,
+) -> Result<(), NoMemory>
     requires scene { IsScene scene }
-    requires turn { 1 ≤ turn }
-    requires seat { IsSeatOf scene seat }
-    ensures { IfOk result (HasTurnedSeat scene.entry turn seat.entry) }
+    requires seat { IsSeatOf scene seat.old }
+    requires left { seat.old.taken < length (line_of scene.dealt.now seat.old.client) }
+    ensures { OnOk result (HasTurnedSeat scene.entry seat.old seat.new) }
 {
-    let Seat {
-        client,
-        mut stub,
-        mut door,
-        mut log,
-    } = seat;
-    take_turn(alloc, scene, turn, client, &mut stub, &mut door, &mut log)?;
-    Ok(Seat {
-        client,
-        stub,
-        door,
-        log,
-    })
+    let turn = seat.taken + 1;
+    take_turn(
+        alloc,
+        scene,
+        turn,
+        seat.client,
+        &mut seat.stub,
+        &mut seat.door,
+        &mut seat.log,
+    )?;
+    seat.taken = turn;
+    Ok(())
 }
 
-// A turn of all of them.
+// The one at this place takes its next step, where one is left to it.
+fn turn_at<'a, R: Wait, G: Gate>(
+    alloc: Global,
+    scene: Scene<'a>,
+    place: usize,
+    seats: &mut Vec<Seat<'a, R, G>>,
+) -> Result<(), NoMemory>
+    requires scene { IsScene scene }
+    requires seats { All (IsSeatOf scene) seats.old.items }
+    ensures { OnOk result (AllZip (HasSeatGone scene.entry) seats.old.items seats.new.items) }
+{
+    if is_left(scene, seats.as_slice(), place) {
+        turn_one(alloc, scene, &mut seats[place])?;
+    }
+    Ok(())
+}
+
+// Those at these places, one after another. The others stay as they are.
 fn turn_all<'a, R: Wait, G: Gate>(
     alloc: Global,
     scene: Scene<'a>,
-    turn: u32,
-    seats: Vec<Seat<'a, R, G>>,
-) -> Result<Vec<Seat<'a, R, G>>, NoMemory>
+    places: &[usize],
+    seats: &mut Vec<Seat<'a, R, G>>,
+) -> Result<(), NoMemory>
     requires scene { IsScene scene }
-    requires turn { 1 ≤ turn }
-    requires seats { All (IsSeatOf scene) seats.items }
-    ensures { IfOk result (λ turned. AllZip (HasTurnedSeat scene.entry turn) seats.entry.items turned.items) }
+    requires seats { All (IsSeatOf scene) seats.old.items }
+    ensures { OnOk result (AllZip (HasSeatGone scene.entry) seats.old.items seats.new.items) }
 {
-    let mut turned = Vec::with_capacity(alloc, seats.len())?;
-    'seats: for seat in seats {
-        let later = turn_one(alloc, scene, turn, seat)?;
-        turned.push(later)?;
+    'places: for place in places {
+        turn_at(alloc, scene, *place, seats)?;
     }
-    Ok(turned)
+    Ok(())
 }
 
-// So many turns, each of which counts for the pace.
+// The places of so many seats.
+fn places_of(alloc: Global, count: usize) -> Result<Vec<usize>, NoMemory> {
+    let mut places = Vec::with_capacity(alloc, count)?;
+    'places: for place in 0..count {
+        places.push(place)?;
+    }
+    Ok(places)
+}
+
+// Turns of those to whom steps are left, while they are two or more. So a turn is no work for the others. Each step
+// counts for the pace.
 fn take_turns<'a, R: Wait, G: Gate>(
     alloc: Global,
     scene: Scene<'a>,
     pace: &Pace,
-    turns: u32,
-    mut seats: Vec<Seat<'a, R, G>>,
-) -> Result<Vec<Seat<'a, R, G>>, NoMemory>
+    seats: &mut Vec<Seat<'a, R, G>>,
+) -> Result<(), NoMemory>
     requires scene { IsScene scene }
-    requires seats { All (IsSeatOf scene) seats.items }
-    ensures { IfOk result (λ turned. AllZip (HasSeatCome scene.entry turns) seats.entry.items turned.items) }
+    requires seats { All (IsSeatOf scene) seats.old.items }
+    ensures { OnOk result (AllZip (HasSeatGone scene.entry) seats.old.items seats.new.items) }
 {
-    'turns: for before in 0..turns {
-        seats = turn_all(alloc, scene, before + 1, seats)?;
-        pace.advance(seats.len() as u64);
+    let mut places = places_of(alloc, seats.len())?;
+    'turns: for _turn in 0..scene.dealt.longest() {
+        let now = seats.as_slice();
+        places.retain(|place| is_left(scene, now, *place));
+        if places.len() < 2 {
+            break;
+        }
+        turn_all(alloc, scene, places.as_slice(), seats)?;
+        pace.advance(places.len() as u64);
     }
-    Ok(seats)
+    Ok(())
 }
 
 // A client before a new door of its passes.
@@ -163,6 +209,7 @@ fn sit<'a, R: Wait, G: Gate>(
         stub,
         door,
         log,
+        taken: 0,
     }
 }
 
@@ -175,6 +222,7 @@ fn stand<R, G: Gate>(seat: Seat<'_, R, G>) -> Player
         stub,
         door,
         log,
+        taken: _,
     } = seat;
     Player {
         client,
@@ -206,19 +254,45 @@ fn sit_all<'a, R: Wait, G: Gate>(
     Ok(seats)
 }
 
-// The players of all seats.
-fn stand_all<R, G: Gate>(alloc: Global, seats: Vec<Seat<'_, R, G>>) -> Result<Vec<Player>, NoMemory>
-    ensures { IfOk result (λ players. AllZip HasStood seats.entry.items players.items) }
+// A client takes the steps that are left to it, and gets up.
+fn end_one<'a, R: Wait, G: Gate>(
+    alloc: Global,
+    scene: Scene<'a>,
+    pace: &Pace,
+    seat: Seat<'a, R, G>,
+) -> Result<Player, NoMemory>
+    requires scene { IsScene scene }
+    requires seat { IsSeatOf scene seat }
+    ensures { IfOk result (HasEnded scene.entry seat.entry) }
+{
+    let mut at = seat;
+    'steps: while has_more(scene, &at) {
+        turn_one(alloc, scene, &mut at)?;
+        pace.advance(1);
+    }
+    Ok(stand(at))
+}
+
+// All of them, one after another.
+fn end_all<'a, R: Wait, G: Gate>(
+    alloc: Global,
+    scene: Scene<'a>,
+    pace: &Pace,
+    seats: Vec<Seat<'a, R, G>>,
+) -> Result<Vec<Player>, NoMemory>
+    requires scene { IsScene scene }
+    requires seats { All (IsSeatOf scene) seats.items }
+    ensures { IfOk result (λ players. AllZip (HasEnded scene.entry) seats.entry.items players.items) }
 {
     let mut players = Vec::with_capacity(alloc, seats.len())?;
     'seats: for seat in seats {
-        players.push(stand(seat))?;
+        players.push(end_one(alloc, scene, pace, seat)?)?;
     }
     Ok(players)
 }
 
-/// The steps of some clients over the hosts, taken in turns in one thread: each client is a caller of its own. After an
-/// `Err`, want of memory, their passes are gone.
+/// The steps of some clients over the hosts, taken in turns in one thread: each client is a caller of its own. The last
+/// one to whom steps are left takes them alone. After an `Err`, want of memory, their passes are gone.
 pub fn play_clients<R: Wait, G: Gate>(
     rt: &R,
     alloc: Global,
@@ -231,7 +305,7 @@ pub fn play_clients<R: Wait, G: Gate>(
     requires players { All (IsPlayerOf scene) players.items }
     ensures { IfOk result (λ played. AllZip (HasTakenSteps scene.entry) players.items played.items) }
 {
-    let seats = sit_all(rt, alloc, scene, gate, players)?;
-    let seats = take_turns(alloc, scene, pace, scene.dealt.longest() as u32, seats)?;
-    stand_all(alloc, seats)
+    let mut seats = sit_all(rt, alloc, scene, gate, players)?;
+    take_turns(alloc, scene, pace, &mut seats)?;
+    end_all(alloc, scene, pace, seats)
 }

@@ -1,8 +1,9 @@
--- What was done to each of several, in blocks or one by one.
-use Rattle.std.proofs.Common.{◌≡◌, ℕ, zero, suc, ◌<◌, List, [], ◌∷◌, ◌++◌, length, map, flat_map, Ok, Err, IfOk, sym, ap, ◌∙◌, subst, arith}
+-- Clients are cut into even blocks, and what was done to each of several, in blocks or one by one.
+use Rattle.std.proofs.Common.{◌≡◌, ℕ, zero, suc, ◌+◌, ◌-◌, ◌*◌, ◌/◌, ◌%◌, ◌<◌, ◌≤◌, min, List, [], ◌∷◌, ◌++◌, length, map, flat_map, Ok, Err, IfOk, sym, ap, ◌∙◌, subst, arith}
 use Rattle.std.specs.Prelude.{All, Result, slice_index_or}
 use Rattle.std.specs.List.{AllZip}
 use Rattle.std.specs.Global.{Vec}
+use Rattle.std.proofs.Math.Nat.{div-add-mod, div-eq-sub-div, suc-mul}
 use Rattle.std.proofs.lemmas.List.Elements.{All-nil, All-cons, All-head, All-tail}
 
 module _ {X : Type 0} where
@@ -36,6 +37,43 @@ module _ {X : Type 0} where
       then [] (y ∷ ys) both rest = absurd both
       then (x ∷ xs) [] both rest = absurd both
       then (x ∷ xs) (y ∷ ys) both rest = (both.0, then xs ys both.1 rest)
+
+-- ---- even blocks
+
+-- all elements, as so many blocks, some of them with one more
+pub all_of_blocks : (n count : ℕ) → n ≡ (count - 0) * (n / count) + (n % count - 0)
+all_of_blocks n count =
+    let blocks : count - 0 ≡ count = omega arith in
+    let more : n % count - 0 ≡ n % count = omega arith in
+    sym ((λ i. blocks i * (n / count) + more i) ∙ div-add-mod n count)
+
+-- the shortest block is not empty
+pub some_in_block : (n count : ℕ) → 1 ≤ count → count ≤ n → 1 ≤ n / count
+some_in_block n count low enough =
+    let least : n / count ≡ (n - count) / count + 1 = div-eq-sub-div (omega (arith, low)) enough in
+    omega (arith, least)
+
+-- some blocks more, of which one is cut off
+one_off : (all others size more : ℕ) → all ≡ others + size → (size + min 1 more ≤ all + more) × (all + more - (size + min 1 more) ≡ others + (more - 1))
+one_off all others size more is = (omega (arith, is), omega (arith, is))
+
+-- what is left then
+pub block_off : (count place size longer left : ℕ) → place < count → left ≡ (count - place) * size + (longer - place) → (size + min 1 (longer - place) ≤ left) × (left - (size + min 1 (longer - place)) ≡ (count - (place + 1)) * size + (longer - (place + 1)))
+block_off count place size longer left within is =
+    let next : count - place ≡ suc (count - (place + 1)) = omega (arith, within) in
+    let all : (count - place) * size ≡ (count - (place + 1)) * size + size = ap (λ k. k * size) next ∙ suc-mul (count - (place + 1)) size in
+    let off = one_off ((count - place) * size) ((count - (place + 1)) * size) size (longer - place) all in
+    let more : longer - place - 1 ≡ longer - (place + 1) = omega arith in (
+      subst (λ left. size + min 1 (longer - place) ≤ left) (sym is) off.0,
+      ap (λ left. left - (size + min 1 (longer - place))) is ∙ (off.1 ∙ ap (λ more. (count - (place + 1)) * size + more) more),
+    )
+
+-- nothing is left behind the last block
+pub none_left : (count place size longer left : ℕ) → count ≤ place → longer ≤ count → left ≡ (count - place) * size + (longer - place) → left ≡ 0
+none_left count place size longer left past few is =
+    let blocks : count - place ≡ 0 = omega (arith, past) in
+    let more : longer - place ≡ 0 = omega (arith, past, few) in
+    is ∙ (λ i. blocks i * size + more i)
 
 module _ {J X E : Type 0} (R : J → X → Type 0) where
   -- each result that is one belongs to the job at its place

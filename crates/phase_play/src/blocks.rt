@@ -1,29 +1,49 @@
 // Clients in blocks, one for each thread.
-ghost use Rattle.std.specs.Prelude.{◌≡◌, ◌≤◌, flat_map, IfOk};
+ghost use Rattle.std.specs.Prelude.{◌≡◌, ◌≤◌, min, length, flat_map, IfOk};
+ghost use Rattle.phase_play.specs.Blocks.{AreEven};
 
 use ids_core::NoMemory;
 use phase_actors::Player;
 use std::alloc::Global;
 
-/// Cuts clients into so many blocks at most that are not empty, in order.
+// Cuts clients into so many blocks, in order: the first ones have a client more, where they can't all have as many.
+fn cut_into(alloc: Global, players: Vec<Player>, count: usize) -> Result<Vec<Vec<Player>>, NoMemory>
+    requires some { 1 ≤ count }
+    requires enough { count ≤ length players.items }
+    ensures all { IfOk result (λ blocks. flat_map (λ block. block.items) blocks.items ≡ players.items) }
+    ensures number { IfOk result (λ blocks. length blocks.items ≡ count) }
+    ensures even { IfOk result (λ blocks. AreEven blocks.items) }
+{
+    let size = players.len() / count;
+    let longer = players.len() % count;
+    let mut blocks = Vec::with_capacity(alloc, count)?;
+    let mut rest = players;
+    'blocks: for place in 0..count {
+        let long = size + longer.saturating_sub(place).min(1);
+        let later = rest.split_off(long)?;
+        blocks.push(rest)?;
+        rest = later;
+    }
+    Ok(blocks)
+}
+
+/// Cuts clients into blocks for so many threads, in order: as many blocks as there are threads, or one for each client
+/// where these are fewer. No block is empty, and their lengths differ by one at most.
 pub(crate) fn cut(
     alloc: Global,
     players: Vec<Player>,
     threads: u32,
 ) -> Result<Vec<Vec<Player>>, NoMemory>
     requires { 1 ≤ threads }
-    ensures { IfOk result (λ blocks. flat_map (λ block. block.items) blocks.items ≡ players.items) }
+    ensures all { IfOk result (λ blocks. flat_map (λ block. block.items) blocks.items ≡ players.items) }
+    ensures number { IfOk result (λ blocks. length blocks.items ≡ min (length players.items) threads) }
+    ensures even { IfOk result (λ blocks. AreEven blocks.items) }
 {
-    let size = players.len().div_ceil(threads as usize);
-    let mut blocks = Vec::new(alloc);
-    let mut rest = players;
-    'threads: for _thread in 1..threads {
-        let later = rest.split_off(size.min(rest.len()))?;
-        blocks.push(rest)?;
-        rest = later;
+    if players.is_empty() {
+        return Ok(Vec::new(alloc));
     }
-    blocks.push(rest)?;
-    Ok(blocks)
+    let count = players.len().min(threads as usize);
+    cut_into(alloc, players, count)
 }
 
 /// Puts blocks together, in order.

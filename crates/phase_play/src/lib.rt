@@ -4,6 +4,7 @@
 
 mod blocks;
 mod crews;
+mod idle;
 mod threads;
 
 pub use crews::Crew;

@@ -7,6 +7,7 @@ ghost use Rattle.phase_play.specs.Casts.{IsCrewOf, HasCrewPlayed, IsCast, HaveAl
 
 use crate::blocks::{cut, join_blocks};
 use crate::crews::{Crew, play_crew};
+use crate::idle::{idle_crews, is_idle, play_idle};
 use ids_core::NoMemory;
 use io_edge::Gate;
 use phase_actors::{Caller, Pace, Player, Scene, operate_through, play_clients};
@@ -55,7 +56,7 @@ fn play_players<R: Threads + Wait + Sync, G: Gate>(
     join_blocks(alloc, all_of(alloc, results)?)
 }
 
-// The workers of all centres.
+// The workers of all centres, in threads where they have rounds to make.
 fn play_crews<R: Threads + Wait + Sync, G: Gate>(
     rt: &R,
     alloc: Global,
@@ -68,6 +69,9 @@ fn play_crews<R: Threads + Wait + Sync, G: Gate>(
     requires crews { All (IsCrewOf scene) crews.items }
     ensures { IfOk result (λ played. AllZip (HasCrewPlayed scene.entry) crews.items played.items) }
 {
+    if scene.script.rounds == 0 {
+        return idle_crews(rt, alloc, scene, gate, pace, crews);
+    }
     let each = |crew: Crew| -> Result<Crew, NoMemory>
         requires { IsScene scene × IsCrewOf scene crew }
         ensures { IfOk result (HasCrewPlayed scene.entry crew) }
@@ -132,7 +136,8 @@ fn play_others<R: Threads + Wait + Sync, G: Gate>(
 }
 
 /// What all actors of a phase do in its rounds and turns, at once: some threads for the clients, one for the operator, and
-/// four for each centre, as many of them as can be made. After an `Err`, want of memory, their passes and ends are gone.
+/// four for each centre, as many of them as can be made. A phase in which nobody has anything to do is played in the
+/// thread of the caller, and workers without rounds take no threads. After an `Err`, want of memory, their passes and ends are gone.
 pub fn play_in_threads<R: Threads + Wait + Sync, G: Gate>(
     rt: &R,
     alloc: Global,
@@ -144,6 +149,9 @@ pub fn play_in_threads<R: Threads + Wait + Sync, G: Gate>(
     requires cast { IsCast scene cast }
     ensures { IfOk result (HaveAllPlayed scene.entry cast) }
 {
+    if is_idle(scene) {
+        return play_idle(rt, alloc, scene, gate, cast);
+    }
     let Cast {
         operator,
         clients,
@@ -157,8 +165,9 @@ pub fn play_in_threads<R: Threads + Wait + Sync, G: Gate>(
         hosts,
         links,
     } = scene;
-    let turns = (dealt.longest() as u64).saturating_mul(u64::from(script.clients));
-    let made = Pace::new(turns, script.rounds, script.n);
+    let orders = dealt.operator_line().len();
+    let steps = section.steps.as_slice().len().saturating_sub(orders);
+    let made = Pace::new(steps as u64, script.rounds, script.n);
     let pace = &made;
     let players = move || -> Result<Vec<Player>, NoMemory>
         requires { IsScene (record { script = script; section = section; number = number; dealt = dealt; hosts = hosts; links = links }) × All (IsPlayerOf (record { script = script; section = section; number = number; dealt = dealt; hosts = hosts; links = links })) clients.items }

@@ -61,6 +61,16 @@ impl Dealt {
         line.as_slice().get((number - 1) as usize).copied()
     }
 
+    /// How many steps a client has: none where there is no such client.
+    pub fn step_count(&self, client: u32) -> usize
+        ensures { result ≡ length (line_of self.now client) }
+    {
+        match self.clients.get(client.saturating_sub(1) as usize) {
+            Some(line) => line.len(),
+            None => 0,
+        }
+    }
+
     /// The step of the operator with a number, counted from 1, where it has so many.
     pub fn operator_step(&self, number: u32) -> Option<OperatorStep>
         requires { 1 ≤ number }

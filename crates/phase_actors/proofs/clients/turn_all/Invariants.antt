@@ -1,6 +1,6 @@
 use Rattle.std.specs.List.{AllZip}
-use Rattle.phase_actors.specs.Actors.{HasTurnedSeat}
+use Rattle.phase_actors.specs.Actors.{HasSeatGone}
 use Rattle.phase_actors.proofs.clients.turn_all.Given as goal
 
-abbrev pub invariant-seats : goal.invariant-seats
-invariant-seats g l = AllZip (HasTurnedSeat l.fn.scene l.fn.turn) l.yielded l.turned.items
+abbrev pub invariant-places : goal.invariant-places
+invariant-places g l = AllZip (HasSeatGone l.fn.scene) l.initial.seats.items l.seats.items

@@ -1,7 +1,7 @@
-use Rattle.std.proofs.Common.{rules, arith, ◌≡◌, ◌<◌, ◌+◌, ◌-◌, suc, map, List, length, ap}
+use Rattle.std.proofs.Common.{rules, arith, ◌≡◌, ◌<◌, ◌-◌, suc, List, length, ap}
 use Rattle.host_lock.specs.Hosts.{IsOf}
 use Rattle.dc_host.specs.declared.host_door.HostPlace.{HostPlace}
-use Rattle.dc_host.specs.HostDoors.{CentrePass, bare}
+use Rattle.dc_host.specs.HostDoors.{CentrePass}
 use Rattle.dc_host.proofs.Passes.{zip_long, passes_stay, bare_stays, host_says_its_row, host_asked, host_not_asked}
 use Rattle.dc_host.proofs.host_door.HostDoorDoor.ask.Goals as goal
 
