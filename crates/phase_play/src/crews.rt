@@ -108,7 +108,7 @@ pub(crate) fn begin_crews<'s, E: 's, R: Wait + Sync, G: Gate>(
 ) -> Result<Vec<BegunCrew<'s>>, NoMemory>
     requires scene { IsScene scene }
     requires crews { All (IsCrewOf scene) crews.items }
-    ensures { IfOk result (λ begun. AllZip (WillPlay scene.entry) crews.items begun.entry.items) }
+    ensures { IfOk result (λ begun. AllZip (WillPlay scene.entry) crews.items begun.items) }
 {
     let mut begun = Vec::with_capacity(alloc, crews.len())?;
     'crews: for crew in crews {

@@ -1,0 +1,23 @@
+-- What comes of several that have begun, one after another.
+use Rattle.std.proofs.Common.{◌≡◌, List, [], ◌∷◌, ◌++◌, refl, sym, ap, subst}
+use Rattle.std.specs.List.{AllZip}
+use Rattle.std.proofs.lemmas.List.Elements.{AllZip-push}
+
+module _ {X B : Type 0} (R : X → B → Type 0) where
+  -- the last two belong together, and so do those before them
+  zip_last : (xs : List X) (bs : List B) (b : B) → AllZip R xs (bs ++ b ∷ []) → (front : List X) × (last : X) × (xs ≡ front ++ last ∷ []) × AllZip R front bs × R last b
+  zip_last [] [] b zip = absurd zip
+  zip_last [] (c ∷ bs) b zip = absurd zip
+  zip_last (x ∷ []) [] b zip = ([], x, refl, tt, zip.0)
+  zip_last (x ∷ y ∷ xs) [] b zip = absurd zip.1
+  zip_last (x ∷ xs) (c ∷ bs) b zip = let rest = zip_last xs bs b zip.1 in (x ∷ rest.0, rest.1, ap (λ (l : List X). x ∷ l) rest.2, (zip.0, rest.3), rest.4)
+
+module _ {X B Y : Type 0} (R : X → B → Type 0) (S : X → Y → Type 0) where
+  -- where nothing began, nothing came of it
+  pub none_came : (xs : List X) → AllZip R xs [] → AllZip S xs []
+  none_came [] zip = tt
+  none_came (x ∷ xs) zip = absurd zip
+
+  -- one more
+  pub one_more_came : (bs : List B) (b : B) (ys : List Y) (y : Y) → ((xs : List X) → AllZip R xs bs → AllZip S xs ys) → ((x : X) → R x b → S x y) → (xs : List X) → AllZip R xs (bs ++ b ∷ []) → AllZip S xs (ys ++ y ∷ [])
+  one_more_came bs b ys y all one xs zip = let split = zip_last R xs bs b zip in subst (λ (l : List X). AllZip S l (ys ++ y ∷ [])) (sym split.2) (AllZip-push S split.0 ys split.1 y (all split.0 split.3) (one split.1 split.4))
