@@ -12,7 +12,6 @@ use Rattle.phase_play.specs.declared.begun.SenderOf.{SenderOf}
 use Rattle.phase_play.specs.declared.begun.ReceiverOf.{ReceiverOf}
 use Rattle.phase_play.specs.declared.begun.ReporterOf.{ReporterOf}
 use Rattle.phase_play.specs.declared.begun.PrunerOf.{PrunerOf}
-use Rattle.phase_play.specs.declared.begun.BegunCrew.{BegunCrew}
 
 -- the sender of a centre: it is in a thread that promises its rounds, or has made them
 abbrev pub WillSend : Scene → ℕ → SenderEnd → Begun (Result SenderEnd NoMemory) SenderOf → Type 0

@@ -117,18 +117,18 @@ pub(crate) fn begin_crews<'s, E: 's, R: Wait + Sync, G: Gate>(
     Ok(begun)
 }
 
-/// Waits for what all workers give, where they have begun. After an `Err`, want of memory, their passes and ends are gone.
+/// Waits for what all workers give. After an `Err`, want of memory, their passes and ends are gone.
 pub(crate) fn end_crews<R: Threads>(
     rt: &R,
     alloc: Global,
-    begun: Result<Vec<BegunCrew<'_>>, NoMemory>,
+    begun: Vec<BegunCrew<'_>>,
 ) -> Result<Vec<Crew>, NoMemory>
-    ensures { (scene : SceneView) (crews : List CrewView) → IfOk begun.entry (λ begun. AllZip (WillPlay scene) crews begun.items) → IfOk result (λ played. AllZip (HasCrewPlayed scene) crews played.items) }
+    ensures { (scene : SceneView) (crews : List CrewView) → AllZip (WillPlay scene) crews begun.entry.items → IfOk result (λ played. AllZip (HasCrewPlayed scene) crews played.items) }
 {
-    let begun = begun?;
-    let mut played = Vec::with_capacity(alloc, begun.len())?;
+    let mut played = Vec::new(alloc);
     'begun: for crew in begun {
-        played.push(end_crew(rt, crew)?)?;
+        let ended = end_crew(rt, crew)?;
+        played.push(ended)?;
     }
     Ok(played)
 }

@@ -97,7 +97,11 @@ fn play_others<R: Threads + Wait + Sync, G: Gate>(
             };
             let begun = pace.ended(begin_crews(rt, alloc, within, scene, gate, pace, crews));
             let operator = operate_through(rt, scene, gate, operator);
-            (operator, end_crews(rt, alloc, begun))
+            let crews = match begun {
+                Ok(begun) => end_crews(rt, alloc, begun),
+                Err(NoMemory) => Err(NoMemory),
+            };
+            (operator, crews)
         },
     )
 }
