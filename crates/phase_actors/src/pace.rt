@@ -1,17 +1,20 @@
 // The pace of the workers of a phase.
+ghost use Rattle.std.specs.Prelude.{◌≡◌};
+
+use ids_core::NoMemory;
 use std::sync::Wait;
 use std::sync::atomic::{AtomicU64, Ordering};
-use std::time::Duration;
 
-// So many rounds wait for nobody: one of each worker, and those of pruners up to their first prune.
+// So many rounds wait for no client: one of each worker, and those of pruners up to their first prune.
 const HEAD_START: u64 = 1;
 
 const FREE_PRUNES: u64 = 8;
 
-// So often at most a worker looks whether others have come, and so many milliseconds lie at most between two looks.
-const LOOKS: u32 = 100;
+// The most centres.
+const CENTRES: usize = 8;
 
-const LOOK_MILLIS: u64 = 1;
+// More rounds than any worker makes. A sleep compares the low 32 bits of a count, and no count has those of this one.
+const FAR: u64 = 1 << 62 | 1 << 31;
 
 /// The kinds of workers, in their order in a round.
 #[derive(Clone, Copy)]
@@ -22,12 +25,79 @@ pub(crate) enum Worker {
     Pruner,
 }
 
+// How many rounds the worker of a kind has made at each centre, in order.
+#[derive(Drop)]
+struct Counts {
+    words: [AtomicU64; CENTRES],
+}
+
+impl Counts {
+    // No round is made.
+    fn new() -> Counts {
+        Counts {
+            words: [
+                AtomicU64::new(0),
+                AtomicU64::new(0),
+                AtomicU64::new(0),
+                AtomicU64::new(0),
+                AtomicU64::new(0),
+                AtomicU64::new(0),
+                AtomicU64::new(0),
+                AtomicU64::new(0),
+            ],
+        }
+    }
+
+    // The count of a centre.
+    fn at(&self, centre: u8) -> Option<&AtomicU64> {
+        self.words.get(usize::from(centre).wrapping_sub(1))
+    }
+
+    // One round more at a centre.
+    fn add(&self, centre: u8) {
+        if let Some(made) = self.at(centre) {
+            made.fetch_add(1, Ordering::SeqCst);
+            made.wake_all();
+        }
+    }
+
+    // All rounds count as made, those to come too.
+    fn fill(&self) {
+        for made in &self.words {
+            made.store(FAR, Ordering::SeqCst);
+            made.wake_all();
+        }
+    }
+
+    // Waits until so many rounds are made at a centre.
+    fn wait_at<R: Wait>(&self, rt: &R, centre: u8, rounds: u64) {
+        let Some(made) = self.at(centre) else {
+            return;
+        };
+        for _ in rt.forever() {
+            let seen = made.load(Ordering::SeqCst);
+            if seen >= rounds {
+                return;
+            }
+            made.park(rt, low_bits(seen));
+        }
+        unreachable!()
+    }
+}
+
 /// Spreads the rounds of the workers over the turns of the clients, so that records are carried while clients go on: the
-/// first round waits for nobody, a later one for as great a part of the turns, and the last one for all of them. In a
-/// later round receivers wait until all senders have made it, reporters for the receivers, and senders for the reports of
-/// the round before: so a sender knows what has come, and sends nothing twice. Who waits sleeps, and waits for other
-/// workers for a tenth of a second at most; where one of them does not come by then, as where there are too few threads,
-/// none waits for another any more. No contract speaks of it: a worker may make its rounds at any time.
+/// first round waits for no client, a later one for as great a part of the turns, and the last one for all of them.
+///
+/// In a round a receiver waits until the senders of all other centres have made it, a sender until the receivers of all
+/// other centres have made the round before, and past its first round a reporter for the receiver of its own centre. So
+/// what a sender puts on a link is taken before it looks again, and nothing is sent twice. Who waits sleeps until a count
+/// changes; there is no clock.
+///
+/// These waits end only where each worker has a thread of its own and makes all its rounds: of those that wait, the one
+/// that is first in the order of the rounds, and in a round of senders, receivers and reporters, waits for workers that
+/// do not wait. Where a thread cannot be made or a worker ends early, `part` is called, and from then on no worker waits
+/// for another one. For clients all wait still: these wait for no worker, and share no thread in which a worker goes
+/// first. No contract speaks of it: a worker may make its rounds at any time.
 #[derive(Drop)]
 pub struct Pace {
     // The turns of all clients, counted for each, and how many of them are over.
@@ -36,13 +106,10 @@ pub struct Pace {
     // The rounds of each worker, and how many of them the clients let begin.
     rounds: u64,
     due: AtomicU64,
-    // The centres, and how many rounds all workers of a kind have made.
-    centres: u64,
-    sent: AtomicU64,
-    received: AtomicU64,
-    reported: AtomicU64,
-    // 1 from when no worker waits for another any more.
-    parted: AtomicU64,
+    // The centres, and the rounds that their senders and receivers have made.
+    centres: u8,
+    sent: Counts,
+    received: Counts,
 }
 
 impl Pace {
@@ -54,11 +121,9 @@ impl Pace {
             over: AtomicU64::new(0),
             rounds,
             due: AtomicU64::new(due_after(0, turns, rounds)),
-            centres: u64::from(centres),
-            sent: AtomicU64::new(0),
-            received: AtomicU64::new(0),
-            reported: AtomicU64::new(0),
-            parted: AtomicU64::new(0),
+            centres,
+            sent: Counts::new(),
+            received: Counts::new(),
         }
     }
 
@@ -78,8 +143,24 @@ impl Pace {
         self.due.wake_all();
     }
 
-    /// Waits until a worker may begin its round of a number, counted from 1.
-    pub(crate) fn wait_for<R: Wait>(&self, rt: &R, worker: Worker, round: u32) {
+    /// A worker has no thread of its own, or ended before its last round: none waits for another one from now on.
+    pub fn part(&self) {
+        self.sent.fill();
+        self.received.fill();
+    }
+
+    /// Hands on what came of a worker. Where memory ran out, none waits for another one from now on.
+    pub fn ended<T>(&self, given: Result<T, NoMemory>) -> Result<T, NoMemory>
+        ensures { result ≡ given }
+    {
+        if given.is_err() {
+            self.part();
+        }
+        given
+    }
+
+    /// Waits until the worker of a centre may begin its round of a number, counted from 1.
+    pub(crate) fn wait_for<R: Wait>(&self, rt: &R, worker: Worker, centre: u8, round: u32) {
         let round = u64::from(round);
         let free = match worker {
             Worker::Pruner => FREE_PRUNES,
@@ -87,31 +168,37 @@ impl Pace {
         };
         if round > free {
             self.wait_for_clients(rt, round);
-            self.wait_in_round(rt, worker, round);
         }
+        self.wait_in_round(rt, worker, centre, round);
     }
 
-    /// A worker has made a round more.
-    pub(crate) fn has_made(&self, worker: Worker) {
+    /// The worker of a centre has made a round more.
+    pub(crate) fn has_made(&self, worker: Worker, centre: u8) {
         match worker {
-            Worker::Sender => count(&self.sent),
-            Worker::Receiver => count(&self.received),
-            Worker::Reporter => count(&self.reported),
-            Worker::Pruner => {}
+            Worker::Sender => self.sent.add(centre),
+            Worker::Receiver => self.received.add(centre),
+            Worker::Reporter | Worker::Pruner => {}
         }
     }
 
     // Waits until those workers have come that go before in a round.
-    fn wait_in_round<R: Wait>(&self, rt: &R, worker: Worker, round: u64) {
-        let rounds = round.saturating_mul(self.centres);
+    fn wait_in_round<R: Wait>(&self, rt: &R, worker: Worker, centre: u8, round: u64) {
+        let earlier = round.saturating_sub(1);
         match worker {
-            Worker::Sender => {
-                let earlier = rounds.saturating_sub(self.centres);
-                self.wait_for_others(rt, &self.reported, earlier);
+            Worker::Sender => self.wait_for_others(rt, &self.received, centre, earlier),
+            Worker::Receiver => self.wait_for_others(rt, &self.sent, centre, round),
+            Worker::Reporter if round > HEAD_START => self.received.wait_at(rt, centre, round),
+            Worker::Reporter | Worker::Pruner => {}
+        }
+    }
+
+    // Waits until the workers of a kind at all other centres have made so many rounds.
+    fn wait_for_others<R: Wait>(&self, rt: &R, made: &Counts, centre: u8, rounds: u64) {
+        for before in 0..self.centres {
+            let other = before + 1;
+            if other != centre {
+                made.wait_at(rt, other, rounds);
             }
-            Worker::Receiver => self.wait_for_others(rt, &self.sent, rounds),
-            Worker::Reporter => self.wait_for_others(rt, &self.received, rounds),
-            Worker::Pruner => {}
         }
     }
 
@@ -126,24 +213,6 @@ impl Pace {
         }
         unreachable!()
     }
-
-    // Waits until workers have made so many rounds, or some do not come.
-    fn wait_for_others<R: Wait>(&self, rt: &R, made: &AtomicU64, rounds: u64) {
-        for _look in 0..LOOKS {
-            let seen = made.load(Ordering::SeqCst);
-            if seen >= rounds || self.parted.load(Ordering::SeqCst) != 0 {
-                return;
-            }
-            made.park_timeout(rt, low_bits(seen), Duration::from_millis(LOOK_MILLIS));
-        }
-        self.parted.store(1, Ordering::SeqCst);
-    }
-}
-
-// One round more.
-fn count(made: &AtomicU64) {
-    made.fetch_add(1, Ordering::SeqCst);
-    made.wake_all();
 }
 
 // What a sleep on a word compares.

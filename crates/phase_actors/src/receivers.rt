@@ -57,10 +57,10 @@ fn receive_rounds<R: Wait, D: Door>(
     ensures plays { OnOk result (PlaysReceiver n centre section (replicate rounds takes_some) (record { acting = acting (D.shown door.old) log.old; takers = takers.old.items; inlets = inlets.old.items }) (record { acting = acting (D.shown door.new) log.new; takers = takers.new.items; inlets = inlets.new.items })) }
 {
     'rounds: for before in 0..rounds {
-        pace.wait_for(rt, Worker::Receiver, before + 1);
+        pace.wait_for(rt, Worker::Receiver, centre, before + 1);
         log.set(section, before + 1);
         receive_all(rt, door, n, centre, links, takers, inlets, log)?;
-        pace.has_made(Worker::Receiver);
+        pace.has_made(Worker::Receiver, centre);
     }
     Ok(())
 }

@@ -37,10 +37,10 @@ fn report_rounds<R: Wait, D: Door>(
     ensures plays { OnOk result (PlaysReporter n centre section rounds (acting (D.shown door.old) log.old) (acting (D.shown door.new) log.new)) }
 {
     'rounds: for before in 0..rounds {
-        pace.wait_for(rt, Worker::Reporter, before + 1);
+        pace.wait_for(rt, Worker::Reporter, centre, before + 1);
         log.set(section, before + 1);
         report_all(door, n, centre, log)?;
-        pace.has_made(Worker::Reporter);
+        pace.has_made(Worker::Reporter, centre);
     }
     Ok(())
 }
@@ -60,7 +60,7 @@ fn prune_rounds<R: Wait, D: Door>(
     ensures plays { OnOk result (PlaysPruner centre section rounds (acting (D.shown door.old) log.old) (acting (D.shown door.new) log.new)) }
 {
     'rounds: for before in 0..rounds {
-        pace.wait_for(rt, Worker::Pruner, before + 1);
+        pace.wait_for(rt, Worker::Pruner, centre, before + 1);
         log.set(section, before + 1);
         prune(door, before + 1, centre, log)?;
     }

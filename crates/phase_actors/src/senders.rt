@@ -50,10 +50,10 @@ fn send_rounds<R: Wait, D: Door>(
     ensures plays { OnOk result (PlaysSender n centre section rounds (record { acting = acting (D.shown door.old) log.old; givers = givers.old.items }) (record { acting = acting (D.shown door.new) log.new; givers = givers.new.items })) }
 {
     'rounds: for before in 0..rounds {
-        pace.wait_for(rt, Worker::Sender, before + 1);
+        pace.wait_for(rt, Worker::Sender, centre, before + 1);
         log.set(section, before + 1);
         send_all(rt, door, n, centre, links, givers, log)?;
-        pace.has_made(Worker::Sender);
+        pace.has_made(Worker::Sender, centre);
     }
     Ok(())
 }

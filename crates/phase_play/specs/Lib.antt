@@ -1,2 +1,4 @@
 pub mod Blocks
 pub mod Casts
+pub mod Begun
+pub mod Crews

@@ -1,18 +1,22 @@
-// The workers of a centre in a phase, each in a thread of its own.
-ghost use Rattle.std.specs.Prelude.{IfOk};
-ghost use Rattle.script_core.specs.Steps.{IsCount};
+// The workers of all centres in a phase.
+ghost use Rattle.std.specs.Prelude.{List, IfOk, All};
+ghost use Rattle.std.specs.List.{AllZip};
 ghost use Rattle.phase_actors.specs.Scenes.{IsScene};
-ghost use Rattle.phase_actors.specs.Actors.{IsCallerOf, IsSenderOf, HasSent, IsReceiverOf, HasReceived, HasReported, HasPruned};
+ghost use Rattle.phase_actors.specs.declared.scene.Scene.{Scene as SceneView};
+ghost use Rattle.phase_play.specs.declared.crews.Crew.{Crew as CrewView};
 ghost use Rattle.phase_play.specs.Casts.{IsCrewOf, HasCrewPlayed};
+ghost use Rattle.phase_play.specs.Crews.{WillPlay};
 
+use crate::begun::{
+    Begun, PrunerOf, ReceiverOf, ReporterOf, SenderOf, begin_pruner, begin_receiver,
+    begin_reporter, begin_sender, end_pruner, end_receiver, end_reporter, end_sender,
+};
 use ids_core::NoMemory;
 use io_edge::Gate;
-use phase_actors::{
-    Caller, Pace, ReceiverEnd, Scene, SenderEnd, prune_through, receive_through, report_through,
-    send_through,
-};
+use phase_actors::{Caller, Pace, ReceiverEnd, Scene, SenderEnd};
+use std::alloc::Global;
 use std::sync::Wait;
-use std::thread::{Threads, join};
+use std::thread::{Scope, Threads};
 
 /// The four workers of a centre, counted from 1.
 #[derive(Drop)]
@@ -24,130 +28,28 @@ pub struct Crew {
     pub pruner: Caller,
 }
 
-// The rounds of the workers that carry records.
-fn carry<R: Threads + Wait + Sync, G: Gate>(
-    rt: &R,
-    scene: Scene<'_>,
-    gate: &G,
-    pace: &Pace,
+/// The four workers of a centre that have begun.
+#[derive(Drop)]
+pub(crate) struct BegunCrew<'a> {
     centre: u8,
-    sender: SenderEnd,
-    receiver: ReceiverEnd,
-) -> (Result<SenderEnd, NoMemory>, Result<ReceiverEnd, NoMemory>)
-    requires scene { IsScene scene }
-    requires centre { IsCount scene.script.now.n centre }
-    requires sender { IsSenderOf scene centre sender }
-    requires receiver { IsReceiverOf scene centre receiver }
-    ensures sender { IfOk result.0 (HasSent scene.entry centre sender) }
-    ensures receiver { IfOk result.1 (HasReceived scene.entry centre receiver) }
-{
-    let Scene {
-        script,
-        section,
-        number,
-        dealt,
-        hosts,
-        links,
-    } = scene;
-    let sends = move || -> Result<SenderEnd, NoMemory>
-        requires { IsScene (record { script = script; section = section; number = number; dealt = dealt; hosts = hosts; links = links }) × IsCount script.now.n centre × IsSenderOf (record { script = script; section = section; number = number; dealt = dealt; hosts = hosts; links = links }) centre sender }
-        ensures { IfOk result (HasSent (record { script = script.entry; section = section.entry; number = number; dealt = dealt.entry; hosts = hosts.entry; links = links.entry }) centre sender) }
-    {
-        let scene = Scene {
-            script,
-            section,
-            number,
-            dealt,
-            hosts,
-            links,
-        };
-        send_through(rt, scene, gate, pace, centre, sender)
-    };
-    let receives = move || -> Result<ReceiverEnd, NoMemory>
-        requires { IsScene (record { script = script; section = section; number = number; dealt = dealt; hosts = hosts; links = links }) × IsCount script.now.n centre × IsReceiverOf (record { script = script; section = section; number = number; dealt = dealt; hosts = hosts; links = links }) centre receiver }
-        ensures { IfOk result (HasReceived (record { script = script.entry; section = section.entry; number = number; dealt = dealt.entry; hosts = hosts.entry; links = links.entry }) centre receiver) }
-    {
-        let scene = Scene {
-            script,
-            section,
-            number,
-            dealt,
-            hosts,
-            links,
-        };
-        receive_through(rt, scene, gate, pace, centre, receiver)
-    };
-    join(rt, sends, receives)
+    sender: Begun<Result<SenderEnd, NoMemory>, SenderOf<'a>>,
+    receiver: Begun<Result<ReceiverEnd, NoMemory>, ReceiverOf<'a>>,
+    reporter: Begun<Result<Caller, NoMemory>, ReporterOf<'a>>,
+    pruner: Begun<Result<Caller, NoMemory>, PrunerOf<'a>>,
 }
 
-// The rounds of the others.
-fn tend<R: Threads + Wait + Sync, G: Gate>(
-    rt: &R,
-    scene: Scene<'_>,
-    gate: &G,
-    pace: &Pace,
-    centre: u8,
-    reporter: Caller,
-    pruner: Caller,
-) -> (Result<Caller, NoMemory>, Result<Caller, NoMemory>)
-    requires scene { IsScene scene }
-    requires centre { IsCount scene.script.now.n centre }
-    requires reporter { IsCallerOf scene reporter }
-    requires pruner { IsCallerOf scene pruner }
-    ensures reporter { IfOk result.0 (HasReported scene.entry centre reporter) }
-    ensures pruner { IfOk result.1 (HasPruned scene.entry centre pruner) }
-{
-    let Scene {
-        script,
-        section,
-        number,
-        dealt,
-        hosts,
-        links,
-    } = scene;
-    let reports = move || -> Result<Caller, NoMemory>
-        requires { IsScene (record { script = script; section = section; number = number; dealt = dealt; hosts = hosts; links = links }) × IsCount script.now.n centre × IsCallerOf (record { script = script; section = section; number = number; dealt = dealt; hosts = hosts; links = links }) reporter }
-        ensures { IfOk result (HasReported (record { script = script.entry; section = section.entry; number = number; dealt = dealt.entry; hosts = hosts.entry; links = links.entry }) centre reporter) }
-    {
-        let scene = Scene {
-            script,
-            section,
-            number,
-            dealt,
-            hosts,
-            links,
-        };
-        report_through(rt, scene, gate, pace, centre, reporter)
-    };
-    let prunes = move || -> Result<Caller, NoMemory>
-        requires { IsScene (record { script = script; section = section; number = number; dealt = dealt; hosts = hosts; links = links }) × IsCount script.now.n centre × IsCallerOf (record { script = script; section = section; number = number; dealt = dealt; hosts = hosts; links = links }) pruner }
-        ensures { IfOk result (HasPruned (record { script = script.entry; section = section.entry; number = number; dealt = dealt.entry; hosts = hosts.entry; links = links.entry }) centre pruner) }
-    {
-        let scene = Scene {
-            script,
-            section,
-            number,
-            dealt,
-            hosts,
-            links,
-        };
-        prune_through(rt, scene, gate, pace, centre, pruner)
-    };
-    join(rt, reports, prunes)
-}
-
-/// The rounds of the workers of a centre, each in a thread of its own where one can be made. After an `Err`, want of
-/// memory, their passes and ends are gone.
-pub(crate) fn play_crew<R: Threads + Wait + Sync, G: Gate>(
-    rt: &R,
-    scene: Scene<'_>,
-    gate: &G,
-    pace: &Pace,
+// The workers of a centre begin.
+fn begin_crew<'s, E: 's, R: Wait + Sync, G: Gate>(
+    rt: &'s R,
+    within: &'s Scope<'s, E>,
+    scene: Scene<'s>,
+    gate: &'s G,
+    pace: &'s Pace,
     crew: Crew,
-) -> Result<Crew, NoMemory>
+) -> BegunCrew<'s>
     requires scene { IsScene scene }
     requires crew { IsCrewOf scene crew }
-    ensures { IfOk result (HasCrewPlayed scene.entry crew) }
+    ensures { WillPlay scene.entry crew result }
 {
     let Crew {
         centre,
@@ -156,43 +58,34 @@ pub(crate) fn play_crew<R: Threads + Wait + Sync, G: Gate>(
         reporter,
         pruner,
     } = crew;
-    let Scene {
-        script,
-        section,
-        number,
-        dealt,
-        hosts,
-        links,
-    } = scene;
-    let carries = move || -> (Result<SenderEnd, NoMemory>, Result<ReceiverEnd, NoMemory>)
-        requires { IsScene (record { script = script; section = section; number = number; dealt = dealt; hosts = hosts; links = links }) × IsCount script.now.n centre × IsSenderOf (record { script = script; section = section; number = number; dealt = dealt; hosts = hosts; links = links }) centre sender × IsReceiverOf (record { script = script; section = section; number = number; dealt = dealt; hosts = hosts; links = links }) centre receiver }
-        ensures { IfOk result.0 (HasSent (record { script = script.entry; section = section.entry; number = number; dealt = dealt.entry; hosts = hosts.entry; links = links.entry }) centre sender) × IfOk result.1 (HasReceived (record { script = script.entry; section = section.entry; number = number; dealt = dealt.entry; hosts = hosts.entry; links = links.entry }) centre receiver) }
-    {
-        let scene = Scene {
-            script,
-            section,
-            number,
-            dealt,
-            hosts,
-            links,
-        };
-        carry(rt, scene, gate, pace, centre, sender, receiver)
-    };
-    let tends = move || -> (Result<Caller, NoMemory>, Result<Caller, NoMemory>)
-        requires { IsScene (record { script = script; section = section; number = number; dealt = dealt; hosts = hosts; links = links }) × IsCount script.now.n centre × IsCallerOf (record { script = script; section = section; number = number; dealt = dealt; hosts = hosts; links = links }) reporter × IsCallerOf (record { script = script; section = section; number = number; dealt = dealt; hosts = hosts; links = links }) pruner }
-        ensures { IfOk result.0 (HasReported (record { script = script.entry; section = section.entry; number = number; dealt = dealt.entry; hosts = hosts.entry; links = links.entry }) centre reporter) × IfOk result.1 (HasPruned (record { script = script.entry; section = section.entry; number = number; dealt = dealt.entry; hosts = hosts.entry; links = links.entry }) centre pruner) }
-    {
-        let scene = Scene {
-            script,
-            section,
-            number,
-            dealt,
-            hosts,
-            links,
-        };
-        tend(rt, scene, gate, pace, centre, reporter, pruner)
-    };
-    let ((sender, receiver), (reporter, pruner)) = join(rt, carries, tends);
+    let sender = begin_sender(rt, within, scene, gate, pace, centre, sender);
+    let receiver = begin_receiver(rt, within, scene, gate, pace, centre, receiver);
+    let reporter = begin_reporter(rt, within, scene, gate, pace, centre, reporter);
+    let pruner = begin_pruner(rt, within, scene, gate, pace, centre, pruner);
+    BegunCrew {
+        centre,
+        sender,
+        receiver,
+        reporter,
+        pruner,
+    }
+}
+
+// Waits for what the workers of a centre give.
+fn end_crew<R: Threads>(rt: &R, begun: BegunCrew<'_>) -> Result<Crew, NoMemory>
+    ensures { (scene : SceneView) (crew : CrewView) → WillPlay scene crew begun.entry → IfOk result (HasCrewPlayed scene crew) }
+{
+    let BegunCrew {
+        centre,
+        sender,
+        receiver,
+        reporter,
+        pruner,
+    } = begun;
+    let sender = end_sender(rt, sender);
+    let receiver = end_receiver(rt, receiver);
+    let reporter = end_reporter(rt, reporter);
+    let pruner = end_pruner(rt, pruner);
     Ok(Crew {
         centre,
         sender: sender?,
@@ -200,4 +93,42 @@ pub(crate) fn play_crew<R: Threads + Wait + Sync, G: Gate>(
         reporter: reporter?,
         pruner: pruner?,
     })
+}
+
+/// The workers of all centres begin, each in a thread of its own, or here where none can be made. After an `Err`, want of
+/// memory, not all of them begin, and none waits for another one.
+pub(crate) fn begin_crews<'s, E: 's, R: Wait + Sync, G: Gate>(
+    rt: &'s R,
+    alloc: Global,
+    within: &'s Scope<'s, E>,
+    scene: Scene<'s>,
+    gate: &'s G,
+    pace: &'s Pace,
+    crews: Vec<Crew>,
+) -> Result<Vec<BegunCrew<'s>>, NoMemory>
+    requires scene { IsScene scene }
+    requires crews { All (IsCrewOf scene) crews.items }
+    ensures { IfOk result (λ begun. AllZip (WillPlay scene.entry) crews.items begun.items) }
+{
+    let mut begun = Vec::with_capacity(alloc, crews.len())?;
+    'crews: for crew in crews {
+        begun.push(begin_crew(rt, within, scene, gate, pace, crew))?;
+    }
+    Ok(begun)
+}
+
+/// Waits for what all workers give. After an `Err`, want of memory, their passes and ends are gone.
+pub(crate) fn end_crews<R: Threads>(
+    rt: &R,
+    alloc: Global,
+    begun: Vec<BegunCrew<'_>>,
+) -> Result<Vec<Crew>, NoMemory>
+    ensures { (scene : SceneView) (crews : List CrewView) → AllZip (WillPlay scene) crews begun.entry.items → IfOk result (λ played. AllZip (HasCrewPlayed scene) crews played.items) }
+{
+    let mut played = Vec::new(alloc);
+    'begun: for crew in begun {
+        let ended = end_crew(rt, crew)?;
+        played.push(ended)?;
+    }
+    Ok(played)
 }

@@ -2,6 +2,7 @@
 //! the hosts of the centres and the links between them.
 #![tactic(auto)]
 
+mod begun;
 mod blocks;
 mod crews;
 mod idle;

@@ -6,14 +6,14 @@ ghost use Rattle.phase_actors.specs.Actors.{IsCallerOf, HasOperated, IsPlayerOf,
 ghost use Rattle.phase_play.specs.Casts.{IsCrewOf, HasCrewPlayed, IsCast, HaveAllPlayed};
 
 use crate::blocks::{cut, join_blocks};
-use crate::crews::{Crew, play_crew};
+use crate::crews::{Crew, begin_crews, end_crews};
 use crate::idle::{idle_crews, is_idle, play_idle};
 use ids_core::NoMemory;
 use io_edge::Gate;
 use phase_actors::{Caller, Pace, Player, Scene, operate_through, play_clients};
 use std::alloc::Global;
 use std::sync::Wait;
-use std::thread::{Threads, join, map_vec};
+use std::thread::{Threads, join, map_vec, scope, scope_env};
 
 /// The actors of a phase: the operator, the clients in order, and the workers of each centre.
 #[derive(Drop)]
@@ -56,31 +56,8 @@ fn play_players<R: Threads + Wait + Sync, G: Gate>(
     join_blocks(alloc, all_of(alloc, results)?)
 }
 
-// The workers of all centres, in threads where they have rounds to make.
-fn play_crews<R: Threads + Wait + Sync, G: Gate>(
-    rt: &R,
-    alloc: Global,
-    scene: Scene<'_>,
-    gate: &G,
-    pace: &Pace,
-    crews: Vec<Crew>,
-) -> Result<Vec<Crew>, NoMemory>
-    requires scene { IsScene scene }
-    requires crews { All (IsCrewOf scene) crews.items }
-    ensures { IfOk result (λ played. AllZip (HasCrewPlayed scene.entry) crews.items played.items) }
-{
-    if scene.script.rounds == 0 {
-        return idle_crews(rt, alloc, scene, gate, pace, crews);
-    }
-    let each = |crew: Crew| -> Result<Crew, NoMemory>
-        requires { IsScene scene × IsCrewOf scene crew }
-        ensures { IfOk result (HasCrewPlayed scene.entry crew) }
-    { play_crew(rt, scene, gate, pace, crew) };
-    let results = map_vec(rt, crews, &each)?;
-    all_of(alloc, results)
-}
-
-// The operator and the workers of all centres.
+// The operator and the workers of all centres: where there are rounds, these begin in threads of their own, and then the
+// operator takes its steps in this one.
 fn play_others<R: Threads + Wait + Sync, G: Gate>(
     rt: &R,
     alloc: Global,
@@ -96,6 +73,10 @@ fn play_others<R: Threads + Wait + Sync, G: Gate>(
     ensures operator { IfOk result.0 (HasOperated scene.entry operator) }
     ensures crews { IfOk result.1 (λ played. AllZip (HasCrewPlayed scene.entry) crews.items played.items) }
 {
+    if scene.script.rounds == 0 {
+        let operator = operate_through(rt, scene, gate, operator);
+        return (operator, idle_crews(rt, alloc, scene, gate, pace, crews));
+    }
     let Scene {
         script,
         section,
@@ -104,40 +85,36 @@ fn play_others<R: Threads + Wait + Sync, G: Gate>(
         hosts,
         links,
     } = scene;
-    let orders = move || -> Result<Caller, NoMemory>
-        requires { IsScene (record { script = script; section = section; number = number; dealt = dealt; hosts = hosts; links = links }) × IsCallerOf (record { script = script; section = section; number = number; dealt = dealt; hosts = hosts; links = links }) operator }
-        ensures { IfOk result (HasOperated (record { script = script.entry; section = section.entry; number = number; dealt = dealt.entry; hosts = hosts.entry; links = links.entry }) operator) }
-    {
-        let scene = Scene {
-            script,
-            section,
-            number,
-            dealt,
-            hosts,
-            links,
-        };
-        operate_through(rt, scene, gate, operator)
-    };
-    let workers = move || -> Result<Vec<Crew>, NoMemory>
-        requires { IsScene (record { script = script; section = section; number = number; dealt = dealt; hosts = hosts; links = links }) × All (IsCrewOf (record { script = script; section = section; number = number; dealt = dealt; hosts = hosts; links = links })) crews.items }
-        ensures { IfOk result (λ played. AllZip (HasCrewPlayed (record { script = script.entry; section = section.entry; number = number; dealt = dealt.entry; hosts = hosts.entry; links = links.entry })) crews.items played.items) }
-    {
-        let scene = Scene {
-            script,
-            section,
-            number,
-            dealt,
-            hosts,
-            links,
-        };
-        play_crews(rt, alloc, scene, gate, pace, crews)
-    };
-    join(rt, orders, workers)
+    scope(
+        scope_env(),
+        rt,
+        move |within| -> (Result<Caller, NoMemory>, Result<Vec<Crew>, NoMemory>)
+            requires { IsScene (record { script = script; section = section; number = number; dealt = dealt; hosts = hosts; links = links }) × IsCallerOf (record { script = script; section = section; number = number; dealt = dealt; hosts = hosts; links = links }) operator × All (IsCrewOf (record { script = script; section = section; number = number; dealt = dealt; hosts = hosts; links = links })) crews.items }
+            ensures { IfOk result.0 (HasOperated (record { script = script.entry; section = section.entry; number = number; dealt = dealt.entry; hosts = hosts.entry; links = links.entry }) operator) × IfOk result.1 (λ played. AllZip (HasCrewPlayed (record { script = script.entry; section = section.entry; number = number; dealt = dealt.entry; hosts = hosts.entry; links = links.entry })) crews.items played.items) }
+        {
+            let scene = Scene {
+                script,
+                section,
+                number,
+                dealt,
+                hosts,
+                links,
+            };
+            let begun = pace.ended(begin_crews(rt, alloc, within, scene, gate, pace, crews));
+            let operator = operate_through(rt, scene, gate, operator);
+            let crews = match begun {
+                Ok(begun) => end_crews(rt, alloc, begun),
+                Err(NoMemory) => Err(NoMemory),
+            };
+            (operator, crews)
+        },
+    )
 }
 
 /// What all actors of a phase do in its rounds and turns, at once: some threads for the clients, one for the operator, and
 /// four for each centre, as many of them as can be made. A phase in which nobody has anything to do is played in the
-/// thread of the caller, and workers without rounds take no threads. After an `Err`, want of memory, their passes and ends are gone.
+/// thread of the caller, and workers without rounds take no threads. After an `Err`, want of memory, their passes and
+/// ends are gone.
 pub fn play_in_threads<R: Threads + Wait + Sync, G: Gate>(
     rt: &R,
     alloc: Global,
