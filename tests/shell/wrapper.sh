@@ -6,7 +6,8 @@ repo=$room/repo
 
 # make_repository: the copy, two crates, and the command rt, which notes its calls in the file 'calls'.
 # Under try it does as the true one does: it makes a program in a folder of its own below TMPDIR, and
-# removes it when it is ended. Where there is a file 'refuses', it refuses the crate that this names.
+# removes it when it is ended. Where there is a file 'refuses', it refuses the crate that this names, and where there is a
+# file 'slow', it takes two seconds.
 make_repository() {
     mkdir -p "$repo/bin" "$repo/tools" "$repo/crates/low/src" "$repo/crates/swift_sim/src" \
         "$repo/crates/swift_sim/specs"
@@ -48,6 +49,7 @@ case $1 in
 try)
     trap 'kill "$!"; rm -rf "$TMPDIR/rt-try"; exit 143' TERM
     mkdir "$TMPDIR/rt-try"
+    [ ! -e "$top/slow" ] || sleep 2
     make unproved "$TMPDIR/rt-try/program"
     sleep 30 &
     wait
@@ -147,6 +149,12 @@ check_wrapper_unproved() {
     wrapped serial x
     also 'a run after an edit' 7 is_played unproved 1
     also 'it compiles anew' 7 is_called 'swift_sim try -- serial' 'swift_sim try -- serial'
+    : >"$repo/slow"
+    printf 'a\nb' | PATH=$repo/bin:$PATH timeout 60 "$root/tests/shell/on_terminal" "$room/terminal" \
+        "$repo/swift_sim" serial x >"$room/out"
+    status=$?
+    rm "$repo/slow"
+    also 'it tells the seconds' 7 grep -qF 'swift_sim: compiling, 1 s' "$room/terminal"
     echo swift_sim >"$repo/refuses"
     wrapped serial x
     also 'a program that is refused' 1 has_no_output 'swift_sim is refused so' 'was not compiled'

@@ -25,23 +25,22 @@ pub fn version_line(alloc: Global) -> Result<Vec<u8>, NoMemory>
 // What `--help` tells.
 const HELP: &[u8] = b"\
 swift_sim plays a script of a geo-replicated object store and prints what its clients see. Clients
-commit at once, go on while a data centre is down, move to another one, and never see an effect
-before its cause.
+commit at once, keep working while a data centre is down, move to another one, and never see an
+effect before its cause.
 
-forms:
-  swift_sim serial < SCRIPT          plays the script on one thread and writes the answers of its steps
-  swift_sim serial --trail < SCRIPT  and then what each centre was asked and said, in order, and the
-                                     transactions on which each value read stands
-  swift_sim run < SCRIPT             plays the script with threads in its phases and writes the answers
-  swift_sim run --trail < SCRIPT     and then the trails and transactions, as serial --trail does
-  swift_sim make NUM                 writes a script made from the number, 1 to 999999999
-  swift_sim load NUM                 plays the script made from the number with threads and writes its
-                                     last reads
-  swift_sim FORM --quiet             does the same, and tells no progress on a terminal
-  swift_sim --help                   writes this text
-  swift_sim --version                writes the version
+usage:
+  swift_sim serial < SCRIPT          plays the script on one thread and prints what its clients see
+  swift_sim serial --trail < SCRIPT  and then prints each centre's requests and answers in order, and
+                                     the transactions behind each value that was read
+  swift_sim run < SCRIPT             plays the script with threads in its phases
+  swift_sim run --trail < SCRIPT     and then prints the trails, as serial --trail does
+  swift_sim make NUM                 prints a script generated from the seed NUM, 1 to 999999999
+  swift_sim load NUM                 plays that script with threads and prints its last reads
+  swift_sim .. --quiet               shows no progress on the terminal
+  swift_sim --help                   prints this text
+  swift_sim --version                prints the version
 
-example: the script
+example: this script
   centres 1 k 1
   clients 1
   c1 connect 1
@@ -49,21 +48,21 @@ example: the script
   c1 add s.cart bread
   c1 read s.cart
   c1 commit
-writes
+prints
   c1 at 1
   c1 read s.cart {bread}
   c1 commit 1
 
-statuses:
-  0  all was written
-  2  the words are of no form
-  3  the input is no script: the first line at fault is named, with the cause
+exit status:
+  0  success
+  2  invalid command line
+  3  invalid script: the output has the first bad line's number and the reason
   4  reading failed
   5  writing failed
-  6  memory ran out
-At each but 0 a line on standard error says more.
+  6  out of memory
+Unless it is 0, standard error says more.
 
-docs/script.md tells how scripts are written; examples/ has some.
+docs/script.md explains scripts; examples/ has some.
 ";
 
 /// The text for `--help`: the forms of the words, an example, and the statuses.

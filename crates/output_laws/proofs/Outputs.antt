@@ -3,7 +3,6 @@ use Rattle.std.proofs.Common.{◌≡◌, ◌≢◌, inl, inr, ℕ, Bool, true, f
 use Rattle.io_edge.specs.Streams.{puts_behind}
 use Rattle.std.specs.Prelude.{Ok}
 use Rattle.script_core.specs.declared.script.Script.{Script}
-use Rattle.script_reader.specs.declared.fault.Cause.{Cause}
 use Rattle.script_reader.specs.Scripts.{script_read}
 use Rattle.script_reader.proofs.ScriptRanges.{script_in_range}
 use Rattle.run_book.specs.declared.book.Book.{Book}
@@ -15,9 +14,10 @@ use Rattle.load_maker.specs.Made.{made_script}
 use Rattle.print_text.specs.Text.{text_of}
 use Rattle.trail_text.specs.Trails.{trail_text}
 use Rattle.run_book.specs.Setups.{Setup, setup_of}
-use Rattle.top_call.specs.Runs.{IsBookOf, IsDone, IsOwed, IsPlay, IsPlayed, IsRead, IsRefusal, IsRefusedAt, IsUsage, Played, Made, Told, Done, Refused, Misused, Plays, Wrote, form_text, run_text, told_text}
+use Rattle.top_call.specs.Runs.{IsBookOf, IsDone, IsOwed, IsPlay, IsPlayed, IsRead, IsRefusal, IsRefusedFor, IsUsage, Played, Made, Told, Done, Refused, Misused, Plays, Wrote, form_text, run_text, told_text}
 use Rattle.top_call.proofs.Owing.{asked_said, asks, no_question, one_play, play_known, play_of, played_of, plays_by, question_known, read_known, read_of, read_plays}
 use Rattle.std.proofs.lemmas.Option.{none-some}
+use Rattle.top_call.specs.declared.engine.Fault.{Fault}
 use Rattle.top_call.specs.declared.engine.Owed.{Owed}
 use Rattle.top_call.specs.declared.ending.Ended.{Ended}
 use Rattle.run_laws.specs.OneBook.{AreOne}
@@ -79,7 +79,7 @@ module _ (bytes : List ℕ) where
 
     -- bytes that are refused, are so by the same line
     refused_alike : IsRefusal (given_bytes words bytes taken) one → IsRefusal (given_bytes others bytes again) two → AreAlike one two
-    refused_alike p q = record { status = p.status ∙ sym q.status; text = p.text ∙ (one_refusal bytes p.line q.line p.cause q.cause p.refused q.refused ∙ sym q.text); book = one_self one.book two.book (p.book ∙ sym q.book) }
+    refused_alike p q = record { status = p.status ∙ sym q.status; text = p.text ∙ (one_refusal bytes p.fault q.fault p.refused q.refused ∙ sym q.text); book = one_self one.book two.book (p.book ∙ sym q.book) }
 
 -- two runs that the same words and bytes ask for
 one_run : (words : List (List ℕ)) (bytes : List ℕ) (taken again : Option (List ℕ)) (one two : Owed) → AreFixed words bytes → IsPlayed (given_bytes words bytes taken) one → IsPlayed (given_bytes words bytes again) two → AreAlike one two
@@ -120,7 +120,7 @@ no_refusal : (words : List (List ℕ)) (bytes : List ℕ) (taken again : Option 
 no_refusal words bytes taken again one two done r =
     let plays : Plays words = plays_by words r.form.asked r.form.form (read_plays r.form.asked r.form.reads) in
     let p = played_of (given_bytes words bytes taken) one plays done in
-    not_refused bytes p.asked p.script r.line r.cause (read_of words p.asked (play_known p.asked p.plays) p.form r.form) p.input r.refused
+    not_refused bytes p.asked p.script r.fault (read_of words p.asked (play_known p.asked p.plays) p.form r.form) p.input r.refused
 
 -- what is owed for the same words and bytes
 pub one_output : (words : List (List ℕ)) (bytes : List ℕ) (taken again : Option (List ℕ)) (one two : Owed) → AreFixed words bytes → IsOwed (given_bytes words bytes taken) one → IsOwed (given_bytes words bytes again) two → AreAlike one two
@@ -175,10 +175,10 @@ module _ (form : Form) (read : IsRead form) (bytes : List ℕ) (taken : Option (
   not_misused m = m.form form (read_known form read) refl
 
   -- bytes that are refused were not played
-  not_played : (line : ℕ) (cause : Cause) → IsRefusedAt (Some bytes) line cause → IsDone (given_bytes (spelled form) bytes taken) one → ⊥
-  not_played line cause refused done =
+  not_played : (fault : Fault) → IsRefusedFor (Some bytes) fault → IsDone (given_bytes (spelled form) bytes taken) one → ⊥
+  not_played fault refused done =
       let d = done_run done in
-      not_refused bytes d.0.asked d.0.script line cause (subst IsRead (sym d.1) read) d.0.input refused
+      not_refused bytes d.0.asked d.0.script fault (subst IsRead (sym d.1) read) d.0.input refused
 
 -- where no phase is played, the same is owed
 pub run_as_serial : (trail : Bool) (bytes : List ℕ) (taken again : Option (List ℕ)) (one two : Owed) → HaveNoPhase bytes → IsOwed (given_bytes (spelled (Run trail)) bytes taken) one → IsOwed (given_bytes (spelled (Serial trail)) bytes again) two → AreAlike one two
@@ -187,8 +187,8 @@ run_as_serial trail bytes taken again one two lines (Done d) (Done e) =
     let q = done_run (Serial trail) tt bytes again two e in
     played_alike bytes (spelled (Run trail)) (spelled (Serial trail)) taken again one two p.0 q.0 (subst (IsFixed bytes) (sym p.1) lines) (subst (IsFixed bytes) (sym q.1) tt)
     (λ script book. ap (λ form. form_text form script book) p.1 ∙ sym (ap (λ form. form_text form script book) q.1))
-run_as_serial trail bytes taken again one two lines (Done d) (Refused q) = absurd (not_played (Run trail) tt bytes taken one q.line q.cause q.refused d)
-run_as_serial trail bytes taken again one two lines (Refused p) (Done e) = absurd (not_played (Serial trail) tt bytes again two p.line p.cause p.refused e)
+run_as_serial trail bytes taken again one two lines (Done d) (Refused q) = absurd (not_played (Run trail) tt bytes taken one q.fault q.refused d)
+run_as_serial trail bytes taken again one two lines (Refused p) (Done e) = absurd (not_played (Serial trail) tt bytes again two p.fault p.refused e)
 run_as_serial trail bytes taken again one two lines (Refused p) (Refused q) = refused_alike bytes (spelled (Run trail)) (spelled (Serial trail)) taken again one two p q
 run_as_serial trail bytes taken again one two lines (Misused p) two_owed = absurd (not_misused (Run trail) tt bytes taken one p)
 run_as_serial trail bytes taken again one two lines (Done d) (Misused q) = absurd (not_misused (Serial trail) tt bytes again two q)

@@ -83,18 +83,28 @@ fn a_script_is_played_on_one_thread(rt: HostRuntime) -> Result<(), Fail> {
     Ok(())
 }
 
+// The bytes that are handed out with a fault.
+fn read_of(ended: &Ended) -> &[u8] {
+    match &ended.fault {
+        Some(fault) => fault.input.as_slice(),
+        None => b"",
+    }
+}
+
 #[test]
 fn an_input_that_is_no_script_is_refused(rt: HostRuntime) -> Result<(), Fail> {
     let mut sink = MemorySink::new(rt.alloc(), 64, Vec::new(rt.alloc()));
     let ended = played(&rt, rt.alloc(), b"centres 1 k 1\n", &mut sink)?;
     assert_eq!(rt; ended.status, 3);
     assert_eq!(rt; sink.bytes(), b"refused line 2 place\n".as_slice());
+    assert_eq!(rt; read_of(&ended), b"centres 1 k 1\n".as_slice());
     assert!(rt;
         matches!(
             ended.fault,
             Some(Fault {
                 line: 2,
-                cause: Cause::Place
+                cause: Cause::Place,
+                ..
             })
         )
     );

@@ -56,7 +56,7 @@ impl Cause {
 #[derive(Clone, Copy, Debug, Error)]
 pub enum ScriptFault {
     /// The first line at fault, counted from 1 to 200,001, and why it is.
-    #[error("the input is no script")]
+    #[error("line {line}: {cause:?}")]
     Refused { line: u32, cause: Cause },
     /// There is no memory for its steps.
     #[error("memory ran out")]

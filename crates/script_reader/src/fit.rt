@@ -26,8 +26,8 @@ fn is_client_word(text: &[u8]) -> bool
     !text.is_empty() && text[0] == b'c' && text.len() > 1 && are_digits(&text[1..])
 }
 
-// Whether a word may stand in the place of a part, whatever it says there.
-fn may_be(part: Part, text: &[u8]) -> bool
+/// Whether a word may stand in the place of a part, whatever it says there.
+pub fn may_be(part: Part, text: &[u8]) -> bool
     ensures { result ≡ may_be part text.now }
 {
     match part {

@@ -16,5 +16,13 @@ mod scripts;
 mod words;
 
 pub use fault::{Cause, ScriptFault};
+pub use fit::{form_of, may_be};
+pub use form::{FORMS, Form, Part, Word, parts, spelled};
 pub use laws::law_script_in_range;
+pub use lines::first_line;
+pub use names::object_named;
+pub use numbers::{are_digits, u8_in};
+pub use reading::{Group, LineFault, Reading};
+pub use said::{Said, said_word};
 pub use scripts::parse;
+pub use words::{is_blank, is_plain, without_return};

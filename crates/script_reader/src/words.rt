@@ -2,8 +2,8 @@
 ghost use Rattle.std.specs.Prelude.{◌≡◌, [], ◌∷◌, ◌++◌, ℕ, All, true, false, IfSome, IfNone};
 ghost use Rattle.script_reader.specs.Words.{is_blank, is_comment, is_plain, is_plain_text, without_return, words_of};
 
-// A space or a tab.
-fn is_blank(byte: u8) -> bool
+/// A space or a tab.
+pub fn is_blank(byte: u8) -> bool
     ensures { result ≡ is_blank byte }
 {
     byte == b' ' || byte == b'\t'
@@ -50,8 +50,8 @@ pub fn without_return(line: &[u8]) -> &[u8]
     }
 }
 
-// A byte of a line that is not skipped.
-fn is_plain(byte: u8) -> bool
+/// A byte of a line that is not skipped.
+pub fn is_plain(byte: u8) -> bool
     ensures { result ≡ is_plain byte }
 {
     byte == b'\t' || (b' ' <= byte && byte <= b'~')

@@ -1,38 +1,42 @@
 // What the program says to its user where a run did not end well. It goes to standard error, of which no contract
 // speaks.
-use script_reader::Cause;
+use script_advice::advice;
 use std::io;
 use top_call::{Ended, Fault};
 
-// Why a line is refused: the cause by its word, and in a sentence.
-fn reason(cause: Cause) -> &'static str {
-    match cause {
-        Cause::Many => "many: there are more than 200,000 lines",
-        Cause::Long => "long: the line has more than 256 bytes",
-        Cause::Byte => "byte: the line has a byte that is neither a tab nor printable ASCII",
-        Cause::Word => "word: no line has such a word in this place",
-        Cause::Count => "count: the line has too few or too many words",
-        Cause::Number => "number: a word that has to be a number is none",
-        Cause::Range => "range: a number is outside its range",
-        Cause::Name => "name: a word that has to be a name or an object is none",
-        Cause::Kind => "kind: the step does not go with objects of this kind",
-        Cause::Place => "place: the line may not stand here, or repeats one of the header",
+// That the words of the command line have no form.
+fn complain_of_words(rt: HostRuntime, words: &[String]) -> io::Result<()> {
+    eprint!(rt; "swift_sim: invalid command line:")?;
+    for word in words {
+        eprint!(rt; " {word:?}")?;
+    }
+    if words.is_empty() {
+        eprint!(rt; " no command, or a word that is no UTF-8")?;
+    }
+    eprintln!(rt; "; see swift_sim --help")
+}
+
+// Why an input is no script, and the line at fault; or, where there is no memory for that, its number and the cause.
+fn complain_of_input(rt: HostRuntime, fault: &Fault) -> io::Result<()> {
+    match advice(rt.alloc(), &fault.input, fault.line, fault.cause) {
+        Ok(text) => {
+            for line in text.as_str().lines() {
+                eprintln!(rt; "swift_sim: {line}")?;
+            }
+            Ok(())
+        }
+        Err(_) => eprintln!(rt; "swift_sim: {fault}"),
     }
 }
 
-// The line for an input that is no script.
-fn complain_of(rt: HostRuntime, fault: Fault) -> io::Result<()> {
-    let reason = reason(fault.cause);
-    eprintln!(rt; "swift_sim: line {}: {reason}", fault.line)
-}
-
-/// Says in one line on standard error what went wrong, and where; of a run that ended well it says nothing.
-pub fn complain(rt: HostRuntime, ended: &Ended) -> io::Result<()> {
+/// Says on standard error what went wrong, and where; of a run that ended well it says nothing. The words are those of
+/// the command line, without the program's name; those of which one is no UTF-8 are none.
+pub fn complain(rt: HostRuntime, words: &[String], ended: &Ended) -> io::Result<()> {
     match ended.status {
         0 => Ok(()),
-        2 => eprintln!(rt; "swift_sim: no form has these words; swift_sim --help has the forms"),
-        3 => match ended.fault {
-            Some(fault) => complain_of(rt, fault),
+        2 => complain_of_words(rt, words),
+        3 => match &ended.fault {
+            Some(fault) => complain_of_input(rt, fault),
             None => Ok(()),
         },
         4 => eprintln!(rt; "swift_sim: standard input was not read: a read failed"),

@@ -56,7 +56,7 @@ fn main(rt: HostRuntime) -> ExitCode {
     let ended = swift_main(&rt, rt.alloc(), &words, &mut source, &mut sink, &teller);
     teller.clear();
     // Where standard error takes nothing, the status says what there is to say.
-    match complain(rt, &ended) {
+    match complain(rt, &words, &ended) {
         Ok(()) => {}
         Err(_) => {}
     }

@@ -15,11 +15,12 @@ use Rattle.run_book.specs.Setups.{setup_of}
 use Rattle.run_book.proofs.Causal.Theorem.{causal as book_causal}
 use Rattle.run_book.specs.declared.book.Book.{Book}
 use Rattle.run_sections.specs.Runs.{IsSectionRunOf}
+use Rattle.top_call.specs.declared.engine.Fault.{Fault}
 use Rattle.top_call.specs.declared.engine.Owed.{Owed}
 use Rattle.top_call.specs.declared.input.Task.{Task}
 use Rattle.top_call.specs.declared.input.Task.TheVariants.{Play, Refuse}
 use Rattle.top_call.specs.declared.ending.Ended.{Ended}
-use Rattle.top_call.specs.Runs.{Given, AsksThreads, IsAnswerable, IsAsked, IsBookOf, IsDone, IsFitAndCausal, IsRefusedAt, IsOwed, IsPlay, IsRead, IsScriptIn, IsServed, IsTask, IsTaskIn, IsThreaded, IsToPlay, Played, Made, Told, Done, Refused, Misused, IsPlayed, IsSomeScript, IsStatus, EndsSo, Plays, Reads, Wrote, empty_book, form_text, given_form, told_text}
+use Rattle.top_call.specs.Runs.{Given, AsksThreads, IsAnswerable, IsAsked, IsBookOf, IsDone, IsFitAndCausal, IsRefusedFor, IsOwed, IsPlay, IsRead, IsScriptIn, IsServed, IsTask, IsTaskIn, IsTaskOf, IsThreaded, IsToPlay, Played, Made, Told, Done, Refused, Misused, IsPlayed, IsSomeScript, IsStatus, EndsSo, Plays, Reads, Wrote, empty_book, form_text, given_form, told_text}
 use Rattle.command_line.specs.declared.form.Form.{Form}
 use Rattle.command_line.specs.declared.form.Form.TheVariants.{Run, Serial, Make, Load, Help, Version}
 use Rattle.command_line.specs.Forms.{IsForm, spelled}
@@ -169,20 +170,26 @@ all_read : (bytes : List ℕ) (new : Option (List ℕ)) → IfSome new (λ rest.
 all_read bytes None whole = tt
 all_read bytes (Some rest) none = ap (λ l. bytes ++ l) none ∙ append-nil bytes
 
--- all that a source had left, where it tells what is left behind the bytes that were read
-abbrev all_left : List ℕ → Option (List ℕ) → List ℕ
-all_left bytes None = bytes
-all_left bytes (Some rest) = bytes ++ rest
+-- what is left behind the bytes that were read, where a source tells it
+abbrev rest_of : Option (List ℕ) → List ℕ
+rest_of None = []
+rest_of (Some rest) = rest
 
-tells_all : (bytes : List ℕ) (new : Option (List ℕ)) → IfSome (puts_back bytes new) (λ all. all ≡ all_left bytes new)
+tells_all : (bytes : List ℕ) (new : Option (List ℕ)) → IfSome (puts_back bytes new) (λ all. all ≡ bytes ++ rest_of new)
 tells_all bytes None = tt
 tells_all bytes (Some rest) = refl
 
 -- all that a source had left is refused as the bytes that were read are
-refused_left : (bytes : List ℕ) (past : Bool) (new : Option (List ℕ)) (line : ℕ) (cause : Cause) → script_read bytes ≡ Err (RefusedAt line cause) → (IsTrue past ↔ PassesLimits bytes) → (past ≡ false → IfSome new (λ rest. rest ≡ [])) → script_read (all_left bytes new) ≡ Err (RefusedAt line cause)
-refused_left bytes past None line cause fault limits whole = fault
+refused_left : (bytes : List ℕ) (past : Bool) (new : Option (List ℕ)) (line : ℕ) (cause : Cause) → script_read bytes ≡ Err (RefusedAt line cause) → (IsTrue past ↔ PassesLimits bytes) → (past ≡ false → IfSome new (λ rest. rest ≡ [])) → script_read (bytes ++ rest_of new) ≡ Err (RefusedAt line cause)
+refused_left bytes past None line cause fault limits whole = ap script_read (append-nil bytes) ∙ fault
 refused_left bytes true (Some rest) line cause fault limits whole = cut_off bytes rest (limits.0 refl) ∙ fault
 refused_left bytes false (Some rest) line cause fault limits whole = ap script_read (ap (λ l. bytes ++ l) (whole refl) ∙ append-nil bytes) ∙ fault
+
+-- they are all of that, or pass the limits
+whole_or_past : (bytes : List ℕ) (past : Bool) (new : Option (List ℕ)) → (IsTrue past ↔ PassesLimits bytes) → (past ≡ false → IfSome new (λ rest. rest ≡ [])) → (rest_of new ≡ []) ⊎ PassesLimits bytes
+whole_or_past bytes past None limits whole = inl refl
+whole_or_past bytes true (Some rest) limits whole = inr (limits.0 refl)
+whole_or_past bytes false (Some rest) limits whole = inl (whole refl)
 
 -- bytes of a script are within the limits
 within_limits : (bytes : List ℕ) (script : Script) → script_read bytes ≡ Ok script → PassesLimits bytes → ⊥
@@ -213,20 +220,22 @@ task_asked Help left task read is = absurd read
 task_asked Version left task read is = absurd read
 
 -- what the bytes that were read ask for, all that the source had left does
-pub task_left : (old new : Option (List ℕ)) (bytes : List ℕ) (past : Bool) (task : Task) → old ≡ puts_back bytes new → (IsTrue past ↔ PassesLimits bytes) → (past ≡ false → IfSome new (λ rest. rest ≡ [])) → IsTaskIn (Some bytes) task → IsTaskIn old task
-task_left old new bytes past (Play script) parts limits whole (range, found) =
-    let spells : script_read bytes ≡ Ok script = script_said bytes script found in
+pub task_left : (old new : Option (List ℕ)) (bytes : List ℕ) (past : Bool) (task : Task) → old ≡ puts_back bytes new → (IsTrue past ↔ PassesLimits bytes) → (past ≡ false → IfSome new (λ rest. rest ≡ [])) → IsTaskOf bytes task → IsTaskIn old task
+task_left old new bytes past (Play script) parts limits whole (range, spells) =
     let all : IfSome old (λ all. all ≡ bytes) = subst (λ left. IfSome left (λ all. all ≡ bytes)) (sym parts) (all_read bytes new (whole_of bytes past new (within_limits bytes script spells) limits whole)) in
     (range, record { bytes = bytes; input = all; spelled = spells })
-task_left old new bytes past (Refuse fault) parts limits whole refused = record {
-  bytes = all_left bytes new;
-  input = subst (λ left. IfSome left (λ all. all ≡ all_left bytes new)) (sym parts) (tells_all bytes new);
-  fault = refused_left bytes past new fault.line fault.cause (ap script_read refused.input ∙ refused.fault) limits whole;
-}
+task_left old new bytes past (Refuse fault) parts limits whole (same, refused) =
+    let all : IfSome old (λ all. all ≡ bytes ++ rest_of new) = subst (λ left. IfSome left (λ all. all ≡ bytes ++ rest_of new)) (sym parts) (tells_all bytes new) in
+    record {
+      rest = rest_of new;
+      input = subst (λ read. IfSome old (λ all. all ≡ read ++ rest_of new)) (sym same) all;
+      whole = subst (λ read. (rest_of new ≡ []) ⊎ PassesLimits read) (sym same) (whole_or_past bytes past new limits whole);
+      refused = ap (λ read. script_read (read ++ rest_of new)) same ∙ refused_left bytes past new fault.line fault.cause refused limits whole;
+    }
 
 -- where they are to be played, nothing is left
-pub task_end : (new : Option (List ℕ)) (bytes : List ℕ) (past : Bool) (task : Task) → (IsTrue past ↔ PassesLimits bytes) → (past ≡ false → IfSome new (λ rest. rest ≡ [])) → IsTaskIn (Some bytes) task → IsToPlay task → IfSome new (λ rest. rest ≡ [])
-task_end new bytes past (Play script) limits whole (range, found) play = whole_of bytes past new (within_limits bytes script (script_said bytes script found)) limits whole
+pub task_end : (new : Option (List ℕ)) (bytes : List ℕ) (past : Bool) (task : Task) → (IsTrue past ↔ PassesLimits bytes) → (past ≡ false → IfSome new (λ rest. rest ≡ [])) → IsTaskOf bytes task → IsToPlay task → IfSome new (λ rest. rest ≡ [])
+task_end new bytes past (Play script) limits whole (range, spells) play = whole_of bytes past new (within_limits bytes script spells) limits whole
 task_end new bytes past (Refuse fault) limits whole refused play = absurd play
 
 -- ---- what is owed
@@ -236,7 +245,7 @@ pub owed_given : (form : Form) (given : Given) (left : Option (List ℕ)) (owed 
 owed_given form given left owed spells same (Done (Played p)) = Done (Played (record { asked = p.asked; plays = p.plays; form = spells ∙ p.form; status = p.status; script = p.script; kept = p.kept; input = subst (λ l. IsAsked p.asked l p.script) (sym same) p.input; run = p.run; causal = p.causal; text = p.text; sound = p.sound }))
 owed_given form given left owed spells same (Done (Made m)) = Done (Made (record { num = m.num; known = m.known; form = spells ∙ m.form; status = m.status; text = m.text; script = m.script; book = m.book; sound = m.sound }))
 owed_given form given left owed spells same (Done (Told t)) = Done (Told (record { question = t.question; form = spells ∙ t.form; status = t.status; text = t.text; script = t.script; book = t.book; sound = t.sound }))
-owed_given form given left owed spells same (Refused r) = Refused (record { form = record { asked = r.form.asked; reads = r.form.reads; form = spells ∙ r.form.form }; status = r.status; line = r.line; cause = r.cause; refused = subst (λ l. IsRefusedAt l r.line r.cause) (sym same) r.refused; text = r.text; script = r.script; book = r.book; told = r.told })
+owed_given form given left owed spells same (Refused r) = Refused (record { form = record { asked = r.form.asked; reads = r.form.reads; form = spells ∙ r.form.form }; status = r.status; fault = r.fault; refused = subst (λ l. IsRefusedFor l r.fault) (sym same) r.refused; text = r.text; script = r.script; book = r.book; told = r.told })
 owed_given form given left owed spells same (Misused u) = Misused (record { form = λ other known is. u.form other known (sym spells ∙ is); status = u.status; text = u.text; script = u.script; book = u.book; sound = u.sound })
 
 -- ---- the ends
@@ -319,13 +328,13 @@ owed_status given owed (Refused r) = (λ four. omega (arith, four, r.status), λ
 owed_status given owed (Misused u) = (λ four. omega (arith, four, u.status), λ five. omega (arith, five, u.status))
 
 -- what a source tells is not both a script and refused
-not_both : (left : Option (List ℕ)) (line : ℕ) (cause : Cause) → IsSomeAnd left IsSomeScript → IsRefusedAt left line cause → ⊥
-not_both None line cause some refused = some
-not_both (Some bytes) line cause (script, spelled) refused = absurd (let both : Ok script ≡ Err (RefusedAt line cause) = sym spelled ∙ (ap script_read refused.input ∙ refused.fault) in cc)
+not_both : (left : Option (List ℕ)) (fault : Fault) → IsSomeAnd left IsSomeScript → IsRefusedFor left fault → ⊥
+not_both None fault some refused = some
+not_both (Some bytes) fault (script, spelled) refused = absurd (let both : Ok script ≡ Err (RefusedAt fault.line fault.cause) = sym spelled ∙ (ap script_read refused.input ∙ refused.refused) in cc)
 
 -- what a form wants of the source is there, so nothing is refused
-never_refused : (given : Given) (line : ℕ) (cause : Cause) (asked : Form) → IsForm asked → given.words ≡ spelled asked → IsServed asked given.left → Reads given.words → IsRefusedAt given.left line cause → ⊥
-never_refused given line cause asked known form served reads refused = not_both given.left line cause (served (read_of given.words asked known form reads)) refused
+never_refused : (given : Given) (fault : Fault) (asked : Form) → IsForm asked → given.words ≡ spelled asked → IsServed asked given.left → Reads given.words → IsRefusedFor given.left fault → ⊥
+never_refused given fault asked known form served reads refused = not_both given.left fault (served (read_of given.words asked known form reads)) refused
 
 -- what can be answered is, where no read and no write failed and memory sufficed
 pub ends_complete : (given : Given) (ended : Ended) (taken : Option (List ℕ)) → IsAnswerable given → ended.status ≢ 4 → ended.status ≢ 5 → EndsSo given ended taken → (ended.status ≡ 0) ⊎ (ended.status ≡ 6)
@@ -334,7 +343,7 @@ ends_complete given ended taken asks no_read no_write ends = by_status ends.stat
     by_status : IsStatus ended.status → (ended.status ≡ 0) ⊎ (ended.status ≡ 6)
     by_status (inl zero) = inl zero
     by_status (inr (inl two)) = absurd ((ends.misused two).kind.form asks.asked asks.known asks.form)
-    by_status (inr (inr (inl three))) = (let kind = (ends.refused three).kind in absurd (never_refused given kind.line kind.cause asks.asked asks.known asks.form asks.served kind.form kind.refused))
+    by_status (inr (inr (inl three))) = (let kind = (ends.refused three).kind in absurd (never_refused given kind.fault asks.asked asks.known asks.form asks.served kind.form kind.refused))
     by_status (inr (inr (inr (inl four)))) = absurd (no_read four)
     by_status (inr (inr (inr (inr (inl five))))) = absurd (no_write five)
     by_status (inr (inr (inr (inr (inr six))))) = inr six

@@ -10,6 +10,7 @@ use Rattle.io_edge.specs.Streams.{TookFront, puts_behind}
 use Rattle.script_reader.specs.declared.fault.Cause.{Cause}
 use Rattle.script_reader.specs.declared.fault.ScriptFault.TheVariants.{Refused as RefusedAt}
 use Rattle.script_core.specs.declared.script.Script.{Script}
+use Rattle.script_core.specs.Limits.{PassesLimits}
 use Rattle.script_core.specs.Scripts.{IsInRange}
 use Rattle.script_reader.specs.Causes.{cause_text}
 use Rattle.script_reader.specs.Scripts.{script_read}
@@ -23,6 +24,7 @@ use Rattle.load_text.specs.LastReads.{load_text}
 use Rattle.load_maker.specs.Made.{made_script}
 use Rattle.run_sections.specs.Runs.{IsSectionRunOf}
 use Rattle.run_sections.specs.OneThread.{IsRunOf}
+use Rattle.top_call.specs.declared.engine.Fault.{Fault}
 use Rattle.top_call.specs.declared.engine.Owed.{Owed}
 use Rattle.top_call.specs.declared.input.Task.{Task}
 use Rattle.top_call.specs.declared.input.Task.TheVariants.{Play, Refuse}
@@ -143,12 +145,13 @@ pub record IsFitAndCausal (script : Script) (book : Book) : Type 0 where
   pub fits : FitsWith book (setup_of script)
   pub causal : IsCausal book (setup_of script)
 
--- all that a source had left, as far as it tells that, are bytes that are no script: the first line at fault has this
--- number, and this is why it is refused
-pub record IsRefusedAt (left : Option (List ℕ)) (line : ℕ) (cause : Cause) : Type 0 where
-  pub bytes : List ℕ
-  pub input : IfSome left (λ all. all ≡ bytes)
-  pub fault : script_read bytes ≡ Err (RefusedAt line cause)
+-- what a source had left, as far as it tells that, is no script: the fault has the first line at fault and why it is
+-- refused, and the bytes that were read, which are all that was left or a front that passes the limits of a script
+pub record IsRefusedFor (left : Option (List ℕ)) (fault : Fault) : Type 0 where
+  pub rest : List ℕ
+  pub input : IfSome left (λ all. all ≡ fault.input.items ++ rest)
+  pub whole : (rest ≡ []) ⊎ PassesLimits fault.input.items
+  pub refused : script_read (fault.input.items ++ rest) ≡ Err (RefusedAt fault.line fault.cause)
 
 -- ---- what is owed: a status, a text and a book
 
@@ -194,17 +197,17 @@ pub data IsDone (given : Given) (owed : Owed) : Type 0 where
   Made : IsMade given owed → IsDone given owed
   Told : IsTold given owed → IsDone given owed
 
--- what is owed for an input that is no script: status 3, and the line that names the line at fault and the cause
+-- what is owed for an input that is no script: status 3, the line that names the line at fault and the cause, and the
+-- fault, which has these and the bytes that were read
 pub record IsRefusal (given : Given) (owed : Owed) : Type 0 where
   pub form : Reads given.words
   pub status : owed.status ≡ 3
-  pub line : ℕ
-  pub cause : Cause
-  pub refused : IsRefusedAt given.left line cause
-  pub text : owed.text.items ≡ refusal_text line cause
+  pub fault : Fault
+  pub refused : IsRefusedFor given.left fault
+  pub text : owed.text.items ≡ refusal_text fault.line fault.cause
   pub script : owed.script ≡ None
   pub book : owed.book ≡ empty_book
-  pub told : owed.fault ≡ Some (record { line = line; cause = cause })
+  pub told : owed.fault ≡ Some fault
 
 -- what is owed for words of no form: status 2, and the line of usage
 pub record IsUsage (given : Given) (owed : Owed) : Type 0 where
@@ -281,16 +284,21 @@ abbrev pub IsToPlay : Task → Type 0
 IsToPlay (Play script) = ⊤
 IsToPlay (Refuse fault) = ⊥
 
--- what an input asks for that is to be a script: a script, whose numbers are in range, is played, and other bytes are
--- refused
+-- what bytes ask for that are to be a script: a script, whose numbers are in range, is played, and other bytes are refused
+-- and handed back
+abbrev pub IsTaskOf : List ℕ → Task → Type 0
+IsTaskOf bytes (Play script) = IsInRange script × (script_read bytes ≡ Ok script)
+IsTaskOf bytes (Refuse fault) = (fault.input.items ≡ bytes) × (script_read bytes ≡ Err (RefusedAt fault.line fault.cause))
+
+-- what an input asks for that is to be a script, likewise
 abbrev pub IsTaskIn : Option (List ℕ) → Task → Type 0
 IsTaskIn left (Play script) = IsInRange script × IsScriptIn left script
-IsTaskIn left (Refuse fault) = IsRefusedAt left fault.line fault.cause
+IsTaskIn left (Refuse fault) = IsRefusedFor left fault
 
 -- what a form asks for: the script that it plays, or that what it reads is refused
 abbrev pub IsTask : Form → Option (List ℕ) → Task → Type 0
 IsTask form left (Play script) = IsInRange script × IsAsked form left script
-IsTask form left (Refuse fault) = IsRead form × IsRefusedAt left fault.line fault.cause
+IsTask form left (Refuse fault) = IsRead form × IsRefusedFor left fault
 
 -- what is given by the words of a form, by a source that has this left, and by a sink that tells nothing
 abbrev pub given_form : Form → Option (List ℕ) → Given

@@ -20,7 +20,7 @@ pub struct Ended {
     pub script: Option<Script>,
     /// What the run left, or an empty book.
     pub book: Book,
-    /// Where the input is no script, its first line at fault and why it is; at each status but 3 there is none.
+    /// Where the input is no script, why it is none; at each status but 3 there is no fault.
     pub fault: Option<Fault>,
 }
 

@@ -14,13 +14,26 @@ use run_book::Book;
 use script_core::Script;
 use script_reader::Cause;
 use std::alloc::Global;
+use std::fmt;
 use trail_text::trail_text;
 
-/// Where an input is no script: its first line at fault, counted from 1, and why it is.
-#[derive(Clone, Copy)]
+/// Why an input is no script.
+#[derive(Drop)]
 pub struct Fault {
+    /// The first line at fault, counted from 1.
     pub line: u32,
+    /// Why it is.
     pub cause: Cause,
+    /// The bytes that were read: the whole input, or a front of it that passes the limits of a script.
+    pub input: Vec<u8>,
+}
+
+impl fmt::Display for Fault {
+    fn fmt<W: fmt::Write>(&self, f: &mut fmt::Formatter<W>) -> fmt::Result {
+        let line = self.line;
+        let cause = self.cause;
+        write!(f, "line {line}: {cause:?}")
+    }
 }
 
 /// What is owed: the status, the text, the script and the book with which a run ends where nothing fails, and the fault

@@ -1,10 +1,10 @@
 // From an input to the script that is to be played, or to the line at fault.
-ghost use Rattle.std.specs.Prelude.{◌≡◌, ◌≢◌, [], Some, IfOk, IfSome};
+ghost use Rattle.std.specs.Prelude.{◌≡◌, ◌≢◌, [], IfOk, IfSome};
 ghost use Rattle.io_edge.specs.Streams.{HasRisen};
 ghost use Rattle.load_maker.specs.Made.{made_script};
 ghost use Rattle.script_reader.specs.Scripts.{script_read};
 ghost use Rattle.script_core.specs.Scripts.{IsInRange};
-ghost use Rattle.top_call.specs.Runs.{IsRead, IsTask, IsTaskIn, IsThreaded, IsToPlay};
+ghost use Rattle.top_call.specs.Runs.{IsRead, IsTask, IsTaskIn, IsTaskOf, IsThreaded, IsToPlay};
 
 use crate::engine::Fault;
 use crate::stream::{ReadFault, read_input};
@@ -25,13 +25,17 @@ pub enum Task {
     Refuse(Fault),
 }
 
-// What bytes ask for.
-fn task_in(alloc: Global, bytes: &[u8]) -> Result<Task, NoMemory>
-    ensures { IfOk result (IsTaskIn (Some bytes.now)) }
+// What bytes ask for. Where they are no script, they are handed back.
+fn task_in(alloc: Global, bytes: Vec<u8>) -> Result<Task, NoMemory>
+    ensures { IfOk result (IsTaskOf bytes.items) }
 {
-    match parse(alloc, bytes) {
+    match parse(alloc, &bytes) {
         Ok(script) => Ok(Task::Play(script)),
-        Err(ScriptFault::Refused { line, cause }) => Ok(Task::Refuse(Fault { line, cause })),
+        Err(ScriptFault::Refused { line, cause }) => Ok(Task::Refuse(Fault {
+            line,
+            cause,
+            input: bytes,
+        })),
         Err(ScriptFault::NoMemory) => Err(NoMemory),
     }
 }
@@ -45,7 +49,7 @@ pub fn read_task<S: Source>(alloc: Global, source: &mut S) -> Result<Task, ReadF
     ensures quiet { result ≢ Err ReadFault.Failed → S.faults source.new ≡ S.faults source.old }
 {
     let input = read_input(alloc, source)?;
-    let task = task_in(alloc, &input.bytes)?;
+    let task = task_in(alloc, input.bytes)?;
     Ok(task)
 }
 

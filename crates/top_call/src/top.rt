@@ -65,7 +65,8 @@ pub fn swift_main<R: Threads + Wait + Sync, S: Source, W: Sink, G: Gate + Progre
     ensures input { result.status ≡ 0 → (play : Plays (texts words.now)) → IsSomeAnd result.script (IsAsked play.asked (S.left source.old)) }
 
     // 2: words of no form. 3: an input that was read and is no script; the text names the first line at fault and the
-    // cause.
+    // cause. They are handed out with the bytes that were read: the whole input, or a front of it that passes the limits of a
+    // script.
     ensures words { result.status ≡ 2 → Wrote IsUsage (given_by words.now (S.left source.old) (W.taken sink.old)) result (W.taken sink.new) }
     ensures refused { result.status ≡ 3 → Wrote IsRefusal (given_by words.now (S.left source.old) (W.taken sink.old)) result (W.taken sink.new) }
 
@@ -86,7 +87,7 @@ pub fn swift_main<R: Threads + Wait + Sync, S: Source, W: Sink, G: Gate + Progre
     // 6: want of memory, after nothing or a front of what is owed.
     ensures no_memory { result.status ≡ 6 → WroteShort (given_by words.now (S.left source.old) (W.taken sink.old)) result (W.taken sink.new) }
 
-    // The line at fault is told at status 3 alone.
+    // A fault is handed out at status 3 alone.
     ensures sound { result.status ≢ 3 → result.fault ≡ None }
 
     // At every other status the counts of faults stand as they were.

@@ -10,8 +10,7 @@ pub returns-in_ok-owed-in-Refuse-clause-owed : goal.returns-in_ok-owed-in-Refuse
 returns-in_ok-owed-in-Refuse-clause-owed g c = Refused (record {
   form = record { asked = Serial c.args.trail; reads = tt; form = refl };
   status = c.in_ok-owed-in-Refuse.ensures.status;
-  line = c.in-Refuse.fault.line;
-  cause = c.in-Refuse.fault.cause;
+  fault = c.in-Refuse.fault;
   refused = subst (IsTaskIn (g.S.Source.left c.args.source.now)) c.in-Refuse.is c.in_ok-script.ensures.task;
   text = c.in_ok-owed-in-Refuse.ensures.text;
   script = c.in_ok-owed-in-Refuse.ensures.script;
