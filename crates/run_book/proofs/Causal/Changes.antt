@@ -65,14 +65,14 @@ kinds_more : (us : List Update) (u : Update) → HasKinds us → sort_of_op u.op
 kinds_more us u h is = record { each = λ v i. ⊎_elim (h.each v) (λ e. subst (λ (u : Update). sort_of_op u.op ≡ u.object.sort) (sym e) is) (In_more us u v i) }
 
 -- the open updates of a session are of their objects' kinds, and so are its commits
-of_kinds : IsOfDrafts (λ s. Unit {0}) (λ s. HasKinds (draft_updates s)) (λ t. HasKinds t.updates)
+of_kinds : IsOfDrafts (λ s deed. Unit {0}) (λ s. HasKinds (draft_updates s)) (λ t. HasKinds t.updates)
 of_kinds = record {
   first = λ s none. subst HasKinds (sym none) no_kinds;
   beside = λ s link cache h. h;
   more = λ s o change fit fine h. kinds_more (draft_updates s) (record { object = o; op = op_of change (over s o change) }) h (kind_of_op change (over s o change) ∙ (change_fine s o change fine).kind);
-  commit = λ s fit some h. h;
+  commit = λ s number fit some h. h;
 }
 
 -- so it is at each moment of a log that follows the rule
 pub kinds_after : (n client capacity : ℕ) (notes : List Note) → Follows n client capacity notes → (m : ℕ) → HoldsOf (λ s. HasKinds (draft_updates s)) (λ t. HasKinds t.updates) (client_after n client capacity (take m notes)) (commits_of n client capacity (take m notes))
-kinds_after n client capacity notes follows = holds_after of_kinds n client capacity notes follows (λ p. tt)
+kinds_after n client capacity notes follows = holds_after of_kinds n client capacity notes follows (λ p note there. tt)

@@ -1,6 +1,6 @@
 -- What holds of an open transaction from its begin to its commit holds of each commit.
 use Rattle.std.proofs.Common.{◌≡◌, ℕ, ◌≤◌, ⊎_elim, Bool, true, false, cond, ◌&&◌, List, [], ◌∷◌, ◌++◌, length, take, Option, Some, None, refl, sym, ap, subst, arith}
-use Rattle.std.specs.Prelude.{◌==◌}
+use Rattle.std.specs.Prelude.{◌==◌, slice_get}
 use Rattle.std.specs.Option.{unwrap_or}
 use Rattle.std.proofs.lemmas.Bool.{and_parts}
 use Rattle.std.proofs.lemmas.List.{append-nil}
@@ -35,13 +35,13 @@ abbrev pub changed : Client → ObjectId → Change → Client
 changed s o change = record s { draft = Some (draft_updates s ++ record { object = o; op = op_of change (over s o change) } ∷ []); cache = looked_up s o change }
 
 -- a fact Open of the open transaction of a session: it holds where nothing was changed yet, whatever the link and
--- the cache are, and goes on with each change that is made where the session is as Fit says; and a fact Made of
--- each commit of such a transaction that has updates
-pub record IsOfDrafts (Fit Open : Client → Type 0) (Made : Tx → Type 0) : Type 0 where
+-- the cache are, and goes on with each change that is made where the session and this deed are as Fit says; and a fact
+-- Made of each commit of such a transaction that has updates
+pub record IsOfDrafts (Fit : Client → Deed → Type 0) (Open : Client → Type 0) (Made : Tx → Type 0) : Type 0 where
   pub first : (s : Client) → draft_updates s ≡ [] → Open s
   pub beside : (s : Client) (link : Option Connection) (cache : List Cached) → Open s → Open (record s { link = link; cache = cache })
-  pub more : (s : Client) (o : ObjectId) (change : Change) → Fit s → Fine ≡ change_outcome s o change → Open s → Open (changed s o change)
-  pub commit : (s : Client) → Fit s → 1 ≤ length (draft_updates s) → Open s → Made (next_tx s (draft_updates s))
+  pub more : (s : Client) (o : ObjectId) (change : Change) → Fit s (Did (ChangeCall o change) Fine) → Fine ≡ change_outcome s o change → Open s → Open (changed s o change)
+  pub commit : (s : Client) (number : ℕ) → Fit s (Did Commit (Number number)) → 1 ≤ length (draft_updates s) → Open s → Made (next_tx s (draft_updates s))
 
 -- the one of the open transaction, and the other of all commits so far
 pub record HoldsOf (Open : Client → Type 0) (Made : Tx → Type 0) (s : Client) (C : List Tx) : Type 0 where
@@ -54,7 +54,7 @@ commit_some s number None is = absurd (cc)
 commit_some s number (Some []) is = absurd (cc)
 commit_some s number (Some (u ∷ us)) is = omega arith
 
-module _ {Fit Open : Client → Type 0} {Made : Tx → Type 0} (facts : IsOfDrafts Fit Open Made) where
+module _ {Fit : Client → Deed → Type 0} {Open : Client → Type 0} {Made : Tx → Type 0} (facts : IsOfDrafts Fit Open Made) where
   -- nothing is open, or nothing was changed yet
   closed : (s : Client) (C : List Tx) → draft_updates s ≡ [] → ((t : Tx) → In t C → Made t) → HoldsOf Open Made s C
   closed s C none commits = record { draft = facts.first s none; commits = commits }
@@ -68,12 +68,12 @@ module _ {Fit Open : Client → Type 0} {Made : Tx → Type 0} (facts : IsOfDraf
   unchanged s C h = subst (λ C. HoldsOf Open Made s C) (sym (append-nil C)) h
 
   -- a call that ends as it does for the session
-  holds_did : (s : Client) (C : List Tx) (call : Call) (outcome : Outcome) → Fit s → outcome ≡ outcome_of s call → HoldsOf Open Made s C → HoldsOf Open Made (did s call outcome) (C ++ commit_in s (Did call outcome))
+  holds_did : (s : Client) (C : List Tx) (call : Call) (outcome : Outcome) → Fit s (Did call outcome) → outcome ≡ outcome_of s call → HoldsOf Open Made s C → HoldsOf Open Made (did s call outcome) (C ++ commit_in s (Did call outcome))
   holds_did s C Begin Fine fit is h = unchanged _ C (closed _ C refl h.commits)
   holds_did s C (ChangeCall o change) Fine fit is h = unchanged _ C (record { draft = facts.more s o change fit is h.draft; commits = h.commits })
   holds_did s C (ChangeCall o change) (Refused (TooManyTags count)) fit is h = unchanged _ C (beside s C s.link _ h)
   holds_did s C (Read o) (Got value) fit is h = unchanged _ C (beside s C s.link _ h)
-  holds_did s C Commit (Number number) fit is h = closed _ _ refl (λ t i. ⊎_elim (h.commits t) (λ e. subst Made (sym e) (facts.commit s fit (commit_some s number s.draft is) h.draft)) (In_more C (next_tx s (draft_updates s)) t i))
+  holds_did s C Commit (Number number) fit is h = closed _ _ refl (λ t i. ⊎_elim (h.commits t) (λ e. subst Made (sym e) (facts.commit s number fit (commit_some s number s.draft is) h.draft)) (In_more C (next_tx s (draft_updates s)) t i))
   holds_did s C Commit Nothing fit is h = unchanged _ C (closed _ C refl h.commits)
   holds_did s C Abort Fine fit is h = unchanged _ C (closed _ C refl h.commits)
   holds_did s C _ _ fit is h = unchanged s C h
@@ -98,14 +98,14 @@ module _ {Fit Open : Client → Type 0} {Made : Tx → Type 0} (facts : IsOfDraf
       go false is = h
 
   -- a deed that the rule allows
-  holds_deed : (s : Client) (C : List Tx) (before : List Note) (deed : Deed) → Fit s → Allows s before deed → HoldsOf Open Made s C → HoldsOf Open Made (after s deed) (C ++ commit_in s deed)
+  holds_deed : (s : Client) (C : List Tx) (before : List Note) (deed : Deed) → Fit s deed → Allows s before deed → HoldsOf Open Made s C → HoldsOf Open Made (after s deed) (C ++ commit_in s deed)
   holds_deed s C before (Did call outcome) fit allowed h = holds_did s C call outcome fit allowed h
   holds_deed s C before (Asked i ask (Heard say)) fit allowed h = unchanged (heard s i ask say) C (holds_heard s C i ask say h)
   holds_deed s C before (Asked i ask _) fit allowed h = unchanged s C h
   holds_deed s C before (Told line) fit allowed h = unchanged s C h
 
-  -- so both hold at each moment of a log that follows the rule, where the session is always as Fit says
-  pub holds_after : (n client capacity : ℕ) (notes : List Note) → Follows n client capacity notes → ((p : ℕ) → Fit (client_after n client capacity (take p notes))) → (m : ℕ) → HoldsOf Open Made (client_after n client capacity (take m notes)) (commits_of n client capacity (take m notes))
+  -- so both hold at each moment of a log that follows the rule, where the session and each deed are as Fit says
+  pub holds_after : (n client capacity : ℕ) (notes : List Note) → Follows n client capacity notes → ((p : ℕ) (note : Note) → slice_get notes p ≡ Some note → Fit (client_after n client capacity (take p notes)) note.deed) → (m : ℕ) → HoldsOf Open Made (client_after n client capacity (take m notes)) (commits_of n client capacity (take m notes))
   holds_after n client capacity notes follows fit = by_notes n client capacity notes (HoldsOf Open Made) (closed (new_client n client capacity) [] refl (λ t i. absurd i)) (λ p note there h.
       let X = take p notes in
-      holds_deed (client_after n client capacity X) (commits_of n client capacity X) X note.deed (fit p) (follows.holds p note there) h)
+      holds_deed (client_after n client capacity X) (commits_of n client capacity X) X note.deed (fit p note there) (follows.holds p note there) h)

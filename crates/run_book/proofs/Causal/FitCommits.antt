@@ -91,17 +91,17 @@ record IsFitByLog (n : ℕ) (t : Tx) : Type 0 where
   updates : All IsFitUpdate t.updates
 
 -- the open updates of a session with an entry for each centre are fit, and so are its commits
-of_fit : (n : ℕ) → IsOfDrafts (λ s. length s.vector ≡ n) (λ s. All IsFitUpdate (draft_updates s)) (λ t. IsFitByLog n t)
+of_fit : (n : ℕ) → IsOfDrafts (λ s deed. length s.vector ≡ n) (λ s. All IsFitUpdate (draft_updates s)) (λ t. IsFitByLog n t)
 of_fit n = record {
   first = λ s none. subst (λ us. All IsFitUpdate us) (sym none) (All-nil IsFitUpdate);
   beside = λ s link cache h. h;
   more = λ s o change wide fine h. All-push IsFitUpdate (draft_updates s) (record { object = o; op = op_of change (over s o change) }) h (fit_change s o change fine);
-  commit = λ s wide some h. record { some = some; rank = omega arith; width = wide; updates = h };
+  commit = λ s number wide some h. record { some = some; rank = omega arith; width = wide; updates = h };
 }
 
 -- so it is at each moment of a log that follows the rule
 fit_after : (n client capacity : ℕ) (notes : List Note) → Follows n client capacity notes → (m : ℕ) → HoldsOf (λ s. All IsFitUpdate (draft_updates s)) (λ t. IsFitByLog n t) (client_after n client capacity (take m notes)) (commits_of n client capacity (take m notes))
-fit_after n client capacity notes follows = holds_after (of_fit n) n client capacity notes follows (λ p. wide_after n client capacity (take p notes))
+fit_after n client capacity notes follows = holds_after (of_fit n) n client capacity notes follows (λ p note there. wide_after n client capacity (take p notes))
 
 -- ---- a book
 

@@ -72,14 +72,14 @@ module _ (b : Book) (nodes : List Node) where
       each k v there = ⊎_elim (older k v) (λ e. subst (λ v. IsIssuedAt nodes t k v) e.0 (subst (λ k. IsIssuedAt nodes t k u) (sym e.1) last)) (get_last us u v k there)
 
   -- the open updates of a session whose views show the tags are issued, and so are its commits
-  of_issued : IsOfDrafts ShowsTags (λ s. IsIssued nodes (open_node b s)) (λ t. IsIssued nodes (node_of b t))
+  of_issued : IsOfDrafts (λ s deed. ShowsTags s) (λ s. IsIssued nodes (open_node b s)) (λ t. IsIssued nodes (node_of b t))
   of_issued = record {
     first = λ s none. record { each = λ k u there. absurd (none-some u (sym (ap (λ us. slice_get us k) none) ∙ there)) };
     beside = λ s link cache h. record { each = λ k u there. record { over = (h.each k u there).over } };
     more = issued_more;
-    commit = λ s fit some h. subst (λ n. IsIssued nodes (record { dot = next_dot s; deps = cover b s.vector ++ own_dots s.client n; rank = s.clock + 1; updates = draft_updates s })) (let e : s.own ≡ s.own + 1 - 1 = omega arith in e) h;
+    commit = λ s number fit some h. subst (λ n. IsIssued nodes (record { dot = next_dot s; deps = cover b s.vector ++ own_dots s.client n; rank = s.clock + 1; updates = draft_updates s })) (let e : s.own ≡ s.own + 1 - 1 = omega arith in e) h;
   }
 
   -- so it is at each moment of a log that follows the rule, where each view shows the tags
   pub issued_after : (n client capacity : ℕ) (notes : List Note) → Follows n client capacity notes → ((p : ℕ) → ShowsTags (client_after n client capacity (take p notes))) → (m : ℕ) → HoldsOf (λ s. IsIssued nodes (open_node b s)) (λ t. IsIssued nodes (node_of b t)) (client_after n client capacity (take m notes)) (commits_of n client capacity (take m notes))
-  issued_after n client capacity notes follows shows = holds_after of_issued n client capacity notes follows shows
+  issued_after n client capacity notes follows shows = holds_after of_issued n client capacity notes follows (λ p note there. shows p)

@@ -98,10 +98,16 @@ module _ (b : Book) (setup : Setup) (fit : FitsWith b setup) where
       let same : sizes (flat_map (node_deltas o) (graph b setup)) ≡ sizes (flat_map tx_deltas (committed b setup)) = ap sizes (flat_map-map (node_deltas o) (node_of b) (committed b setup)) in
       omega (arith, most, few_commits, same, sizes-flat_map (node_deltas o) (graph b setup), sizes-flat_map tx_deltas (committed b setup))
 
-  -- a sum over a set of the graph and modest open updates is not wrapped
-  pub sum_fits : (set : List Dot) (last : Node) (o : ObjectId) → IsModest last.updates → sizes (deltas_in (acts_with (graph b setup) set last o)) < 2 ^ 127
-  sum_fits set last o modest =
+  -- a sum over a set of the graph and modest open updates is small
+  pub sum_small : (set : List Dot) (last : Node) (o : ObjectId) → IsModest last.updates → sizes (deltas_in (acts_with (graph b setup) set last o)) ≤ 2 ^ 120
+  sum_small set last o modest =
       let nodes = graph b setup in
       let whole = ap sizes (deltas_over nodes set last o) ∙ sizes-append (flat_map (node_deltas o) (nodes_in nodes set)) (node_deltas o last) in
       let in_set = sum_by_filter (λ t. sizes (node_deltas o t)) (λ t. has t.dot set) nodes in
       omega (arith, whole, in_set, sizes-flat_map (node_deltas o) (nodes_in nodes set), graph_sizes o, modest.sized o, modest.few)
+
+  -- so it is not wrapped
+  pub sum_fits : (set : List Dot) (last : Node) (o : ObjectId) → IsModest last.updates → sizes (deltas_in (acts_with (graph b setup) set last o)) < 2 ^ 127
+  sum_fits set last o modest =
+      let small = sum_small set last o modest in
+      omega (arith, small)

@@ -1,0 +1,4 @@
+pub mod Images
+pub mod Accounts
+pub mod Sums
+pub mod Rights

@@ -1,0 +1,4 @@
+pub mod CellNames
+pub mod Pushing
+pub mod Wrapping
+pub mod CellExamples

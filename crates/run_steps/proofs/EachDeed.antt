@@ -1,0 +1,107 @@
+-- What holds of each ask, of each line and of the calls of a step, holds of each of its deeds.
+use Rattle.std.proofs.Common.{◌≡◌, ℕ, Bool, true, false, cond, List, [], ◌++◌, Option, Some, None, refl, sym, subst}
+use Rattle.std.specs.Prelude.{All}
+use Rattle.std.proofs.lemmas.List.Elements.{All-nil, All-cons, All-append}
+use Rattle.tx_core.specs.declared.tx.Tx.{Tx}
+use Rattle.tx_core.specs.declared.tx.Update.{Update}
+use Rattle.dc_talk.specs.declared.ask.Ask.{Ask}
+use Rattle.dc_talk.specs.declared.ask.Ask.TheVariants.{Commit as CommitAsk}
+use Rattle.dc_talk.specs.declared.say.Say.{Say}
+use Rattle.dc_talk.specs.declared.calls.Connection.{Connection}
+use Rattle.dc_talk.specs.declared.calls.Call.{Call}
+use Rattle.dc_talk.specs.declared.calls.Call.TheVariants.{Begin as BeginCall, Change as ChangeCall, Read as ReadCall, Commit as CommitCall, Abort as AbortCall}
+use Rattle.dc_talk.specs.declared.calls.Refusal.TheVariants.{NeedsFetch}
+use Rattle.dc_talk.specs.declared.calls.Outcome.{Outcome}
+use Rattle.dc_talk.specs.declared.calls.Outcome.TheVariants.{Refused}
+use Rattle.dc_talk.specs.declared.log.Deed.{Deed}
+use Rattle.dc_talk.specs.declared.log.Deed.TheVariants.{Did, Asked, Told}
+use Rattle.dc_talk.specs.declared.log.Fate.{Fate}
+use Rattle.dc_talk.specs.declared.log.Fate.TheVariants.{Unheard}
+use Rattle.dc_talk.specs.declared.line.Line.{Line}
+use Rattle.dc_talk.specs.declared.line.Line.TheVariants as line
+use Rattle.dc_talk.specs.Clients.{Client}
+use Rattle.dc_talk.specs.Calls.{outcome_of}
+use Rattle.dc_talk.specs.Rule.{after, next_commit, hello_of, refresh_of, fetch_of}
+use Rattle.script_core.specs.declared.object_call.ObjectCall.{ObjectCall}
+use Rattle.script_core.specs.declared.steps.AskFault.{AskFault}
+use Rattle.script_core.specs.declared.steps.AskFault.TheVariants.{LoseAsk, LoseReply, Twice}
+use Rattle.script_core.specs.declared.steps.ClientStep.{ClientStep}
+use Rattle.script_core.specs.declared.steps.ClientStep.TheVariants.{Connect, Begin, Change, Read, Commit, Abort, Push, Flush, Refresh, Again, Arm}
+use Rattle.script_core.specs.Deeds.{Progress, StepDeeds, Asks, OrTells, OverNext, Pushes, PushesOn, FetchDeeds, CallDeeds, FlushDeeds, flush_ends, flush_goes, RefreshDeeds, AgainDeeds, after_fetch, calls, call_line, change_call, read_call, commit_sent, copies, fate_of, fetch_line, goes_on, hello_line, push_line, pushed, refresh_line, again_line, told, took}
+use Rattle.run_steps.specs.Calls.{IsCallOf}
+
+module _ (P : Deed → Type 0) (asked : (i : ℕ) (ask : Ask) (fate : Fate) → P (Asked i ask fate)) (line_told : (line : Line) → P (Told line)) where
+  told_each : (l : Option Line) → All P (told l)
+  told_each None = All-nil P
+  told_each (Some line) = All-cons P (Told line) [] (line_told line) (All-nil P)
+
+  either_each : (test : Bool) (xs ys : List Deed) → All P xs → All P ys → All P (cond test xs ys)
+  either_each true xs ys first second = first
+  either_each false xs ys first second = second
+
+  copies_each : (armed : Option AskFault) (i : ℕ) (ask : Ask) (say : Say) → All P (copies armed i ask say)
+  copies_each (Some Twice) i ask say = All-cons P (Asked i ask (Unheard say)) [] (asked i ask (Unheard say)) (All-nil P)
+  copies_each (Some LoseAsk) i ask say = All-nil P
+  copies_each (Some LoseReply) i ask say = All-nil P
+  copies_each None i ask say = All-nil P
+
+  asks_each : (armed : Option AskFault) (i : ℕ) (ask : Ask) (following : Fate → List Deed) (deeds : List Deed) → ((fate : Fate) → All P (following fate)) → Asks armed i ask following deeds → All P deeds
+  asks_each armed i ask following deeds rest asks = subst (All P) (sym asks.whole)
+      (All-cons P (Asked i ask (fate_of armed asks.say)) (copies armed i ask asks.again ++ following (fate_of armed asks.say)) (asked i ask (fate_of armed asks.say))
+      (All-append P (copies armed i ask asks.again) (following (fate_of armed asks.say)) (copies_each armed i ask asks.again) (rest (fate_of armed asks.say))))
+
+  over_each : {X : Type 0} (o : Option X) (l : Line) (Over : X → List Deed → Type 0) (deeds : List Deed) → ((x : X) → Over x deeds → All P deeds) → OrTells o l Over deeds → All P deeds
+  over_each None l Over deeds each are = subst (All P) (sym are) (told_each (Some l))
+  over_each (Some x) l Over deeds each over = each x over
+
+  next_each : (s : Client) (l : Line) (Over : Connection → Tx → List Deed → Type 0) (deeds : List Deed) → ((link : Connection) (tx : Tx) → Over link tx deeds → All P deeds) → OverNext s l Over deeds → All P deeds
+  next_each s l Over deeds each over = over_each s.link (line.PushUnconnected s.client) (λ link. OrTells (next_commit s link) l (Over link)) deeds (λ link next. over_each (next_commit s link) l (Over link) deeds (λ tx. each link tx) next) over
+
+  calls_each : (s : Client) (call : Call) → ((outcome : Outcome) → P (Did call outcome)) → All P (calls s call)
+  calls_each s call each = All-cons P (Did call (outcome_of s call)) (told (call_line s.client call (outcome_of s call))) (each (outcome_of s call)) (told_each (call_line s.client call (outcome_of s call)))
+
+  fetch_each : (p : Progress) (c : ObjectCall) (deeds : List Deed) → ((outcome : Outcome) → P (Did c.call outcome)) → FetchDeeds p c deeds → All P deeds
+  fetch_each p c deeds each fetch =
+      over_each p.client.link (line.Unconnected p.client.client c.word c.object) (λ link. Asks p.armed link.centre (fetch_of p.client c.object) (after_fetch p.client link.centre c)) deeds
+      (λ link asks. asks_each p.armed link.centre (fetch_of p.client c.object) (after_fetch p.client link.centre c) deeds (λ fate.
+      either_each (took p.client link.centre (fetch_of p.client c.object) fate) _ _
+      (calls_each (after p.client (Asked link.centre (fetch_of p.client c.object) fate)) c.call each) (told_each (fetch_line p.client.client c fate))) asks) fetch
+
+  call_each : (p : Progress) (c : ObjectCall) (out : Outcome) (deeds : List Deed) → ((outcome : Outcome) → P (Did c.call outcome)) → CallDeeds p c out deeds → All P deeds
+  call_each p c (Refused (NeedsFetch o)) deeds each r = subst (All P) (sym r.whole) (All-cons P (Did c.call (outcome_of p.client c.call)) r.rest (each (outcome_of p.client c.call)) (fetch_each p c r.rest each r.fetch))
+  call_each p c _ deeds each are = subst (All P) (sym are) (calls_each p.client c.call each)
+
+  pushes_each : (p : Progress) (deeds : List Deed) (link : Connection) (tx : Tx) → Pushes p link tx deeds → All P deeds
+  pushes_each p deeds link tx push = asks_each p.armed link.centre (CommitAsk tx) (λ fate. told (push_line p.client.client tx.dot.number fate)) deeds (λ fate. told_each (push_line p.client.client tx.dot.number fate)) push
+
+  refresh_each : (p : Progress) (draft : Option (List Update)) (deeds : List Deed) (link : Connection) → RefreshDeeds p draft link deeds → All P deeds
+  refresh_each p (Some updates) deeds link are = subst (All P) (sym are) (told_each (Some (line.RefreshOpen p.client.client)))
+  refresh_each p None deeds link asks =
+      asks_each p.armed link.centre (refresh_of p.client) (λ fate. told (refresh_line p.client.client (took p.client link.centre (refresh_of p.client) fate) fate)) deeds
+      (λ fate. told_each (refresh_line p.client.client (took p.client link.centre (refresh_of p.client) fate) fate)) asks
+
+  push_on_each : (p : Progress) (deeds : List Deed) → PushesOn p deeds → All P deeds
+  push_on_each p deeds on = subst (All P) (sym on.asked) (All-cons P (Asked on.link.centre (CommitAsk on.tx) (fate_of p.armed on.say)) (copies p.armed on.link.centre (CommitAsk on.tx) on.again) (asked on.link.centre (CommitAsk on.tx) (fate_of p.armed on.say)) (copies_each p.armed on.link.centre (CommitAsk on.tx) on.again))
+
+  flush_each : (p : Progress) (deeds : List Deed) → FlushDeeds p deeds → All P deeds
+  flush_each p deeds (flush_ends ends) =
+      next_each p.client (line.Flushed p.client.client p.client.own) (λ link tx deeds. (push : Pushes p link tx deeds) × (goes_on (fate_of p.armed push.say) ≡ false)) deeds
+      (λ link tx ends. pushes_each p deeds link tx ends.0) ends
+  flush_each p deeds (flush_goes first later parts on rest) = subst (All P) (sym parts) (All-append P first later (push_on_each p first on) (flush_each (pushed p first) later rest))
+
+  again_each : (client centre number : ℕ) (tx : Tx) (deeds : List Deed) → AgainDeeds client centre number tx deeds → All P deeds
+  again_each client centre number tx deeds are = subst (All P) (sym are.1) (All-cons P (Asked centre (CommitAsk tx) (Unheard are.0)) (told (again_line client centre number (Unheard are.0))) (asked centre (CommitAsk tx) (Unheard are.0)) (told_each (again_line client centre number (Unheard are.0))))
+
+  -- each deed of a step
+  pub step_each : (p : Progress) (step : ClientStep) (deeds : List Deed) → ((call : Call) (outcome : Outcome) → IsCallOf step call → P (Did call outcome)) → StepDeeds p step deeds → All P deeds
+  step_each p (Connect centre) deeds each hello = asks_each p.armed centre (hello_of p.client) (λ fate. told (hello_line p.client.client centre fate)) deeds (λ fate. told_each (hello_line p.client.client centre fate)) hello
+  step_each p Begin deeds each are = subst (All P) (sym are) (calls_each p.client BeginCall (λ outcome. each BeginCall outcome refl))
+  step_each p (Change o change) deeds each are = call_each p (change_call o change) (outcome_of p.client (ChangeCall o change)) deeds (λ outcome. each (ChangeCall o change) outcome refl) are
+  step_each p (Read o) deeds each are = call_each p (read_call o) (outcome_of p.client (ReadCall o)) deeds (λ outcome. each (ReadCall o) outcome refl) are
+  step_each p Commit deeds each are = subst (All P) (sym are) (calls_each p.client CommitCall (λ outcome. each CommitCall outcome refl))
+  step_each p Abort deeds each are = subst (All P) (sym are) (calls_each p.client AbortCall (λ outcome. each AbortCall outcome refl))
+  step_each p Push deeds each push = next_each p.client (line.PushNone p.client.client) (Pushes p) deeds (λ link tx push. pushes_each p deeds link tx push) push
+  step_each p Flush deeds each flush = flush_each p deeds flush
+  step_each p Refresh deeds each refresh = over_each p.client.link (line.RefreshUnconnected p.client.client) (RefreshDeeds p p.client.draft) deeds (λ link refresh. refresh_each p p.client.draft deeds link refresh) refresh
+  step_each p (Again centre number) deeds each again = over_each (commit_sent number p.notes) (line.AgainNone p.client.client centre number) (AgainDeeds p.client.client centre number) deeds (λ tx again. again_each p.client.client centre number tx deeds again) again
+  step_each p (Arm fault) deeds each are = subst (All P) (sym are) (All-nil P)

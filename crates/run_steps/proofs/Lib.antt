@@ -1,0 +1,6 @@
+pub mod Places
+pub mod Who
+pub mod TheirSteps
+pub mod Chains
+pub mod EachDeed
+pub mod Quiet

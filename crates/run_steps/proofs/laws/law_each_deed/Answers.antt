@@ -1,0 +1,6 @@
+use Rattle.run_steps.specs.Calls.{IsDeedOf}
+use Rattle.run_steps.proofs.EachDeed.{step_each}
+use Rattle.run_steps.proofs.laws.law_each_deed.Goals as goal
+
+pub returns : goal.returns
+returns c = λ come does deeds step. step_each (IsDeedOf does) (λ i ask fate. tt) (λ line. tt) come does deeds (λ call outcome is. is) step
