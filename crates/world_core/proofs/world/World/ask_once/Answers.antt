@@ -20,7 +20,7 @@ invariant_of-self-2 c =
     let fresh : inside.spent ≡ false = ap (λ (w : WorldView). w.spent) c.self.view_is ∙ c.requires.fresh in
     let may : MayAsk c.args.actor c.args.centre c.args.ask (seen_of inside.script.now inside.spent inside.table) = subst (MayAsk c.args.actor c.args.centre c.args.ask) (sym c.self.view_is) c.requires.may in
     let high : c.args.actor ≤ length inside.table.logs.items = subst (λ (w : WorldView). c.args.actor ≤ length w.logs) (sym c.self.view_is) c.requires.actor.1 in
-    let made = ask_made inside.script.now c.args.actor c.args.centre c.args.ask inside.table c.ask.new.self c.in_ok-ask.ensures (c.requires.actor.0, high) inside.spent fresh may in
+    let made = ask_made inside.script.now c.args.actor c.args.centre c.args.ask inside.table c.ask.new.self c.in_ok-ask.ensures.asks (c.requires.actor.0, high) inside.spent fresh may in
     λ same. goes_sound _ _ _ _ (c.self.invariant fresh) made.acts
 
 pub returns-clause-asks : goal.returns-clause-asks
@@ -29,5 +29,5 @@ returns-clause-asks c =
     let fresh : inside.spent ≡ false = ap (λ (w : WorldView). w.spent) c.self.view_is ∙ c.requires.fresh in
     let may : MayAsk c.args.actor c.args.centre c.args.ask (seen_of inside.script.now inside.spent inside.table) = subst (MayAsk c.args.actor c.args.centre c.args.ask) (sym c.self.view_is) c.requires.may in
     let high : c.args.actor ≤ length inside.table.logs.items = subst (λ (w : WorldView). c.args.actor ≤ length w.logs) (sym c.self.view_is) c.requires.actor.1 in
-    let made = ask_made inside.script.now c.args.actor c.args.centre c.args.ask inside.table c.ask.new.self c.in_ok-ask.ensures (c.requires.actor.0, high) inside.spent fresh may in
+    let made = ask_made inside.script.now c.args.actor c.args.centre c.args.ask inside.table c.ask.new.self c.in_ok-ask.ensures.asks (c.requires.actor.0, high) inside.spent fresh may in
     subst (λ (old : WorldView). AsksOnce c.args.actor c.args.centre c.args.ask old (seen_of inside.script.now false c.ask.new.self)) c.self.view_is made

@@ -20,7 +20,7 @@ invariant_of-self-2 c =
     let sound : IsSound (seen_of inside.script.now inside.spent inside.table) = c.self.invariant fresh in
     let within : 1 ≤ length inside.table.logs.items = omega (arith, sound.world.log_count) in
     let fits : IsOperatorStep inside.script.now.n c.args.step.now = subst (λ (w : WorldView). IsOperatorStep w.script.n c.args.step.now) (sym c.self.view_is) c.requires.fits in
-    let taken = order_taken inside.script.now c.args.section c.args.number c.args.step.now inside.table c.order.new.self c.in_ok-order.ensures within (centre_count (seen_of inside.script.now inside.spent inside.table) sound.all sound.world) fits inside.spent fresh in
+    let taken = order_taken inside.script.now c.args.section c.args.number c.args.step.now inside.table c.order.new.self c.in_ok-order.ensures.operates within (centre_count (seen_of inside.script.now inside.spent inside.table) sound.all sound.world) fits inside.spent fresh in
     λ same. goes_sound _ _ _ _ sound taken.acts
 
 pub returns-clause-takes : goal.returns-clause-takes
@@ -30,5 +30,5 @@ returns-clause-takes c =
     let sound : IsSound (seen_of inside.script.now inside.spent inside.table) = c.self.invariant fresh in
     let within : 1 ≤ length inside.table.logs.items = omega (arith, sound.world.log_count) in
     let fits : IsOperatorStep inside.script.now.n c.args.step.now = subst (λ (w : WorldView). IsOperatorStep w.script.n c.args.step.now) (sym c.self.view_is) c.requires.fits in
-    let taken = order_taken inside.script.now c.args.section c.args.number c.args.step.now inside.table c.order.new.self c.in_ok-order.ensures within (centre_count (seen_of inside.script.now inside.spent inside.table) sound.all sound.world) fits inside.spent fresh in
+    let taken = order_taken inside.script.now c.args.section c.args.number c.args.step.now inside.table c.order.new.self c.in_ok-order.ensures.operates within (centre_count (seen_of inside.script.now inside.spent inside.table) sound.all sound.world) fits inside.spent fresh in
     subst (λ (old : WorldView). TakesOrder (record { actor = 1; section = c.args.section; step = c.args.number }) c.args.step.now old (seen_of inside.script.now false c.order.new.self)) c.self.view_is taken

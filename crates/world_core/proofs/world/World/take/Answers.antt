@@ -26,7 +26,7 @@ invariant_of-self-2 c =
     let sound : IsSound (seen_of inside.script.now inside.spent inside.table) = c.self.invariant fresh in
     let high : c.args.client ≤ inside.script.now.clients = subst (λ (w : WorldView). c.args.client ≤ w.script.clients) (sym c.self.view_is) c.requires.client.1 in
     let within : c.args.client < length inside.table.logs.items = omega (arith, sound.world.log_count, high) in
-    let taken = step_taken inside.script.now c.args.client c.args.section c.args.number c.args.step.now inside.table c.step.new.self c.in_ok-step.ensures (c.requires.client.0, within) high inside.spent fresh in
+    let taken = step_taken inside.script.now c.args.client c.args.section c.args.number c.args.step.now inside.table c.step.new.self c.in_ok-step.ensures.steps (c.requires.client.0, within) high inside.spent fresh in
     λ same. goes_sound _ _ _ _ sound taken.acts
 
 pub returns-clause-takes : goal.returns-clause-takes
@@ -36,5 +36,5 @@ returns-clause-takes c =
     let sound : IsSound (seen_of inside.script.now inside.spent inside.table) = c.self.invariant fresh in
     let high : c.args.client ≤ inside.script.now.clients = subst (λ (w : WorldView). c.args.client ≤ w.script.clients) (sym c.self.view_is) c.requires.client.1 in
     let within : c.args.client < length inside.table.logs.items = omega (arith, sound.world.log_count, high) in
-    let taken = step_taken inside.script.now c.args.client c.args.section c.args.number c.args.step.now inside.table c.step.new.self c.in_ok-step.ensures (c.requires.client.0, within) high inside.spent fresh in
+    let taken = step_taken inside.script.now c.args.client c.args.section c.args.number c.args.step.now inside.table c.step.new.self c.in_ok-step.ensures.steps (c.requires.client.0, within) high inside.spent fresh in
     subst (λ (old : WorldView). TakesStep (record { actor = c.args.client + 1; section = c.args.section; step = c.args.number }) c.args.step.now old (seen_of inside.script.now false c.step.new.self)) c.self.view_is taken
