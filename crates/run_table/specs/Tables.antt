@@ -1,5 +1,5 @@
 -- The table of a run: the centres, the clients, the logs of all actors and the links; and what a step leaves of it.
-use Rattle.std.specs.Prelude.{◌≡◌, ℕ, zero, suc, ◌+◌, ◌-◌, ◌*◌, map, length, List, [], ◌∷◌, All, Some, None, slice_get, slice_set, slice_index_or}
+use Rattle.std.specs.Prelude.{◌≡◌, ◌⊎◌, ℕ, zero, suc, ◌+◌, ◌-◌, ◌*◌, map, length, List, [], ◌∷◌, All, Some, None, slice_get, slice_set, slice_index_or}
 use Rattle.std.specs.List.{range_with_len}
 use Rattle.dc_talk.specs.declared.ask.Ask.{Ask}
 use Rattle.dc_talk.specs.declared.say.Say.{Say}
@@ -7,22 +7,25 @@ use Rattle.dc_talk.specs.declared.log.Fate.TheVariants.{Unheard}
 use Rattle.dc_talk.specs.declared.log.Deed.TheVariants.{Asked}
 use Rattle.dc_talk.specs.Answers.{History}
 use Rattle.dc_talk.specs.Clients.{new_client}
-use Rattle.dc_talk.specs.Logs.{Logged}
+use Rattle.dc_talk.specs.Logs.{Logged, entry_for}
+use Rattle.dc_talk.specs.Doors.{HasAsked, HasNotAsked}
 use Rattle.dc_talk.specs.declared.log.Deed.{Deed}
-use Rattle.dc_talk.specs.Acting.{Acting, Leaves, acting}
+use Rattle.dc_talk.specs.Acting.{Acting, Leaves, IsCutShort, acting}
 use Rattle.dc_door.specs.Centres.{CentreTrail, new_centres}
 use Rattle.dc_door.specs.KeptDoors.{shown_of, begun}
 use Rattle.script_core.specs.declared.script.Script.{Script}
 use Rattle.script_core.specs.declared.steps.ClientStep.{ClientStep}
 use Rattle.script_core.specs.declared.steps.OperatorStep.{OperatorStep}
 use Rattle.script_core.specs.Steps.{IsCount}
-use Rattle.client_stub.specs.Playing.{StubView, Takes, Operates, beside}
+use Rattle.client_stub.specs.Playing.{StubView, IsLinkBehind, Takes, Operates, beside}
 use Rattle.script_core.specs.Mail.{Post}
 use Rattle.dc_mail.specs.Posts.{post_at, new_posts}
 use Rattle.run_book.specs.Parts.{idle_log}
 use Rattle.run_book.specs.Moves.{Does, operator_does}
 use Rattle.run_book.specs.Played.{Stage, new_progress, DoesSo, posts_after}
 use Rattle.run_table.specs.declared.table.Table.{Table}
+use Rattle.run_table.specs.declared.works.Work.{Work}
+use Rattle.run_table.specs.Works.{HasWorkedPart}
 
 -- ---- at first
 
@@ -127,3 +130,40 @@ pub record HasMadeRound (turn : Turn) (does : Does) (old new : Table) : Type 0 w
   pub works : HasWorked (length old.door.centres) turn.step does old.posts new.posts (acting (shown_of (begun turn.actor old.door.centres)) (log_in turn (log_at old.logs.items turn.actor))) (acting (shown_of new.door) log)
   pub stubs : new.stubs ≡ old.stubs
   pub turn_is : IsTurn turn log old new
+
+-- ---- an early end
+
+-- an actor's turn came to an early end: its log has some notes more, and the trail of each centre some entries more, each of
+-- them with the answer that is due; no other log changed, and no setting of a centre did
+pub record IsCutTurn (turn : Turn) (old new : Table) : Type 0 where
+  pub log : Logged
+  pub short : IsCutShort (acting (shown_of (begun turn.actor old.door.centres)) (log_in turn (log_at old.logs.items turn.actor))) (acting (shown_of new.door) log)
+  pub turn_is : IsTurn turn log old new
+
+-- a client's turn came to an early end: of the clients this one alone may have changed, and its link goes to one of the
+-- centres or to none
+pub record HasSteppedPart (turn : Turn) (old new : Table) : Type 0 where
+  pub later : StubView
+  pub linked : IsLinkBehind (shown_of new.door) later.client
+  pub stubs : new.stubs.items ≡ slice_set old.stubs.items (turn.actor - 2) later
+  pub posts : new.posts ≡ old.posts
+  pub cut : IsCutTurn turn old new
+
+-- the operator's turn came to an early end: no client changed, and no link
+pub record HasOperatedPart (turn : Turn) (old new : Table) : Type 0 where
+  pub stubs : new.stubs ≡ old.stubs
+  pub posts : new.posts ≡ old.posts
+  pub cut : IsCutTurn turn old new
+
+-- a worker's turn came to an early end: no client changed, and the links as far as its work came
+pub record HasMadeRoundPart (turn : Turn) (centre : ℕ) (does : Work) (old new : Table) : Type 0 where
+  pub cut : IsCutTurn turn old new
+  pub works : HasWorkedPart (length old.door.centres) centre does old.posts new.posts (acting (shown_of (begun turn.actor old.door.centres)) (log_in turn (log_at old.logs.items turn.actor))) (acting (shown_of new.door) cut.log)
+  pub stubs : new.stubs ≡ old.stubs
+
+-- an ask outside of the script came to an early end: it was not made, or the centre answered it and no log has a note of it
+pub record HasAskedOncePart (actor centre : ℕ) (ask : Ask) (old new : Table) : Type 0 where
+  pub asked : HasNotAsked (shown_of (begun actor old.door.centres)) (shown_of new.door) ⊎ ((say : Say) × HasAsked (shown_of (begun actor old.door.centres)) (shown_of new.door) centre (entry_for actor (ask, say)))
+  pub stubs : new.stubs ≡ old.stubs
+  pub posts : new.posts ≡ old.posts
+  pub turn_is : IsTurn (outside actor) (log_in (outside actor) (log_at old.logs.items actor)) old new

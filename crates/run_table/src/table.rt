@@ -1,11 +1,11 @@
 // The table of a run, and the steps that change it.
-ghost use Rattle.std.specs.Prelude.{◌≡◌, ◌≤◌, ◌<◌, ℕ, ◌+◌, ◌-◌, ◌*◌, List, length, Some, IfOk, OnOk, slice_get};
+ghost use Rattle.std.specs.Prelude.{◌≡◌, ◌≤◌, ◌<◌, ℕ, ◌+◌, ◌-◌, ◌*◌, List, length, Some, IfOk, OnOk, OnErr, slice_get};
 ghost use Rattle.ids_core.specs.declared.limits.TheConstants.{MOST_CENTRES, MOST_CLIENTS};
 ghost use Rattle.script_core.specs.Steps.{IsStep, IsOperatorStep};
 ghost use Rattle.client_stub.specs.Playing.{StubView, IsLinkBehind};
 ghost use Rattle.dc_door.specs.KeptDoors.{shown_of};
 ghost use Rattle.script_core.specs.Scripts.{IsInRange};
-ghost use Rattle.run_table.specs.Tables.{new_stubs, new_logs, IsNew, HasStepped, HasOperated, HasMadeRound, HasAskedOnce, HasPosts};
+ghost use Rattle.run_table.specs.Tables.{new_stubs, new_logs, IsNew, HasStepped, HasOperated, HasMadeRound, HasAskedOnce, HasPosts, HasSteppedPart, HasOperatedPart, HasMadeRoundPart, HasAskedOncePart};
 ghost use Rattle.run_table.specs.Works.{work_of};
 ghost use Rattle.run_book.specs.Moves.{actor_of, operator_does};
 ghost use Rattle.dc_talk.specs.declared.log.Deed.{Deed as DeedOf};
@@ -88,8 +88,8 @@ impl Table {
         })
     }
 
-    /// Has a client take a step, which its log has as one of a section. After want of memory a part of the step may
-    /// be left.
+    /// Has a client take a step, which its log has as one of a section. After an `Err`, want of memory, a part of the
+    /// step may be left: in this client, in its log, and at the centres.
     pub fn step(
         &mut self,
         alloc: Global,
@@ -103,19 +103,20 @@ impl Table {
         requires log { client < length self.old.logs.items }
         requires fits { IsStep (length self.old.door.centres) step.now }
         requires linked { (stub : StubView) → slice_get self.old.stubs.items (client - 1) ≡ Some stub → IsLinkBehind (shown_of self.old.door) stub.client }
-        ensures { OnOk result (HasStepped (record { actor = client + 1; section = section; step = number }) step.now self.old self.new) }
+        ensures steps { OnOk result (HasStepped (record { actor = client + 1; section = section; step = number }) step.now self.old self.new) }
+        ensures part { OnErr result (HasSteppedPart (record { actor = client + 1; section = section; step = number }) self.old self.new) }
     {
         self.door.set(client + 1);
         let log = &mut self.logs[client as usize];
         log.set(section, number);
         let stub = &mut self.stubs[(client - 1) as usize];
-        stub.step(alloc, &mut self.door, step, log)?;
+        let ended = stub.step(alloc, &mut self.door, step, log);
         self.door.histories();
-        Ok(())
+        ended
     }
 
-    /// Has the operator of `n` centres take a step, which its log has as one of a section. After want of memory a part
-    /// of the step may be left.
+    /// Has the operator of `n` centres take a step, which its log has as one of a section. After an `Err`, want of
+    /// memory, a part of the step may be left: in its log, and at the centres.
     pub fn order(
         &mut self,
         n: u8,
@@ -127,19 +128,27 @@ impl Table {
         requires few { n ≤ MOST_CENTRES }
         requires log { 1 ≤ length self.old.logs.items }
         requires fits { IsOperatorStep n step.now }
-        ensures { OnOk result (HasOperated (record { actor = 1; section = section; step = number }) step.now self.old self.new) }
+        ensures operates { OnOk result (HasOperated (record { actor = 1; section = section; step = number }) step.now self.old self.new) }
+        ensures part { OnErr result (HasOperatedPart (record { actor = 1; section = section; step = number }) self.old self.new) }
     {
         self.door.set(1);
         let log = &mut self.logs[0];
         log.set(section, number);
-        operate(&mut self.door, n, step, log)?;
-        set_link(&mut self.posts, n, step);
-        self.door.histories();
-        Ok(())
+        match operate(&mut self.door, n, step, log) {
+            Ok(()) => {
+                set_link(&mut self.posts, n, step);
+                self.door.histories();
+                Ok(())
+            }
+            Err(refused) => {
+                self.door.histories();
+                Err(refused)
+            }
+        }
     }
 
     /// Has a worker of a centre among `n` do its work, with so many clients, in the round of a number of a section. After
-    /// want of memory a part of it may be done.
+    /// an `Err`, want of memory, a part of it may be done: over its links, in its log, and at the centres.
     pub fn work(
         &mut self,
         alloc: Global,
@@ -155,13 +164,14 @@ impl Table {
         requires clients { clients ≤ MOST_CLIENTS }
         requires centre { (1 ≤ centre) × (centre ≤ n) }
         requires logs { length self.old.logs.items ≡ 1 + clients + 4 * n }
-        ensures { OnOk result (HasMadeRound (record { actor = actor_of clients (work_of centre does); section = section; step = number }) (work_of centre does) self.old self.new) }
+        ensures works { OnOk result (HasMadeRound (record { actor = actor_of clients (work_of centre does); section = section; step = number }) (work_of centre does) self.old self.new) }
+        ensures part { OnErr result (HasMadeRoundPart (record { actor = actor_of clients (work_of centre does); section = section; step = number }) centre does self.old self.new) }
     {
         let actor = does.actor(clients, centre);
         self.door.set(actor);
         let log = &mut self.logs[(actor - 1) as usize];
         log.set(section, number);
-        make_round(
+        let ended = make_round(
             alloc,
             &mut self.posts,
             &mut self.door,
@@ -170,28 +180,33 @@ impl Table {
             centre,
             does,
             log,
-        )?;
+        );
         self.door.histories();
-        Ok(())
+        ended
     }
 
-    /// Has an actor ask a centre, outside of the script, so that no session hears the answer. After want of memory the
-    /// ask may have been made without a note.
+    /// Has an actor ask a centre, outside of the script, so that no session hears the answer. After an `Err`, want of
+    /// memory, the ask was not made, or it was made without a note.
     pub fn ask(&mut self, actor: u32, centre: u8, ask: Ask) -> Result<(), NoMemory>
         requires actor { (1 ≤ actor) × (actor ≤ length self.old.logs.items) }
         requires centre { (1 ≤ centre) × (centre ≤ length self.old.door.centres) }
-        ensures { OnOk result (HasAskedOnce actor centre ask self.old self.new) }
+        ensures asks { OnOk result (HasAskedOnce actor centre ask self.old self.new) }
+        ensures part { OnErr result (HasAskedOncePart actor centre ask self.old self.new) }
     {
         self.door.set(actor);
-        let say = self.door.ask(centre, &ask)?;
         let log = &mut self.logs[(actor - 1) as usize];
         log.set(0, 0);
-        log.push(Deed::Asked {
-            centre,
-            ask,
-            fate: Fate::Unheard(say),
-        })?;
-        self.door.histories();
-        Ok(())
+        match self.door.ask(centre, &ask) {
+            Ok(say) => {
+                let fate = Fate::Unheard(say);
+                let ended = log.push(Deed::Asked { centre, ask, fate });
+                self.door.histories();
+                ended
+            }
+            Err(refused) => {
+                self.door.histories();
+                Err(refused)
+            }
+        }
     }
 }

@@ -1,12 +1,12 @@
 // What a worker does in its turn.
 ghost use Rattle.std.specs.Prelude.{◌≡◌, ◌≤◌, length, IfOk, OnOk, OnErr};
 ghost use Rattle.ids_core.specs.declared.limits.TheConstants.{MOST_CENTRES, MOST_CLIENTS};
-ghost use Rattle.dc_talk.specs.Acting.{acting};
+ghost use Rattle.dc_talk.specs.Acting.{acting, IsCutShort};
 ghost use Rattle.dc_talk.specs.Doors.{IsBehind};
 ghost use Rattle.run_book.specs.Moves.{actor_of};
 ghost use Rattle.script_core.specs.Rounds.{role_number, PrunerDeeds};
 ghost use Rattle.dc_worker.specs.Work.{AddsSuch};
-ghost use Rattle.run_table.specs.Works.{work_of};
+ghost use Rattle.run_table.specs.Works.{work_of, HasWorkedPart};
 ghost use Rattle.run_table.specs.Tables.{HasWorked};
 
 use dc_mail::{Posts, close_all, receive_all, report_all, send_all};
@@ -58,6 +58,7 @@ pub fn prune<D: Door>(door: &mut D, number: u32, centre: u8, log: &mut Log) -> R
     requires { IsBehind (D.shown door.old) centre }
     ensures place { D.place door.new ≡ D.place door.old }
     ensures prunes { OnOk result (AddsSuch (PrunerDeeds centre number) (acting (D.shown door.old) log.old) (acting (D.shown door.new) log.new)) }
+    ensures short { OnErr result (IsCutShort (acting (D.shown door.old) log.old) (acting (D.shown door.new) log.new)) }
 {
     if number % ROUNDS_BETWEEN_PRUNES == 0 {
         prune_round(door, centre, log)?;
@@ -65,8 +66,8 @@ pub fn prune<D: Door>(door: &mut D, number: u32, centre: u8, log: &mut Log) -> R
     Ok(())
 }
 
-/// Does the work of a centre among the `n` behind the door in a round of a number, over the links. After want of memory
-/// a part of it may be done.
+/// Does the work of a centre among the `n` behind the door in a round of a number, over the links. An `Err` is want of
+/// memory: it was done over the links of some first centres, and over that of the next one in part.
 pub(crate) fn make_round<D: Door>(
     alloc: Global,
     posts: &mut Posts,
@@ -82,6 +83,8 @@ pub(crate) fn make_round<D: Door>(
     requires centre { IsBehind (D.shown door.old) centre }
     ensures place { D.place door.new ≡ D.place door.old }
     ensures works { OnOk result (HasWorked n number (work_of centre does) posts.old posts.new (acting (D.shown door.old) log.old) (acting (D.shown door.new) log.new)) }
+    ensures short { OnErr result (IsCutShort (acting (D.shown door.old) log.old) (acting (D.shown door.new) log.new)) }
+    ensures part { OnErr result (HasWorkedPart n centre does posts.old posts.new (acting (D.shown door.old) log.old) (acting (D.shown door.new) log.new)) }
 {
     match does {
         Work::Round(Role::Sender) => send_all(alloc, posts, door, n, centre, log),

@@ -8,3 +8,4 @@ pub mod Phasing
 pub mod Sectioning
 pub mod Naming
 pub mod Outside
+pub mod Parts

@@ -40,7 +40,7 @@ use Rattle.world_core.specs.Events.{TakesStep, TakesOrder, TakesRound, turn_of}
 use Rattle.world_core.specs.Runs.{HasPlayed, MakesMoves}
 use Rattle.run_table.proofs.Numbered.{get_below}
 use Rattle.world_core.proofs.Mail.{new_post_at}
-use Rattle.world_core.proofs.Rounds.{worker_range}
+use Rattle.run_table.proofs.Acting.{worker_range}
 use Rattle.world_core.proofs.Worlds.{stub_named, stub_got}
 
 -- ---- at first

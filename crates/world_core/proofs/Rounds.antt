@@ -28,6 +28,7 @@ use Rattle.run_table.specs.declared.works.Work.TheVariants.{Round, Close}
 use Rattle.run_table.specs.Works.{work_of}
 use Rattle.world_core.specs.Worlds.{IsWorld, stub_at, notes_in, stage_of, seen_of}
 use Rattle.run_table.specs.Tables.{HasMadeRound, stage_with, Turn, HasPosts}
+use Rattle.run_table.proofs.Acting.{worker_range}
 use Rattle.world_core.specs.Events.{TakesRound}
 use Rattle.world_core.proofs.Worlds.{centre_count, HasActed, more, world_then, histories_then, stub_got}
 use Rattle.world_core.proofs.Mail.{mail_after}
@@ -35,15 +36,7 @@ use Rattle.world_core.proofs.Turns.{trails_made, behind_go}
 
 -- ---- who
 
--- a worker is one of the actors, and no client
-pub worker_range : (clients n centre : ℕ) (work : Work) → IsCount n centre → (clients + 2 ≤ actor_of clients (work_of centre work)) × (actor_of clients (work_of centre work) ≤ 1 + clients + 4 * n)
-worker_range clients n centre (Round Sender) range = (omega arith, omega (arith, range.0, range.1))
-worker_range clients n centre (Round Receiver) range = (omega arith, omega (arith, range.0, range.1))
-worker_range clients n centre (Round Reporter) range = (omega arith, omega (arith, range.0, range.1))
-worker_range clients n centre (Round Pruner) range = (omega arith, omega (arith, range.0, range.1))
-worker_range clients n centre Close range = (omega arith, omega (arith, range.0, range.1))
-
--- it is a carrier
+-- a worker is a carrier
 work_carrier : (n clients centre : ℕ) (work : Work) → IsCount n centre → IsCarrier n clients (actor_of clients (work_of centre work))
 work_carrier n clients centre (Round role) range = worker_carries n clients centre role range
 work_carrier n clients centre Close range = worker_carries n clients centre Receiver range

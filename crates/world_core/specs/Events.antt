@@ -1,5 +1,5 @@
 -- What may happen in a world, and what each event leaves.
-use Rattle.std.specs.Prelude.{◌≡◌, ℕ, ◌+◌, ◌-◌, ◌==◌, ◌&&◌, nat_le, cond, List, [], ◌∷◌, Option, Some, None, slice_get, slice_set}
+use Rattle.std.specs.Prelude.{◌≡◌, ◌≢◌, ◌⊎◌, ℕ, ◌+◌, ◌-◌, ◌==◌, ◌&&◌, nat_le, cond, map, List, [], ◌∷◌, ◌++◌, Option, Some, None, slice_get, slice_set}
 use Rattle.std.specs.Option.{option_map, option_and_then}
 use Rattle.list_core.specs.Choices.{when}
 use Rattle.tx_core.specs.declared.tx.Tx.{Tx}
@@ -11,8 +11,13 @@ use Rattle.dc_talk.specs.declared.say.Say.TheVariants.{Records}
 use Rattle.dc_talk.specs.declared.log.Fate.TheVariants.{Unheard}
 use Rattle.dc_talk.specs.declared.log.Deed.{Deed}
 use Rattle.dc_talk.specs.declared.log.Deed.TheVariants.{Asked}
-use Rattle.dc_talk.specs.Logs.{marked}
-use Rattle.dc_door.specs.KeptDoors.{trail_at}
+use Rattle.dc_talk.specs.declared.log.Note.{Note}
+use Rattle.dc_talk.specs.Entries.{Entry}
+use Rattle.dc_talk.specs.Logs.{Logged, marked}
+use Rattle.dc_talk.specs.Doors.{DoorView}
+use Rattle.dc_talk.specs.Acting.{acting}
+use Rattle.dc_door.specs.Centres.{CentreTrail}
+use Rattle.dc_door.specs.KeptDoors.{trail_at, shown_of, begun}
 use Rattle.script_core.specs.declared.script.Script.{Script}
 use Rattle.script_core.specs.declared.steps.Section.{Section}
 use Rattle.script_core.specs.declared.steps.ClientStep.{ClientStep}
@@ -30,7 +35,9 @@ use Rattle.world_core.specs.declared.event.Event.{Event}
 use Rattle.world_core.specs.declared.event.Event.TheVariants.{Client, Operator, Round, Again, Carry}
 use Rattle.world_core.specs.declared.event.Played.{Played}
 use Rattle.world_core.specs.declared.event.Played.TheVariants.{Done, NoSuch}
-use Rattle.run_table.specs.Tables.{Turn, log_at, HasPosts}
+use Rattle.run_table.specs.declared.works.Work.{Work}
+use Rattle.run_table.specs.Works.{work_of, HasWorkedPart}
+use Rattle.run_table.specs.Tables.{Turn, log_at, log_in, AreHistories, HasPosts}
 use Rattle.world_core.specs.Worlds.{WorldView, IsWorld, Acts, stub_at, progress_at, notes_in, stage_of}
 
 -- ---- what is named
@@ -136,6 +143,62 @@ Plays (Operator section step) old new played = Goes (step_named operator_steps o
 Plays (Round section round centre role) old new played = Goes (work_named old.script section round centre role) (λ does. TakesRound (turn_of old.script section round does) does) old new played
 Plays (Again client note centre) old new played = Goes (if_centre old centre (commit_named old client note)) (λ tx. AsksOnce (client + 1) centre (Commit tx)) old new played
 Plays (Carry from entry index to) old new played = Goes (if_centre old to (record_named old from entry index)) (λ sent. AsksOnce 1 to (delivery_of sent)) old new played
+
+-- ---- an early end
+
+-- the turn of an actor came to an early end: its log has some notes more, and the trail of each centre some entries more,
+-- each of them with the answer that is due; no other log changed, and no setting of a centre did
+pub record ActsPart (actor : ℕ) (old new : WorldView) : Type 0 where
+  pub script : new.script ≡ old.script
+  pub notes : List Note
+  pub own : (log_at new.logs actor).notes ≡ (log_at old.logs actor).notes ++ notes
+  pub others : (other : ℕ) → other ≢ actor → log_at new.logs other ≡ log_at old.logs other
+  pub more : ℕ → List Entry
+  pub trails : (i : ℕ) → trail_at new.centres i ≡ trail_at old.centres i ++ more i
+  pub settings : map (λ (centre : CentreTrail). centre.settings) new.centres ≡ map (λ (centre : CentreTrail). centre.settings) old.centres
+  pub histories : AreHistories new.centres
+
+-- that of a client: of the clients this one alone may have changed, and no link did
+pub record TakesStepPart (client : ℕ) (old new : WorldView) : Type 0 where
+  pub later : StubView
+  pub stubs : new.stubs ≡ slice_set old.stubs (client - 1) later
+  pub posts : new.posts ≡ old.posts
+  pub acts : ActsPart (client + 1) old new
+
+-- that of the operator: no client changed, and no link
+pub record TakesOrderPart (old new : WorldView) : Type 0 where
+  pub stubs : new.stubs ≡ old.stubs
+  pub posts : new.posts ≡ old.posts
+  pub acts : ActsPart 1 old new
+
+-- that of a worker: no client changed, and the links as far as its work came
+pub record TakesRoundPart (turn : Turn) (centre : ℕ) (does : Work) (old new : WorldView) : Type 0 where
+  pub door : DoorView
+  pub log : Logged
+  pub works : HasWorkedPart old.script.n centre does old.posts new.posts (acting (shown_of (begun turn.actor old.centres)) (log_in turn (log_at old.logs turn.actor))) (acting door log)
+  pub stubs : new.stubs ≡ old.stubs
+  pub acts : ActsPart turn.actor old new
+
+-- an ask outside of the script came to an early end: nothing changed, or the centre answered it and no log has a note of it
+pub record AsksOncePart (centre : ℕ) (old new : WorldView) : Type 0 where
+  pub script : new.script ≡ old.script
+  pub stubs : new.stubs ≡ old.stubs
+  pub posts : new.posts ≡ old.posts
+  pub notes : (actor : ℕ) → (log_at new.logs actor).notes ≡ (log_at old.logs actor).notes
+  pub trail : (trail_at new.centres centre ≡ trail_at old.centres centre) ⊎ ((entry : Entry) × (trail_at new.centres centre ≡ trail_at old.centres centre ++ entry ∷ []))
+  pub others : (i : ℕ) → i ≢ centre → trail_at new.centres i ≡ trail_at old.centres i
+  pub settings : map (λ (centre : CentreTrail). centre.settings) new.centres ≡ map (λ (centre : CentreTrail). centre.settings) old.centres
+  pub histories : AreHistories new.centres
+
+-- what is left by an event that came to an early end
+abbrev pub PlaysPart : Event → WorldView → WorldView → Type 0
+PlaysPart (Client client section step) old new = TakesStepPart client old new
+PlaysPart (Operator section step) old new = TakesOrderPart old new
+PlaysPart (Round section round centre role) old new = (does : Work) × (work_named old.script section round centre role ≡ Some (work_of centre does)) × TakesRoundPart (turn_of old.script section round (work_of centre does)) centre does old new
+PlaysPart (Again client note centre) old new = AsksOncePart centre old new
+PlaysPart (Carry from entry index to) old new = AsksOncePart to old new
+
+-- ---- what may be asked
 
 -- an actor may ask so next, and no session hears the answer
 abbrev pub MayAsk : ℕ → ℕ → Ask → WorldView → Type 0

@@ -1,6 +1,6 @@
 // Events, played in a world.
 ghost use Rattle.std.specs.Prelude.{◌≡◌, true, false, IfOk, OnErr, IsErr};
-ghost use Rattle.world_core.specs.Events.{Plays};
+ghost use Rattle.world_core.specs.Events.{Plays, PlaysPart};
 
 use crate::event::{Event, Played};
 use crate::finding::{client_step_named, operator_step_named, work_named};
@@ -21,6 +21,7 @@ impl<'a> World<'a> {
         ensures plays { IfOk result (Plays (Event.Client client section step) self.old self.new) }
         ensures script { self.new.script ≡ self.old.script }
         ensures spent { OnErr result (self.new.spent ≡ true) }
+        ensures part { OnErr result (PlaysPart (Event.Client client section step) self.old self.new) }
     {
         match client_step_named(self.script, client, section, step) {
             Some(does) => {
@@ -37,6 +38,7 @@ impl<'a> World<'a> {
         ensures plays { IfOk result (Plays (Event.Operator section step) self.old self.new) }
         ensures script { self.new.script ≡ self.old.script }
         ensures spent { OnErr result (self.new.spent ≡ true) }
+        ensures part { OnErr result (PlaysPart (Event.Operator section step) self.old self.new) }
     {
         match operator_step_named(self.script, section, step) {
             Some(does) => {
@@ -60,6 +62,7 @@ impl<'a> World<'a> {
         ensures plays { IfOk result (Plays (Event.Round section round centre role) self.old self.new) }
         ensures script { self.new.script ≡ self.old.script }
         ensures spent { OnErr result (self.new.spent ≡ true) }
+        ensures part { OnErr result (PlaysPart (Event.Round section round centre role) self.old self.new) }
     {
         match work_named(self.script, section, round, centre, role) {
             Some(does) => {
@@ -76,6 +79,7 @@ impl<'a> World<'a> {
         ensures plays { IfOk result (Plays (Event.Again client note centre) self.old self.new) }
         ensures script { self.new.script ≡ self.old.script }
         ensures spent { OnErr result (self.new.spent ≡ true) }
+        ensures part { OnErr result (PlaysPart (Event.Again client note centre) self.old self.new) }
     {
         match self.late_ask(client, note, centre) {
             Ok(Some(ask)) => {
@@ -84,6 +88,7 @@ impl<'a> World<'a> {
             }
             Ok(None) => Ok(Played::NoSuch),
             Err(_) => {
+                self.table.door.histories();
                 self.spent = true;
                 Err(NoMemory)
             }
@@ -96,6 +101,7 @@ impl<'a> World<'a> {
         ensures plays { IfOk result (Plays (Event.Carry from entry index to) self.old self.new) }
         ensures script { self.new.script ≡ self.old.script }
         ensures spent { OnErr result (self.new.spent ≡ true) }
+        ensures part { OnErr result (PlaysPart (Event.Carry from entry index to) self.old self.new) }
     {
         match self.carry_ask(from, entry, index, to) {
             Ok(Some(ask)) => {
@@ -104,6 +110,7 @@ impl<'a> World<'a> {
             }
             Ok(None) => Ok(Played::NoSuch),
             Err(_) => {
+                self.table.door.histories();
                 self.spent = true;
                 Err(NoMemory)
             }
@@ -111,12 +118,14 @@ impl<'a> World<'a> {
     }
 
     /// Plays an event: what it does is done, or nothing where what it names is not there. An `Err` is want of memory.
-    /// The world is spent then: it may have a part of the event, and every later event and `finish` answer `Err`.
+    /// The world is spent then: it has a part of the event, and stays so, and every later event and `finish` answer `Err`.
     pub fn play(&mut self, alloc: Global, event: &Event) -> Result<Played, NoMemory>
         ensures plays { IfOk result (Plays event.now self.old self.new) }
         ensures script { self.new.script ≡ self.old.script }
         ensures spent { OnErr result (self.new.spent ≡ true) }
+        ensures part { OnErr result (self.old.spent ≡ false → PlaysPart event.now self.old self.new) }
         ensures refuses { self.old.spent ≡ true → IsErr result }
+        ensures stays { self.old.spent ≡ true → self.new ≡ self.old }
     {
         if self.spent {
             return Err(NoMemory);

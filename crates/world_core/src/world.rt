@@ -6,7 +6,7 @@ ghost use Rattle.run_table.specs.Tables.{new_stubs};
 ghost use Rattle.script_core.specs.Scripts.{IsInRange};
 ghost use Rattle.dc_mail.specs.Posts.{new_posts};
 ghost use Rattle.run_table.specs.Works.{work_of};
-ghost use Rattle.world_core.specs.Events.{TakesStep, TakesOrder, TakesRound, AsksOnce, MayAsk, turn_of};
+ghost use Rattle.world_core.specs.Events.{TakesStep, TakesOrder, TakesRound, AsksOnce, MayAsk, TakesStepPart, TakesOrderPart, TakesRoundPart, AsksOncePart, turn_of};
 ghost use Rattle.world_core.specs.Runs.{IsWorldBook};
 
 use dc_talk::Ask;
@@ -60,7 +60,8 @@ impl<'a> World<'a> {
         })
     }
 
-    /// Has a client take a step as one of a section. After an `Err`, want of memory, the world is spent.
+    /// Has a client take a step as one of a section. After an `Err`, want of memory, the world is spent, and has a part
+    /// of the step.
     pub(crate) fn take(
         &mut self,
         alloc: Global,
@@ -75,6 +76,7 @@ impl<'a> World<'a> {
         ensures takes { OnOk result (TakesStep (record { actor = client + 1; section = section; step = number }) step.now self.old self.new) }
         ensures script { self.new.script ≡ self.old.script }
         ensures spent { OnErr result (self.new.spent ≡ true) }
+        ensures part { OnErr result (TakesStepPart client self.old self.new) }
     {
         self.spent = true;
         self.table.step(alloc, client, section, number, step)?;
@@ -82,7 +84,8 @@ impl<'a> World<'a> {
         Ok(())
     }
 
-    /// Has the operator take a step as one of a section. After an `Err`, want of memory, the world is spent.
+    /// Has the operator take a step as one of a section. After an `Err`, want of memory, the world is spent, and has a
+    /// part of the step.
     pub(crate) fn order(
         &mut self,
         section: u32,
@@ -94,6 +97,7 @@ impl<'a> World<'a> {
         ensures takes { OnOk result (TakesOrder (record { actor = 1; section = section; step = number }) step.now self.old self.new) }
         ensures script { self.new.script ≡ self.old.script }
         ensures spent { OnErr result (self.new.spent ≡ true) }
+        ensures part { OnErr result (TakesOrderPart self.old self.new) }
     {
         self.spent = true;
         self.table.order(self.script.n, section, number, step)?;
@@ -102,7 +106,7 @@ impl<'a> World<'a> {
     }
 
     /// Has a worker of a centre do its work in the round of a number of a section. After an `Err`, want of memory, the
-    /// world is spent.
+    /// world is spent, and has a part of the round.
     pub(crate) fn work(
         &mut self,
         alloc: Global,
@@ -116,6 +120,7 @@ impl<'a> World<'a> {
         ensures works { OnOk result (TakesRound (turn_of self.old.script section number (work_of centre does)) (work_of centre does) self.old self.new) }
         ensures script { self.new.script ≡ self.old.script }
         ensures spent { OnErr result (self.new.spent ≡ true) }
+        ensures part { OnErr result (TakesRoundPart (turn_of self.old.script section number (work_of centre does)) centre does self.old self.new) }
     {
         self.spent = true;
         let script = self.script;
@@ -133,7 +138,7 @@ impl<'a> World<'a> {
     }
 
     /// Has an actor ask a centre, outside of the script, so that no session hears the answer. After an `Err`, want of
-    /// memory, the world is spent.
+    /// memory, the world is spent, and the ask was not made, or made without a note.
     pub(crate) fn ask_once(&mut self, actor: u32, centre: u8, ask: Ask) -> Result<(), NoMemory>
         requires fresh { self.old.spent ≡ false }
         requires actor { (1 ≤ actor) × (actor ≤ length self.old.logs) }
@@ -142,6 +147,7 @@ impl<'a> World<'a> {
         ensures asks { OnOk result (AsksOnce actor centre ask self.old self.new) }
         ensures script { self.new.script ≡ self.old.script }
         ensures spent { OnErr result (self.new.spent ≡ true) }
+        ensures part { OnErr result (AsksOncePart centre self.old self.new) }
     {
         self.spent = true;
         self.table.ask(actor, centre, ask)?;

@@ -33,7 +33,7 @@ returns-in-Client c =
     let is : IsCount script.clients client × IsStep script.n step = subst (IsStepOf (header_of script)) c.in-Client.is c.requires.step in
     on_turn c.step.result (HasStepped (turn_in c.args.number (client + 1)) step old c.step.new.self) (HasPlayed script c.args.number (section_of c.args.step.now) old c.step.new.self)
     (λ takes. subst (λ it. HasPlayed script c.args.number (section_of it) old c.step.new.self) (sym c.in-Client.is) (client_line script c.args.number client step old c.step.new.self c.requires.table is.0 takes))
-    c.step.ensures
+    c.step.ensures.steps
 
 pub returns-in-Operator : goal.returns-in-Operator
 returns-in-Operator c =
@@ -42,4 +42,4 @@ returns-in-Operator c =
     let step = c.in-Operator.step in
     on_turn c.order.result (HasOperated (turn_in c.args.number 1) step old c.order.new.self) (HasPlayed script c.args.number (section_of c.args.step.now) old c.order.new.self)
     (λ takes. subst (λ it. HasPlayed script c.args.number (section_of it) old c.order.new.self) (sym c.in-Operator.is) (order_line script c.args.number step old c.order.new.self c.requires.table takes))
-    c.order.ensures
+    c.order.ensures.operates
