@@ -1,5 +1,5 @@
 // The clients of a phase, some of them in one thread, which take their steps in turns.
-ghost use Rattle.std.specs.Prelude.{◌≡◌, ◌≤◌, ◌<◌, ◌-◌, map, length, IfOk, OnOk, IsTrue, All};
+ghost use Rattle.std.specs.Prelude.{◌≡◌, ◌↔◌, ◌≤◌, ◌<◌, ◌-◌, map, length, IfOk, OnOk, IsTrue, All};
 ghost use Rattle.std.specs.List.{AllZip};
 ghost use Rattle.script_core.specs.Steps.{IsCount};
 ghost use Rattle.client_stub.specs.Playing.{IsLinkBehind};
@@ -77,14 +77,14 @@ fn take_turn<D: Door>(
 
 // Whether a step is left to a client at its seat.
 fn has_more<R, G: Gate>(scene: Scene<'_>, seat: &Seat<'_, R, G>) -> bool
-    ensures { IsTrue result ↔ (seat.now.taken < length (line_of scene.dealt.now seat.now.client)) }
+    ensures { IsTrue result ↔ (seat.now.taken < length (line_of scene.entry.dealt.now seat.now.client)) }
 {
     (seat.taken as usize) < scene.dealt.step_count(seat.client)
 }
 
 // Whether there is a client at this place to whom a step is left.
 fn is_left<R, G: Gate>(scene: Scene<'_>, seats: &[Seat<'_, R, G>], place: usize) -> bool
-    ensures { IsTrue result → IsLeftAt scene seats.now place }
+    ensures { IsTrue result → IsLeftAt scene.entry seats.now place }
 {
     match seats.get(place) {
         Some(seat) => has_more(scene, seat),

@@ -1,4 +1,4 @@
-use Rattle.std.proofs.Common.{List, map, subst}
+use Rattle.std.proofs.Common.{rules, List, map, subst}
 use Rattle.std.specs.Prelude.{All}
 use Rattle.std.specs.List.{AllZip}
 use Rattle.std.proofs.lemmas.Result.{IfOk-weaker}
@@ -8,7 +8,9 @@ use Rattle.phase_actors.proofs.Seating.{gone_seats, all_ended}
 use Rattle.phase_actors.proofs.clients.play_clients.Goals as goal
 
 pub end_all-requires-clause-seats : goal.end_all-requires-clause-seats
-end_all-requires-clause-seats g c = gone_seats c.args.scene c.in_ok-seats.seats.items c.take_turns.new.seats.items c.in_ok-take_turns.ensures
+end_all-requires-clause-seats g c =
+    let all : All (IsSeatOf c.args.scene) c.take_turns.new.seats.items = gone_seats c.args.scene c.in_ok-seats.seats.items c.take_turns.new.seats.items c.in_ok-take_turns.ensures in
+    search rules
 
 pub returns : goal.returns
 returns g c =

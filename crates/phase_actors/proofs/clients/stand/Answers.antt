@@ -1,4 +1,4 @@
-use Rattle.std.proofs.Common.{rules, ◌≡◌, sym, ◌∙◌, subst}
+use Rattle.std.proofs.Common.{rules, ◌≡◌, sym, ap, ◌∙◌, subst}
 use Rattle.phase_actors.specs.Clients.{SeatView}
 use Rattle.phase_actors.proofs.clients.stand.Goals as goal
 
@@ -7,7 +7,7 @@ returns g c = λ actor.
     let seat = c.seat.inside in
     let rows : c.part.result.items ≡ seat.door.passes = search rules in
     let own : seat.door.actor ≡ seat.log.actor = subst (λ (seat : SeatView). seat.door.actor ≡ seat.log.actor) (sym c.seat.view_is) actor in
-    let old : SeatView = record { client = seat.client; stub = seat.stub; door = seat.door; log = seat.log } in
-    let new : SeatView = record { client = seat.client; stub = seat.stub; door = record { actor = seat.log.actor; passes = c.part.result.items }; log = seat.log } in
-    let same : new ≡ old = λ j. record { client = seat.client; stub = seat.stub; door = record { actor = sym own j; passes = rows j }; log = seat.log } in
-    same ∙ c.seat.view_is
+    let old : SeatView = record { client = seat.client; stub = seat.stub; door = seat.door; log = seat.log; taken = 0 } in
+    let new : SeatView = record { client = seat.client; stub = seat.stub; door = record { actor = seat.log.actor; passes = c.part.result.items }; log = seat.log; taken = 0 } in
+    let same : new ≡ old = λ j. record { client = seat.client; stub = seat.stub; door = record { actor = sym own j; passes = rows j }; log = seat.log; taken = 0 } in
+    same ∙ ap (λ (seat : SeatView). record seat { taken = 0 }) c.seat.view_is
