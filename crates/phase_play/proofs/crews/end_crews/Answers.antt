@@ -1,4 +1,4 @@
-use Rattle.std.proofs.Common.{List, [], ◌∷◌, ◌++◌, sym, subst}
+use Rattle.std.proofs.Common.{List, sym, subst}
 use Rattle.std.specs.List.{AllZip}
 use Rattle.phase_play.specs.declared.crews.Crew.{Crew}
 use Rattle.phase_play.specs.Crews.{WillPlay}
