@@ -67,7 +67,7 @@ module _ (scene : Scene) where
   seat_stays seat is = record { is = is; gone = record { same = record { client = refl; actor = refl; passes = refl }; turned = λ first was. was } }
 
   -- one that takes some steps, and then more
-  seat_then : (a b c : SeatView) → HasSeatGone scene a b → HasSeatGone scene b c → HasSeatGone scene a c
+  pub seat_then : (a b c : SeatView) → HasSeatGone scene a b → HasSeatGone scene b c → HasSeatGone scene a c
   seat_then a b c one two = record {
     is = two.is;
     gone = record {

@@ -1,0 +1,19 @@
+use Rattle.std.proofs.Common.{◌≡◌, ◌<◌, List, Some, length, refl, subst}
+use Rattle.std.specs.Prelude.{slice_get}
+use Rattle.std.proofs.lemmas.Option.{slice_get_read, slice_get_within}
+use Rattle.phase_actors.specs.Clients.{SeatView}
+use Rattle.phase_actors.specs.Actors.{IsLeftAt}
+use Rattle.phase_actors.proofs.Seating.{seats_stay, seats_at}
+use Rattle.phase_actors.proofs.clients.turn_at.Goals as goal
+
+pub returns-in_ok-turn_one : goal.returns-in_ok-turn_one
+returns-in_ok-turn_one g c =
+    let seats = c.args.seats.now.items in
+    let seat = c.index_mut.result.now in
+    let left : IsLeftAt c.args.scene seats c.args.place = subst (λ (seats : List SeatView). IsLeftAt c.args.scene seats c.args.place) c.as_slice.ensures.value (c.is_left.ensures c.if-is_left.true) in
+    let inside : c.args.place < length seats = slice_get_within seats c.args.place left.seat left.there in
+    let there : slice_get seats c.args.place ≡ Some seat = slice_get_read seats (length seats) c.args.place seat refl inside c.index_mut.ensures.value in
+    seats_at c.args.scene seats c.args.place seat c.turn_one.new.seat c.requires.seats there c.in_ok-turn_one.ensures.went
+
+pub returns-else-is_left : goal.returns-else-is_left
+returns-else-is_left g c = seats_stay c.args.scene c.args.seats.now.items c.requires.seats
