@@ -1,0 +1,5 @@
+pub mod RightsRead
+pub mod Guarding
+pub mod Steps
+pub mod Spared
+pub mod CellReads
