@@ -38,7 +38,7 @@ fn tx_of(alloc: Global, number: u64, object: &ObjectId, delta: i64) -> Result<Tx
     inc_tx(alloc, dot, 1, pair(0, 0), object, &[delta, 1])
 }
 
-// The same of the transaction of that number, which adds two deltas to a counter.
+// Folds the transaction of that number, which adds a delta and then 1 to a counter; whether it was folded.
 fn fold_one(
     alloc: Global,
     point: &mut Point,

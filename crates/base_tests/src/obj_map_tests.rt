@@ -36,7 +36,7 @@ fn tags_of(alloc: Global, state: &MapState, key: &Name) -> Result<usize, NoMemor
     Ok(state.tags_of(alloc, key)?.as_slice().len())
 }
 
-// Whether a map has these words.
+// Whether a map has these keys, each with its word.
 fn has(alloc: Global, state: &MapState, want: &[(Name, Name)]) -> Result<bool, NoMemory> {
     Ok(state.value(alloc)?.as_slice() == want)
 }
@@ -49,7 +49,7 @@ fn is_copied(alloc: Global, state: &MapState, a: Name, b: Name) -> Result<bool, 
     Ok(has && tags == 2)
 }
 
-// Whether a map that was filled so is then as it is to be.
+// Whether the copy of a map with those puts and that erase is so.
 fn is_filled(alloc: Global, a: Name, b: Name) -> Result<bool, Fail> {
     let mut state = fold_all::<MapState>(alloc, &[])?;
     fill(alloc, &mut state, a, b)?;

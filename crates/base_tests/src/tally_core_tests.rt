@@ -57,7 +57,7 @@ fn is_copied(alloc: Global, tallies: &Tallies<u8>, name: &Name) -> Result<bool, 
     Ok(live && kept && names == 1)
 }
 
-// Whether it is so where tallies were filled.
+// Whether the copy of tallies with that remove and those adds is so.
 fn is_filled(alloc: Global, name: &Name) -> Result<bool, Fail> {
     let mut tallies = Tallies::new(alloc);
     fill(alloc, &mut tallies, name)?;
