@@ -23,6 +23,7 @@ name|c1 inc C.a 5
 kind|c1 inc s.a 5
 place|clients 1
 byte|c1 begin\0007
+byte|c1 inc c.a\0001 5
 word|c begin
 word|cx begin
 word|c1x begin

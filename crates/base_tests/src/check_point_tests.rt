@@ -2,10 +2,11 @@
 ghost use Rattle.std.specs.Prelude.{◌≤◌, length, IfOk};
 ghost use Rattle.ids_core.specs.declared.limits.TheConstants.{MOST_UPDATES};
 
-use check_point::{Point, law_parting};
+use check_point::Point;
 use ids_core::{Dot, NoMemory, ObjectId};
 use samples::{counter, inc_tx, pair};
 use std::alloc::Global;
+use std::process::Abort;
 use std::test::Fail;
 use tx_core::{Tx, Value};
 use vv_core::Vector;
@@ -37,23 +38,31 @@ fn tx_of(alloc: Global, number: u64, object: &ObjectId, delta: i64) -> Result<Tx
     inc_tx(alloc, dot, 1, pair(0, 0), object, &[delta, 1])
 }
 
-// Folds three transactions on two counters; whether each was folded.
-fn fold_all(
+// Folds the transaction of that number, which adds a delta and then 1 to a counter; whether it was folded.
+fn fold_one(
     alloc: Global,
     point: &mut Point,
-    a: &ObjectId,
-    b: &ObjectId,
+    to: &Vector,
+    number: u64,
+    object: &ObjectId,
+    delta: i64,
 ) -> Result<bool, NoMemory> {
-    let first = fold(alloc, point, &pair(1, 0), tx_of(alloc, 1, a, 4)?)?;
-    let second = fold(alloc, point, &pair(1, 2), tx_of(alloc, 2, b, 6)?)?;
-    let third = fold(alloc, point, &pair(1, 3), tx_of(alloc, 3, a, 1)?)?;
-    Ok(first && second && third)
+    let tx = tx_of(alloc, number, object, delta)?;
+    fold(alloc, point, to, tx)
+}
+
+// Whether a value is this number.
+fn is_number(value: &Value, sum: i128) -> bool {
+    match value {
+        Value::Number(number) => *number == sum,
+        _ => false,
+    }
 }
 
 // Whether the counter has this sum at the point.
 fn has(alloc: Global, point: &Point, object: &ObjectId, sum: i128) -> Result<bool, NoMemory> {
-    let value = point.state(alloc, object)?.value(alloc)?;
-    Ok(matches!(value, Value::Number(number) if number == sum))
+    let state = point.state(alloc, object)?;
+    Ok(is_number(&state.value(alloc)?, sum))
 }
 
 // Whether the point has what three transactions of client 7 leave.
@@ -64,15 +73,26 @@ fn is_whole(point: &Point) -> bool {
         && point.folded() == 3
 }
 
+// Folds three transactions on two counters, and looks at what they leave.
+fn fold_all(
+    rt: &impl Abort,
+    alloc: Global,
+    point: &mut Point,
+    a: &ObjectId,
+    b: &ObjectId,
+) -> Result<(), NoMemory> {
+    assert!(rt; fold_one(alloc, point, &pair(1, 0), 1, a, 4)?);
+    assert!(rt; fold_one(alloc, point, &pair(1, 2), 2, b, 6)?);
+    assert!(rt; fold_one(alloc, point, &pair(1, 3), 3, a, 1)?);
+    assert!(rt; is_whole(point));
+    assert!(rt; has(alloc, point, a, 7)?);
+    assert!(rt; has(alloc, point, b, 7)?);
+    Ok(())
+}
+
 #[test]
 fn a_point_adds_up(rt: HostRuntime) -> Result<(), Fail> {
-    law_parting();
-    let alloc = rt.alloc();
     let (a, b) = (counter("a")?, counter("b")?);
-    let mut point = Point::new(alloc, 2)?;
-    let all = fold_all(alloc, &mut point, &a, &b)?;
-    assert!(rt; all && is_whole(&point));
-    let sums = has(alloc, &point, &a, 7)? && has(alloc, &point, &b, 7)?;
-    assert!(rt; sums);
-    Ok(())
+    let mut point = Point::new(rt.alloc(), 2)?;
+    Ok(fold_all(&rt, rt.alloc(), &mut point, &a, &b)?)
 }

@@ -1,6 +1,6 @@
 // Counters.
-use ids_core::{Kind, Mark, NoMemory, fold_all, law_order};
-use obj_counter::{CounterOp, CounterState, law_counter};
+use ids_core::{Kind, Mark, NoMemory, fold_all};
+use obj_counter::{CounterOp, CounterState};
 use samples::{id, mark};
 use std::alloc::Global;
 use std::test::Fail;
@@ -18,8 +18,6 @@ fn sum(alloc: Global, ops: &[(Mark, CounterOp)]) -> Result<i128, NoMemory> {
 
 #[test]
 fn deltas_add_up_in_either_order(rt: HostRuntime) -> Result<(), Fail> {
-    law_order::<CounterState>();
-    law_counter();
     let ops = [add(0, 5), add(1, -7), add(2, 4)];
     assert_eq!(rt; sum(rt.alloc(), &ops)?, 2);
     let back = [add(2, 4), add(1, -7), add(0, 5)];

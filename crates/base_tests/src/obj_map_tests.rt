@@ -1,6 +1,6 @@
 // Maps.
-use ids_core::{Kind, Name, Tags, fold_all};
-use obj_map::{MapOp, MapState, law_live, law_value};
+use ids_core::{Kind, Name, NoMemory, Tags, fold_all};
+use obj_map::{MapOp, MapState};
 use samples::{id, mark};
 use std::alloc::Global;
 use std::test::Fail;
@@ -31,19 +31,33 @@ fn fill(alloc: Global, state: &mut MapState, a: Name, b: Name) -> Result<(), Fai
     take(alloc, state, a, Some(a), 5, 1, 9)
 }
 
-// Whether the map then has each key under itself, and two tags of the first.
+// How many tags a map has of a key.
+fn tags_of(alloc: Global, state: &MapState, key: &Name) -> Result<usize, NoMemory> {
+    Ok(state.tags_of(alloc, key)?.as_slice().len())
+}
+
+// Whether a map has these keys, each with its word.
+fn has(alloc: Global, state: &MapState, want: &[(Name, Name)]) -> Result<bool, NoMemory> {
+    Ok(state.value(alloc)?.as_slice() == want)
+}
+
+// Whether the copy of a map has each key under itself, and two tags of the second.
+fn is_copied(alloc: Global, state: &MapState, a: Name, b: Name) -> Result<bool, NoMemory> {
+    let copy = MapState::copy(state)?;
+    let tags = tags_of(alloc, &copy, &b)?;
+    let has = has(alloc, &copy, &[(a, a), (b, b)])?;
+    Ok(has && tags == 2)
+}
+
+// Whether the copy of a map with those puts and that erase is so.
 fn is_filled(alloc: Global, a: Name, b: Name) -> Result<bool, Fail> {
     let mut state = fold_all::<MapState>(alloc, &[])?;
     fill(alloc, &mut state, a, b)?;
-    let copy = MapState::copy(&state)?;
-    let tags = copy.tags_of(alloc, &b)?.as_slice().len();
-    Ok(tags == 2 && copy.value(alloc)?.as_slice() == [(a, a), (b, b)].as_slice())
+    Ok(is_copied(alloc, &state, a, b)?)
 }
 
 #[test]
 fn the_greatest_live_put_wins(rt: HostRuntime) -> Result<(), Fail> {
-    law_live();
-    law_value();
     assert!(rt; is_filled(rt.alloc(), Name::read(b"a")?, Name::read(b"b")?)?);
     Ok(())
 }

@@ -1,6 +1,6 @@
 // Registers.
-use ids_core::{Kind, Mark, Name, NoMemory, fold_all, law_order};
-use obj_register::{RegisterOp, RegisterState, law_register};
+use ids_core::{Kind, Mark, Name, NoMemory, fold_all};
+use obj_register::{RegisterOp, RegisterState};
 use samples::{id, mark};
 use std::alloc::Global;
 use std::test::Fail;
@@ -25,8 +25,6 @@ fn wins(alloc: Global, below: &Mark, above: &Mark) -> Result<bool, Fail> {
 
 #[test]
 fn the_greatest_mark_wins_in_either_order(rt: HostRuntime) -> Result<(), Fail> {
-    law_order::<RegisterState>();
-    law_register();
     assert!(rt; read(rt.alloc(), &[])?.is_none());
     for (below, above) in [
         (mark(1, id(9, 9, 9)), mark(2, id(1, 1, 0))),

@@ -3,10 +3,7 @@ use ids_core::{Dot, Name, NoMemory, ObjectId, OpId, Sort, Tags};
 use samples::{counter, id, inc, inc_tx, mark, pair};
 use std::alloc::Global;
 use std::test::Fail;
-use tx_core::{
-    NamePairs, Names, Op, Record, State, Tx, TxFault, Update, Updates, Value, law_state_order,
-    law_state_tags, law_state_value,
-};
+use tx_core::{NamePairs, Names, Op, Record, State, Tx, TxFault, Update, Updates, Value};
 use vv_core::Stamp;
 
 // The identifier of an update of the first transaction of client 1.
@@ -49,16 +46,32 @@ fn is_words(value: &Value, want: &Names) -> Result<bool, NoMemory> {
     }
 }
 
-// Whether the copy of a set that was filled so is the second word alone, with one tag.
+// Whether a set is read as this word alone.
+fn has_alone(alloc: Global, state: &State, word: Name) -> Result<bool, Fail> {
+    let want = Names::from_vec(alloc, vec![in alloc; word]?)?;
+    let value = state.value(alloc)?;
+    Ok(is_words(&value, &want)?)
+}
+
+// How many tags a state has of a word.
+fn tag_count(alloc: Global, state: &State, word: &Name) -> Result<usize, NoMemory> {
+    Ok(state.tags_of(alloc, word)?.as_slice().len())
+}
+
+// Whether the copy of a state is a set of this word alone, with one tag.
+fn is_copied_set(alloc: Global, state: &State, word: Name) -> Result<bool, Fail> {
+    let copy = state.copy()?;
+    let tags = tag_count(alloc, &copy, &word)?;
+    let is_read = has_alone(alloc, &copy, word)?;
+    let is_set = copy.sort() == Sort::Set;
+    Ok(is_read && is_set && tags == 1)
+}
+
+// Whether it is so of the second word of a set that was filled so.
 fn has_the_second(alloc: Global, a: Name, b: Name) -> Result<bool, Fail> {
     let mut state = State::empty(alloc, Sort::Set)?;
     fill_set(alloc, &mut state, a, b)?;
-    let copy = state.copy()?;
-    let want = Names::from_vec(alloc, vec![in alloc; b]?)?;
-    let is_read = is_words(&copy.value(alloc)?, &want)?;
-    let is_set = matches!(copy.sort(), Sort::Set);
-    let tags = copy.tags_of(alloc, &b)?.as_slice().len();
-    Ok(is_read && is_set && tags == 1)
+    is_copied_set(alloc, &state, b)
 }
 
 // Whether a copy of pairs has them.
@@ -68,9 +81,6 @@ fn are_pairs(pairs: &NamePairs, want: &[(Name, Name)]) -> Result<bool, NoMemory>
 
 #[test]
 fn a_set_has_what_is_live(rt: HostRuntime) -> Result<(), Fail> {
-    law_state_order();
-    law_state_tags();
-    law_state_value();
     let (a, b) = (Name::read(b"a")?, Name::read(b"b")?);
     assert!(rt; has_the_second(rt.alloc(), a, b)?);
     let pairs = NamePairs::from_vec(rt.alloc(), vec![in rt.alloc(); (a, b)]?)?;
@@ -94,12 +104,20 @@ fn tx_of(alloc: Global, object: &ObjectId, deltas: &[i64]) -> Result<Tx, NoMemor
     inc_tx(alloc, Dot { client, number }, 1, pair(0, 0), object, deltas)
 }
 
+// Whether the copy of a transaction has two updates of the object.
+fn has_two(tx: &Tx, object: &ObjectId) -> Result<bool, NoMemory> {
+    let copy = tx.copy()?;
+    Ok(are_of(&copy.updates, object, 2))
+}
+
 // Whether the copy of a record has the stamp, and two updates of the object.
 fn is_copied(alloc: Global, stamp: Stamp, object: &ObjectId) -> Result<bool, NoMemory> {
     let tx = tx_of(alloc, object, &[-7, 9])?;
     let deps = pair(0, 0);
-    let copy = Record { stamp, deps, tx }.copy()?;
-    Ok(copy.stamp == stamp && are_of(&copy.tx.copy()?.updates, object, 2))
+    let record = Record { stamp, deps, tx };
+    let copy = record.copy()?;
+    let has_two = has_two(&copy.tx, object)?;
+    Ok(has_two && copy.stamp == stamp)
 }
 
 #[test]

@@ -12,7 +12,7 @@ use dc_centre::Centre;
 use dc_talk::{Ask, Say, SharedRecord};
 use ids_core::{Dot, NoMemory, ObjectId};
 use std::alloc::Global;
-use tx_core::{Op, Record, Tx, Update, Updates, Value};
+use tx_core::{Op, Record, State, Tx, Update, Updates, Value};
 use vv_core::{Stamp, Vector};
 
 // The most transactions that a centre stamps.
@@ -40,8 +40,7 @@ fn after_commits(alloc: Global, count: u32) -> Result<i128, Fault> {
     let object = counter(b"total")?;
     let mut centre = Centre::new(alloc, 1, 2, 1, LIMIT)?;
     for number in 1..u64::from(count) + 1 {
-        let tx = add_one(alloc, number, &object)?;
-        centre.step(alloc, &Ask::Commit { tx })?;
+        commit(alloc, &mut centre, add_one(alloc, number, &object)?)?;
     }
     Ok(fetched(alloc, &mut centre, &object, u64::from(count))?)
 }
@@ -49,13 +48,9 @@ fn after_commits(alloc: Global, count: u32) -> Result<i128, Fault> {
 // The same at a centre that applied so many records of another one.
 fn after_deliveries(alloc: Global, count: u32) -> Result<i128, Fault> {
     let object = counter(b"total")?;
-    let deps = Vector::zero(2);
     let mut centre = Centre::new(alloc, 2, 2, 1, LIMIT)?;
     for seq in 1..u64::from(count) + 1 {
-        let stamp = Stamp { centre: 1, seq };
-        let tx = add_one(alloc, seq, &object)?;
-        let item = SharedRecord::new(alloc, Record { stamp, deps, tx })?;
-        centre.step(alloc, &Ask::Deliver { item, hops: 0 })?;
+        deliver(alloc, &mut centre, seq, add_one(alloc, seq, &object)?)?;
     }
     Ok(fetched(alloc, &mut centre, &object, u64::from(count))?)
 }
@@ -67,19 +62,36 @@ fn after_fetches(alloc: Global, count: u32) -> Result<i128, Fault> {
     let mut centre = Centre::new(alloc, 1, 2, 1, LIMIT)?;
     let mut value = 0;
     for turn in 0..count {
-        let dot = Dot {
-            client: turn % CLIENTS + 1,
-            number: u64::from(turn / CLIENTS) + 1,
-        };
         let seq = u64::from(turn) + 1;
-        let tx = Tx {
-            dot,
-            ..add_one(alloc, seq, &object)?
-        };
-        centre.step(alloc, &Ask::Commit { tx })?;
+        let tx = add_one(alloc, seq, &object)?;
+        commit(alloc, &mut centre, in_turn(turn, tx))?;
         value = fetched(alloc, &mut centre, &object, seq)?;
     }
     Ok(value)
+}
+
+// The transaction as that of a client whose turn it is.
+fn in_turn(turn: u32, tx: Tx) -> Tx {
+    let dot = Dot {
+        client: turn % CLIENTS + 1,
+        number: u64::from(turn / CLIENTS) + 1,
+    };
+    Tx { dot, ..tx }
+}
+
+// Has a centre stamp a transaction.
+fn commit(alloc: Global, centre: &mut Centre, tx: Tx) -> Result<(), NoMemory> {
+    centre.step(alloc, &Ask::Commit { tx })?;
+    Ok(())
+}
+
+// Has a centre apply a transaction as the record of centre 1 with this number.
+fn deliver(alloc: Global, centre: &mut Centre, seq: u64, tx: Tx) -> Result<(), NoMemory> {
+    let stamp = Stamp { centre: 1, seq };
+    let deps = Vector::zero(2);
+    let item = SharedRecord::new(alloc, Record { stamp, deps, tx })?;
+    centre.step(alloc, &Ask::Deliver { item, hops: 0 })?;
+    Ok(())
 }
 
 /// The transaction of client 1, of this number and rank, that adds 1 to a counter.
@@ -111,11 +123,21 @@ fn fetched(
         at: Vector::zero(2).raise(&Stamp { centre: 1, seq }),
     };
     let (say, _copy) = centre.step(alloc, &ask)?;
-    match &say {
-        Say::Object { state } => match state.value(alloc)? {
-            Value::Number(value) => Ok(value),
-            _ => Ok(-1),
-        },
+    number_in(alloc, &say)
+}
+
+// The number of the state that an answer has; -1 where it has none.
+fn number_in(alloc: Global, say: &Say) -> Result<i128, NoMemory> {
+    match say {
+        Say::Object { state } => number_of(alloc, state),
+        _ => Ok(-1),
+    }
+}
+
+// The number that a state is read as; -1 where it is none.
+fn number_of(alloc: Global, state: &State) -> Result<i128, NoMemory> {
+    match state.value(alloc)? {
+        Value::Number(value) => Ok(value),
         _ => Ok(-1),
     }
 }

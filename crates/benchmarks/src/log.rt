@@ -93,7 +93,12 @@ fn appended(alloc: Global, objects: u32, count: u32) -> Result<i128, Fault>
     requires { objects ≢ 0 }
 {
     let log = log_of(alloc, objects, count)?;
-    Ok(log.chain(&counter_of(0)?).len() as i128)
+    Ok(chain(&log, 0)? as i128)
+}
+
+// How many operations on the counter of a number a log has.
+fn chain(log: &Log, number: u32) -> Result<usize, Fault> {
+    Ok(log.chain(&counter_of(number)?).len())
 }
 
 // How many transactions of such a log were given one more stamp.
@@ -104,19 +109,21 @@ fn aliased(alloc: Global, objects: u32, count: u32) -> Result<i128, Fault>
     let mut log = log_of(alloc, objects, count)?;
     let mut found: u64 = 0;
     for turn in 0..u64::from(count) {
-        let dot = Dot {
-            client: 1,
-            number: turn,
-        };
-        let stamp = Stamp {
-            centre: 2,
-            seq: turn,
-        };
-        if log.alias(&dot, &stamp)? {
+        if alias(&mut log, turn)? {
             found = found.saturating_add(1);
         }
     }
     Ok(i128::from(found))
+}
+
+// Gives the transaction of a number one stamp more; whether it is there.
+fn alias(log: &mut Log, number: u64) -> Result<bool, NoMemory> {
+    let dot = Dot { client: 1, number };
+    let stamp = Stamp {
+        centre: 2,
+        seq: number,
+    };
+    log.alias(&dot, &stamp)
 }
 
 // The most operations on one counter of such a log.
@@ -126,8 +133,7 @@ fn chained(alloc: Global, objects: u32, count: u32) -> Result<i128, Fault>
     let log = log_of(alloc, objects, count)?;
     let mut most = 0;
     for turn in 0..u64::from(count) {
-        let object = counter_of((turn % u64::from(objects)) as u32)?;
-        most = log.chain(&object).len().max(most);
+        most = chain(&log, (turn % u64::from(objects)) as u32)?.max(most);
     }
     Ok(most as i128)
 }
@@ -137,12 +143,17 @@ fn asked(alloc: Global, objects: u32, count: u32) -> Result<i128, Fault>
     requires objects { objects ≢ 0 }
 {
     let log = log_of(alloc, objects, count)?;
-    let here = at(u64::from(count).saturating_sub(10));
+    Ok(i128::from(asked_for(&log, u64::from(count))))
+}
+
+// The same of a log, which is asked so many times.
+fn asked_for(log: &Log, count: u64) -> u64 {
+    let here = at(count.saturating_sub(10));
     let mut last = 0;
-    for _ in 0..u64::from(count) {
+    for _ in 0..count {
         last = log.mine(1, &here);
     }
-    Ok(i128::from(last))
+    last
 }
 
 // How many transactions the first half of such a log has.
@@ -161,10 +172,16 @@ fn pruned(alloc: Global, objects: u32, count: u32) -> Result<i128, Fault>
     let mut gone: u64 = 0;
     for part in 1..PARTS + 1 {
         let base = at(u64::from(count) * part / PARTS);
-        let copies = log.within(&base)?;
-        if copies.len() as u64 == log.take_within(&base) {
-            gone = gone.saturating_add(copies.len() as u64);
-        }
+        gone = gone.saturating_add(prune(&mut log, &base)?);
     }
     Ok(i128::from(gone))
+}
+
+// How many transactions were copied and taken out up to a vector, 0 where these are not as many.
+fn prune(log: &mut Log, base: &Vector) -> Result<u64, NoMemory> {
+    let copied = log.within(base)?.len() as u64;
+    if copied == log.take_within(base) {
+        return Ok(copied);
+    }
+    Ok(0)
 }

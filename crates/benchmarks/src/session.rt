@@ -102,10 +102,20 @@ fn updates(alloc: Global, pending: u32, rounds: u32) -> Result<i128, Fault> {
     session.begin(alloc)?;
     for round in 0..rounds {
         if round % 200 == 199 {
-            session.abort()?;
-            session.begin(alloc)?;
+            begin_again(alloc, &mut session)?;
         }
-        session.update(alloc, &object, &Change::Inc { delta: 1 })?;
+        change(alloc, &mut session, &object)?;
     }
     sum_of(alloc, &mut session, &object)
+}
+
+// Ends the open transaction, and begins another one.
+fn begin_again(alloc: Global, session: &mut Session) -> Result<(), Refusal> {
+    session.abort()?;
+    session.begin(alloc)
+}
+
+// Adds 1 to a counter in the open transaction.
+fn change(alloc: Global, session: &mut Session, object: &ObjectId) -> Result<(), Refusal> {
+    session.update(alloc, object, &Change::Inc { delta: 1 })
 }

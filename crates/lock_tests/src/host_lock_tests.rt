@@ -1,4 +1,4 @@
-// Hosts with two passes, each in a thread of its own.
+// A host with two passes, each in a thread of its own.
 ghost use Rattle.std.specs.Prelude.{◌≡◌};
 ghost use Rattle.machine_trail.specs.History.{IsKept};
 ghost use Rattle.host_lock.specs.Hosts.{IsOf};
@@ -40,38 +40,6 @@ fn tries<M: Machine>(host: &Host<M>, mut pass: Pass<M>, ask: &M::Ask) -> (Option
         Err(NoMemory) => None,
     };
     (holder, pass)
-}
-
-// What the passes of a gate for one guest are told in two threads, and how many entries come out.
-fn both_call<R: Threads + Wait + Sync>(rt: &R, alloc: Global) -> Option<(bool, bool, usize)> {
-    let (host, mut passes) = Host::new(alloc, Kept::new(alloc, Gate::new(1)), 2).ok()?;
-    let second = passes.pop()?;
-    let first = passes.pop()?;
-    let shared = &host;
-    let (one, other) = join(
-        rt,
-        move || -> (Option<bool>, Pass<Gate>)
-            requires { IsOf shared.now first }
-            ensures { IsOf shared.entry.now result.1 × (result.1.number ≡ first.number) }
-        { calls(rt, shared, first, &70) },
-        move || -> (Option<bool>, Pass<Gate>)
-            requires { IsOf shared.now second }
-            ensures { IsOf shared.entry.now result.1 × (result.1.number ≡ second.number) }
-        { calls(rt, shared, second, &71) },
-    );
-    let mut all = Vec::new(alloc);
-    all.push(one.1).ok()?;
-    all.push(other.1).ok()?;
-    let kept = host.close(all);
-    Some((one.0?, other.0?, kept.trail.len()))
-}
-
-#[test]
-fn one_of_two_threads_is_let_in(rt: HostRuntime) -> Result<(), Fail> {
-    let (one, other, length) = both_call(&rt, rt.alloc()).ok_or("memory")?;
-    assert!(rt; one != other);
-    assert_eq!(rt; length, 2);
-    Ok(())
 }
 
 // While pass 1 is in its call, pass 2 tries, and then lets the call go on.

@@ -4,30 +4,12 @@
 #![tactic(auto)]
 
 #[cfg(test)]
-mod command_line_tests;
-#[cfg(test)]
-mod load_maker_tests;
-#[cfg(test)]
 mod load_tests;
-#[cfg(test)]
-mod output_laws_tests;
 #[cfg(test)]
 mod print_text_tests;
 #[cfg(test)]
 mod run_book_tests;
 #[cfg(test)]
-mod run_forks_tests;
-#[cfg(test)]
-mod run_laws_tests;
-#[cfg(test)]
-mod script_core_tests;
-#[cfg(test)]
-mod script_reader_tests;
-#[cfg(test)]
 mod thread_run_tests;
 #[cfg(test)]
 mod top_call_tests;
-#[cfg(test)]
-mod trail_text_tests;
-#[cfg(test)]
-mod world_core_tests;

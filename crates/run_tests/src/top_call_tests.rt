@@ -1,11 +1,11 @@
-// The top call on small scripts, and on sources and sinks that fail.
-use io_edge::{FreeGate, MemorySink, MemorySource, SteadySink, SteadySource};
-use script_reader::Cause;
+// The top call on sources and sinks that fail.
+use io_edge::{FreeGate, Gate, MemorySink, MemorySource, Sink, Source, SteadySink, SteadySource};
+use run_progress::Progress;
 use std::alloc::{AllocError, Global};
 use std::sync::Wait;
 use std::test::Fail;
 use std::thread::Threads;
-use top_call::{Ended, Fault, form_with_threads, swift_alone, swift_main};
+use top_call::{Ended, swift_main};
 
 const FIRST_PATH: &[u8] =
     b"centres 1 k 1\nclients 1\nc1 connect 1\nc1 begin\nc1 inc c.a 5\nc1 read c.a\nc1 commit\nc1 push\nc1 refresh\n";
@@ -13,112 +13,38 @@ const FIRST_PATH: &[u8] =
 const FIRST_TEXT: &[u8] =
     b"c1 at 1\nc1 read c.a 5\nc1 commit 1\nc1 push 1 stamp 1:1\nc1 sees 1 own 1\n";
 
-// A list of words.
-fn words_of(alloc: Global, list: &[&str]) -> Result<Vec<String>, AllocError> {
-    let mut words = Vec::new(alloc);
-    for word in list {
-        words.push(String::from_str(alloc, word)?)?;
-    }
-    Ok(words)
-}
-
-// The word `serial` alone.
-fn serial(alloc: Global) -> Result<Vec<String>, AllocError> {
-    words_of(alloc, &["serial"])
-}
-
-// A run of a script into a sink, where no read fails.
-fn played<R: Threads + Wait + Sync>(
+/// How the top call ends for one word, over a source that may be read and a sink that may be written to.
+pub fn ended_of<R: Threads + Wait + Sync, S: Source, W: Sink, G: Gate + Progress>(
     rt: &R,
     alloc: Global,
-    script: &[u8],
-    sink: &mut MemorySink,
-) -> Result<Ended, AllocError> {
-    let words = serial(alloc)?;
-    let mut source = SteadySource::new(Vec::from_slice(alloc, script)?);
-    Ok(swift_main(rt, alloc, &words, &mut source, sink, &FreeGate))
+    word: &str,
+    source: &mut S,
+    sink: &mut W,
+    gate: &G,
+) -> Result<Ended, AllocError>
+    requires may_read { S.may_read source.old }
+    requires may_write { W.may_write sink.old }
+{
+    let mut words = Vec::new(alloc);
+    words.push(String::from_str(alloc, word)?)?;
+    Ok(swift_main(rt, alloc, &words, source, sink, gate))
 }
 
-#[test]
-fn a_block_is_played_from_begin_to_refresh(rt: HostRuntime) -> Result<(), Fail> {
-    let alloc = rt.alloc();
-    let mut sink = MemorySink::new(alloc, 64, Vec::new(alloc));
-    let ended = played(&rt, alloc, FIRST_PATH, &mut sink)?;
-    assert_eq!(rt; ended.status, 0);
-    assert_eq!(rt; sink.bytes(), FIRST_TEXT);
-    assert_eq!(rt; ended.book.trails.as_slice().len(), 1);
-    assert_eq!(rt; ended.book.logs.as_slice().len(), 6);
-    Ok(())
-}
-
-// A run of a script on one thread, where the words ask for no threads.
-fn played_alone(
+// Whether three reads of 100 bytes of a line without an end are all that is read of it.
+fn stops_past_the_limits<R: Threads + Wait + Sync>(
+    rt: &R,
     alloc: Global,
-    script: &[u8],
-    sink: &mut MemorySink,
-) -> Result<Option<Ended>, AllocError> {
-    let words = serial(alloc)?;
-    let mut source = SteadySource::new(Vec::from_slice(alloc, script)?);
-    match form_with_threads(alloc, &words) {
-        Ok(None) => Ok(Some(swift_alone(alloc, &words, &mut source, sink, &FreeGate))),
-        _ => Ok(None),
-    }
-}
-
-#[test]
-fn a_script_is_played_on_one_thread(rt: HostRuntime) -> Result<(), Fail> {
-    let mut sink = MemorySink::new(rt.alloc(), 64, Vec::new(rt.alloc()));
-    let ended = played_alone(rt.alloc(), FIRST_PATH, &mut sink)?;
-    assert!(rt;
-        matches!(
-            ended,
-            Some(Ended {
-                status: 0,
-                script: Some(_),
-                ..
-            })
-        )
-    );
-    assert_eq!(rt; sink.bytes(), FIRST_TEXT);
-    Ok(())
-}
-
-// The bytes that are handed out with a fault.
-fn read_of(ended: &Ended) -> &[u8] {
-    match &ended.fault {
-        Some(fault) => fault.input.as_slice(),
-        None => b"",
-    }
-}
-
-#[test]
-fn an_input_that_is_no_script_is_refused(rt: HostRuntime) -> Result<(), Fail> {
-    let mut sink = MemorySink::new(rt.alloc(), 64, Vec::new(rt.alloc()));
-    let ended = played(&rt, rt.alloc(), b"centres 1 k 1\n", &mut sink)?;
-    assert_eq!(rt; ended.status, 3);
-    assert_eq!(rt; sink.bytes(), b"refused line 2 place\n".as_slice());
-    assert_eq!(rt; read_of(&ended), b"centres 1 k 1\n".as_slice());
-    assert!(rt;
-        matches!(
-            ended.fault,
-            Some(Fault {
-                line: 2,
-                cause: Cause::Place,
-                ..
-            })
-        )
-    );
-    Ok(())
+) -> Result<bool, AllocError> {
+    let line = Vec::from_slice(alloc, &[b'a'; 400])?;
+    let mut source = MemorySource::new(line, 100, Vec::new(alloc));
+    let mut sink = SteadySink::new(alloc);
+    let ended = ended_of(rt, alloc, "serial", &mut source, &mut sink, &FreeGate)?;
+    Ok(ended.status == 3 && source.calls() == 3)
 }
 
 #[test]
 fn reading_stops_past_the_limits(rt: HostRuntime) -> Result<(), Fail> {
-    let words = serial(rt.alloc())?;
-    let line = Vec::from_slice(rt.alloc(), &[b'a'; 400])?;
-    let mut source = MemorySource::new(line, 100, Vec::new(rt.alloc()));
-    let mut sink = SteadySink::new(rt.alloc());
-    let ended = swift_main(&rt, rt.alloc(), &words, &mut source, &mut sink, &FreeGate);
-    assert_eq!(rt; (ended.status, source.calls()), (3, 3));
+    assert!(rt; stops_past_the_limits(&rt, rt.alloc())?);
     Ok(())
 }
 
@@ -130,11 +56,10 @@ fn stops_reading<R: Threads + Wait + Sync>(
     step: usize,
     call: u64,
 ) -> Result<bool, AllocError> {
-    let words = serial(alloc)?;
     let fails = vec![in alloc; call]?;
     let mut source = MemorySource::new(Vec::from_slice(alloc, FIRST_PATH)?, step.max(1), fails);
     let mut sink = MemorySink::new(alloc, 64, Vec::new(alloc));
-    let ended = swift_main(rt, alloc, &words, &mut source, &mut sink, &FreeGate);
+    let ended = ended_of(rt, alloc, "serial", &mut source, &mut sink, &FreeGate)?;
     Ok(ended.status == 4 && source.calls() == call && sink.calls() == 0)
 }
 
@@ -159,8 +84,9 @@ fn stops_writing<R: Threads + Wait + Sync>(
     taken: usize,
 ) -> Result<bool, AllocError> {
     let fails = vec![in alloc; call]?;
+    let mut source = SteadySource::new(Vec::from_slice(alloc, FIRST_PATH)?);
     let mut sink = MemorySink::new(alloc, step.max(1), fails);
-    let ended = played(rt, alloc, FIRST_PATH, &mut sink)?;
+    let ended = ended_of(rt, alloc, "serial", &mut source, &mut sink, &FreeGate)?;
     let front = match FIRST_TEXT.get(..taken) {
         Some(front) => sink.bytes() == front,
         None => false,

@@ -1,7 +1,7 @@
-// A session: how a commit goes out and comes back, and how calls end. What the steps of a script show of a session is
-// among the examples.
+// A session: how a commit goes out and comes back, with answers that no centre of a run gives. What the steps of a script
+// show of a session is among the examples.
 use client_session::{Heard, Session};
-use dc_talk::{Ask, Call, Change, Outcome, Refusal, Say};
+use dc_talk::{Ask, Change, Refusal, Say};
 use ids_core::{NoMemory, ObjectId, Sort};
 use samples::{counter, single};
 use std::alloc::Global;
@@ -16,11 +16,17 @@ fn connect(session: &mut Session) -> Result<Heard, NoMemory> {
     session.hear(1, &hello, &Say::Welcome { through: 0 })
 }
 
+// Whether a session takes an answer of a centre to its ask.
+fn takes(session: &mut Session, centre: u8, ask: &Ask, say: &Say) -> Result<bool, NoMemory> {
+    let heard = session.hear(centre, ask, say)?;
+    Ok(matches!(heard, Heard::Took))
+}
+
 // Lets a session have this state of an object; whether it asked centre 1, and took it.
 fn fetch(session: &mut Session, object: &ObjectId, state: State) -> Result<bool, Fail> {
     let (centre, ask) = session.ask_fetch(object)?;
-    let heard = session.hear(centre, &ask, &Say::Object { state })?;
-    Ok(centre == 1 && matches!(heard, Heard::Took))
+    let took = takes(session, centre, &ask, &Say::Object { state })?;
+    Ok(centre == 1 && took)
 }
 
 // Commits a transaction that adds 5 to a counter: the number of the commit.
@@ -40,15 +46,24 @@ fn reads_5(alloc: Global, session: &mut Session) -> Result<bool, Fail> {
     Ok(took && matches!(session.read(alloc, &object)?, Value::Number(5)))
 }
 
+// Whether an ask sends the first commit, under the rank 1.
+fn is_first(ask: &Ask) -> bool {
+    match ask {
+        Ask::Commit { tx } => tx.rank == 1 && tx.dot.number == 1,
+        _ => false,
+    }
+}
+
 // Lets a session hear a stamp for the commit that it sends next, if it sends one: whether that is its
 // first commit, under the rank 1, and the stamp was taken.
 fn push(session: &mut Session, stamp: Stamp) -> Result<Option<bool>, Fail> {
-    let Some((centre, ask)) = session.ask_commit()? else {
-        return Ok(None);
-    };
-    let first = matches!(&ask, Ask::Commit { tx } if tx.rank == 1 && tx.dot.number == 1);
-    let heard = session.hear(centre, &ask, &Say::Stamped { stamp })?;
-    Ok(Some(first && matches!(heard, Heard::Took)))
+    match session.ask_commit()? {
+        None => Ok(None),
+        Some((centre, ask)) => {
+            let took = takes(session, centre, &ask, &Say::Stamped { stamp })?;
+            Ok(Some(is_first(&ask) && took))
+        }
+    }
 }
 
 // Lets a session hear a snapshot with its commit, and the greatest rank that there is; whether it took
@@ -56,8 +71,7 @@ fn push(session: &mut Session, stamp: Stamp) -> Result<Option<bool>, Fail> {
 fn refresh(session: &mut Session, vector: Vector) -> Result<bool, Fail> {
     let (centre, ask) = session.ask_refresh()?;
     let (mine, top) = (1, 1 << 62);
-    let heard = session.hear(centre, &ask, &Say::Snap { vector, mine, top })?;
-    Ok(matches!(heard, Heard::Took))
+    Ok(takes(session, centre, &ask, &Say::Snap { vector, mine, top })?)
 }
 
 // Has a session commit and push, and see its commit.
@@ -80,29 +94,4 @@ fn a_commit_reaches_the_centre_and_comes_back(rt: HostRuntime) -> Result<(), Fai
     let mut session = Session::new(rt.alloc(), 1, 1, 2)?;
     assert_eq!(rt; session.client(), 1);
     send_and_see(&rt, rt.alloc(), &mut session)
-}
-
-// Has a session make calls, of which the last two are refused.
-fn make_calls(rt: &impl Abort, alloc: Global, session: &mut Session) -> Result<(), Fail> {
-    let object = counter("a")?;
-    let change = Change::Inc { delta: 5 };
-    assert!(rt; matches!(session.call(alloc, &Call::Begin)?, Outcome::Fine));
-    assert!(rt;
-        matches!(
-            session.call(alloc, &Call::Change { object, change })?,
-            Outcome::Fine
-        )
-    );
-    assert!(rt; matches!(session.call(alloc, &Call::Commit)?, Outcome::Number(1)));
-    let ended = session.call(alloc, &Call::Read { object })?;
-    assert!(rt; matches!(ended, Outcome::Refused(Refusal::NeedsFetch { .. })));
-    let ended = session.call(alloc, &Call::Abort)?;
-    assert!(rt; matches!(ended, Outcome::Refused(Refusal::NotOpen)));
-    Ok(())
-}
-
-#[test]
-fn each_call_says_how_it_ended(rt: HostRuntime) -> Result<(), Fail> {
-    let mut session = Session::new(rt.alloc(), 1, 1, 2)?;
-    make_calls(&rt, rt.alloc(), &mut session)
 }

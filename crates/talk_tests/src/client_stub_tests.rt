@@ -7,6 +7,7 @@ ghost use Rattle.script_core.specs.Steps.{IsStep};
 ghost use Rattle.client_stub.specs.Playing.{IsLinkBehind};
 
 use crate::printed::tells;
+use crate::records::door_of;
 use client_session::Session;
 use client_stub::Stub;
 use dc_talk::{Change, ListDoor, Log, Say};
@@ -14,8 +15,10 @@ use ids_core::{Name, NoMemory, ObjectId, Sort};
 use samples::{pair, single};
 use script_core::ClientStep;
 use std::alloc::Global;
+use std::process::Abort;
 use std::test::Fail;
 use tx_core::State;
+use vv_core::Vector;
 
 // Client 1 among two centres, with its log, before a door.
 #[derive(Drop)]
@@ -25,16 +28,14 @@ struct Play {
     log: Log,
 }
 
-// The client before a door that welcomes it first and then gives this answer.
-fn begin(alloc: Global, say: Say) -> Result<Play, NoMemory>
+// The client before a door.
+fn begin(alloc: Global, door: ListDoor) -> Result<Play, NoMemory>
     ensures { IfOk result (λ play. IsLinkBehind (shown_of play.door) play.stub.client) }
 {
-    let mut answers = Vec::new(alloc);
-    answers.push(Say::Welcome { through: 0 })?;
-    answers.push(say)?;
+    let session = Session::new(alloc, 1, 2, 4)?;
     Ok(Play {
-        door: ListDoor::new(alloc, answers),
-        stub: Stub::new(Session::new(alloc, 1, 2, 4)?),
+        door,
+        stub: Stub::new(session),
         log: Log::new(alloc, 2),
     })
 }
@@ -78,6 +79,17 @@ impl Play {
         self.take(alloc, &ClientStep::Commit)?;
         Ok(())
     }
+
+    // Whether a step tells these lines, behind such a commit.
+    fn tells(&mut self, alloc: Global, step: &ClientStep, want: &str) -> Result<bool, Fail>
+        requires fits { IsStep MOST_CENTRES step.now }
+        requires behind { IsLinkBehind (shown_of self.old.door) self.old.stub.client }
+    {
+        self.commit(alloc)?;
+        let notes = self.log.as_slice().len();
+        self.take(alloc, step)?;
+        Ok(tells(alloc, &self.log, notes, want)?)
+    }
 }
 
 // What an ask of a client is answered.
@@ -95,31 +107,38 @@ enum Answer {
     Misfit,
 }
 
+// The state of an empty set, as an answer.
+fn empty(alloc: Global) -> Result<Say, NoMemory> {
+    let state = State::empty(alloc, Sort::Set)?;
+    Ok(Say::Object { state })
+}
+
+// The snapshot of a centre at this vector, as an answer.
+fn snap(vector: Vector) -> Say {
+    let (mine, top) = (0, 1);
+    Say::Snap { vector, mine, top }
+}
+
 // The answer, as a centre gives it.
 fn said(alloc: Global, answer: Answer) -> Result<Say, NoMemory> {
-    let (centre, mine, top) = (1, 0, 1);
-    Ok(match answer {
-        Answer::Snap => Say::Snap {
-            vector: pair(4, 0),
-            mine,
-            top,
-        },
-        Answer::NarrowSnap => Say::Snap {
-            vector: single(4),
-            mine,
-            top,
-        },
-        Answer::Empty => Say::Object {
-            state: State::empty(alloc, Sort::Set)?,
-        },
-        Answer::OutOfOrder => Say::OutOfOrder { have: 0 },
-        Answer::Lacks => Say::Lacks {
-            centre,
+    match answer {
+        Answer::Snap => Ok(snap(pair(4, 0))),
+        Answer::NarrowSnap => Ok(snap(single(4))),
+        Answer::Empty => empty(alloc),
+        Answer::OutOfOrder => Ok(Say::OutOfOrder { have: 0 }),
+        Answer::Lacks => Ok(Say::Lacks {
+            centre: 1,
             need: 3,
             have: 1,
-        },
-        Answer::Misfit => Say::Misfit,
-    })
+        }),
+        Answer::Misfit => Ok(Say::Misfit),
+    }
+}
+
+// A door that welcomes a client first and then gives this answer.
+fn door(alloc: Global, answer: Answer) -> Result<ListDoor, NoMemory> {
+    let say = said(alloc, answer)?;
+    door_of(alloc, Say::Welcome { through: 0 }, say)
 }
 
 // Whether a step of a client that is connected to centre 1, and has committed, tells these lines, where the first ask of it
@@ -127,11 +146,23 @@ fn said(alloc: Global, answer: Answer) -> Result<Say, NoMemory> {
 fn told(alloc: Global, step: &ClientStep, answer: Answer, want: &str) -> Result<bool, Fail>
     requires { IsStep MOST_CENTRES step.now }
 {
-    let mut play = begin(alloc, said(alloc, answer)?)?;
-    play.commit(alloc)?;
-    let notes = play.log.as_slice().len();
-    play.take(alloc, step)?;
-    Ok(tells(alloc, &play.log, notes, want)?)
+    let mut play = begin(alloc, door(alloc, answer)?)?;
+    play.tells(alloc, step, want)
+}
+
+// Has such a client take the step once for each answer, and tell these lines.
+fn tell(
+    rt: &impl Abort,
+    alloc: Global,
+    step: &ClientStep,
+    table: &[(Answer, &str)],
+) -> Result<(), Fail>
+    requires { IsStep MOST_CENTRES step.now }
+{
+    for (answer, want) in table {
+        assert!(rt; told(alloc, step, *answer, want)?, "{want}");
+    }
+    Ok(())
 }
 
 // An object of that kind and name.
@@ -145,42 +176,32 @@ fn object(sort: Sort, name: &str) -> Result<ObjectId, Fail>
 
 #[test]
 fn a_refresh_by_its_answer(rt: HostRuntime) -> Result<(), Fail> {
-    let (alloc, step) = (rt.alloc(), ClientStep::Refresh);
-    for (answer, want) in [
+    let table = [
         (Answer::Snap, "c1 sees 4,0 own 0\n"),
         (Answer::NarrowSnap, "c1 refresh ignored\n"),
         (Answer::Lacks, "c1 refresh lacks 1:3 has 1\n"),
         (Answer::Misfit, "c1 refresh misfit\n"),
-    ] {
-        assert!(rt; told(alloc, &step, answer, want)?, "{want}");
-    }
-    Ok(())
+    ];
+    tell(&rt, rt.alloc(), &ClientStep::Refresh, &table)
 }
 
 #[test]
 fn a_read_by_the_answer_to_its_fetch(rt: HostRuntime) -> Result<(), Fail> {
-    let alloc = rt.alloc();
     let object = object(Sort::Counter, "b")?;
-    let step = ClientStep::Read { object };
-    for (answer, want) in [
+    let table = [
         (Answer::Empty, "c1 read c.b ignored\n"),
         (Answer::Lacks, "c1 read c.b lacks 1:3 has 1\n"),
         (Answer::Misfit, "c1 read c.b misfit\n"),
-    ] {
-        assert!(rt; told(alloc, &step, answer, want)?, "{want}");
-    }
-    Ok(())
+    ];
+    tell(&rt, rt.alloc(), &ClientStep::Read { object }, &table)
 }
 
 #[test]
 fn a_push_by_its_answer(rt: HostRuntime) -> Result<(), Fail> {
-    let (alloc, step) = (rt.alloc(), ClientStep::Push);
-    for (answer, want) in [
+    let table = [
         (Answer::OutOfOrder, "c1 push 1 order 0\n"),
         (Answer::Lacks, "c1 push 1 lacks 1:3 has 1\n"),
         (Answer::Misfit, "c1 push 1 misfit\n"),
-    ] {
-        assert!(rt; told(alloc, &step, answer, want)?, "{want}");
-    }
-    Ok(())
+    ];
+    tell(&rt, rt.alloc(), &ClientStep::Push, &table)
 }

@@ -29,11 +29,6 @@ impl Dice {
         u32::try_from(self.roll(u64::from(sides))).unwrap_or(0)
     }
 
-    /// A number from 1 to `n`.
-    pub fn centre(&mut self, n: u8) -> u8 {
-        self.near(n.saturating_sub(1)).saturating_add(1)
-    }
-
     /// A number from 0 to `n`.
     pub fn near(&mut self, n: u8) -> u8 {
         u8::try_from(self.roll(u64::from(n).saturating_add(1))).unwrap_or(0)

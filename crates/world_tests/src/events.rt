@@ -1,243 +1,186 @@
-// Some two hundred lists of events in odd orders, each played in a world, with the reads of its book looked at.
+// Lists of events in odd orders over six scripts, each played in a world.
 ghost use Rattle.script_core.specs.Scripts.{IsInRange};
 
-use crate::chance::{Chance, Order, Plan, step_named};
-use crate::reads::count_reads;
+use crate::dice::Dice;
 use crate::scripts::SCRIPTS;
 use ids_core::NoMemory;
-use run_book::Book;
-use script_core::{ClientStep, OperatorStep, Script, Step};
+use script_core::Script;
 use script_reader::parse;
 use std::alloc::Global;
-use std::process::Abort;
 use std::test::Fail;
 use world_core::{Event, Played, World};
 
-// How many events a list has, and after how many of them what one adds is looked at.
-const EVENTS: usize = 40;
+// How many events a list has.
+const EVENTS: u32 = 400;
 
-const LOOK: usize = 5;
-
-/// The book of a list of events, and those of them that were played.
+/// The section at which each actor is in a script, the operator first.
 #[derive(Drop)]
-pub struct Run {
-    pub book: Book,
-    pub done: Vec<Event>,
+struct Walk {
+    at: [u32; 5],
 }
 
-/// Plays events in a new world of a script.
-pub fn run_of(alloc: Global, script: &Script, events: &[Event]) -> Result<Run, NoMemory>
-    requires { IsInRange script.now }
-{
-    let mut world = World::new(alloc, script)?;
-    let mut done = Vec::new(alloc);
-    for event in events {
-        match world.play(alloc, event)? {
-            Played::Done => done.push(*event)?,
-            Played::NoSuch => {}
+impl Walk {
+    // The next section for an actor, counted from 0, and behind the last one the first again.
+    fn next(&mut self, actor: u32, count: u32) -> u32 {
+        match self.at.get_mut(actor as usize) {
+            Some(at) => {
+                *at = *at % count.max(1) + 1;
+                *at
+            }
+            None => 0,
         }
     }
-    Ok(Run {
-        book: world.finish(alloc)?,
-        done,
-    })
 }
 
-// How many notes the logs of a book have, and how many entries its trails.
-fn sizes(book: &Book) -> (u64, u64) {
-    let (mut notes, mut entries) = (0_u64, 0_u64);
-    for log in book.logs.as_slice() {
-        notes = notes.saturating_add(log.as_slice().len() as u64);
-    }
-    for trail in book.trails.as_slice() {
-        entries = entries.saturating_add(trail.len() as u64);
-    }
-    (notes, entries)
-}
-
-// Whether a step leaves no note: it arms a fault, or sets one of a link.
-fn is_silent(step: &Step) -> bool {
-    matches!(
-        step,
-        Step::Client {
-            step: ClientStep::Arm { .. },
-            ..
-        } | Step::Operator {
-            step: OperatorStep::Link { .. },
-        }
-    )
-}
-
-// Whether an event is a step that leaves no note.
-fn names_silent(script: &Script, event: &Event) -> bool {
-    let step = match event {
-        Event::Client {
+// An actor takes a step of a section; the operator is the first actor.
+fn taking(actor: u32, section: u32, step: u32) -> Event {
+    match actor {
+        0 => Event::Operator { section, step },
+        client => Event::Client {
             client,
             section,
             step,
-        } => step_named(script, client.saturating_add(1), *section, *step),
-        Event::Operator { section, step } => step_named(script, 1, *section, *step),
-        _ => None,
-    };
-    match step {
-        Some(step) => is_silent(&step),
-        None => false,
+        },
     }
 }
 
-// Whether a run has as many notes and entries more than the one before an event as the event makes: none where it
-// names nothing or leaves no note, one of each where it is an ask outside of the script, as many of both where it is a
-// round, and else a note or more.
-fn is_grown(script: &Script, event: &Event, old: &Run, new: &Run) -> bool {
-    let (before, after) = (sizes(&old.book), sizes(&new.book));
-    if new.done.len() == old.done.len() || names_silent(script, event) {
-        return after == before;
+// Some actor takes a step of its next section, where it has one there.
+fn ahead(dice: &mut Dice, walk: &mut Walk, script: &Script, count: u32) -> Event {
+    let actor = dice.pick(script.clients.saturating_add(1));
+    let section = walk.next(actor, count);
+    match dice.roll(10) {
+        0 => taking(actor, section, 2),
+        _ => taking(actor, section, 1),
     }
+}
+
+// Some actor takes a step of any section.
+fn anywhere(dice: &mut Dice, script: &Script, count: u32) -> Event {
+    let actor = dice.pick(script.clients.saturating_add(2));
+    let section = dice.pick(count.saturating_add(2));
+    taking(actor, section, dice.pick(3))
+}
+
+// A commit of a client comes once more to a centre.
+fn again(dice: &mut Dice, script: &Script) -> Event {
+    Event::Again {
+        client: dice.pick(script.clients.saturating_add(1)),
+        note: dice.roll(30),
+        centre: dice.near(script.n),
+    }
+}
+
+// A record that a centre has handed out is carried to a centre.
+fn carry(dice: &mut Dice, script: &Script) -> Event {
+    Event::Carry {
+        from: dice.near(script.n),
+        entry: dice.roll(30),
+        index: dice.pick(2),
+        to: dice.near(script.n),
+    }
+}
+
+// A worker of a centre makes a round of a section.
+fn round(dice: &mut Dice, script: &Script, count: u32) -> Event {
+    Event::Round {
+        section: dice.pick(count.saturating_add(2)),
+        round: dice.pick(script.rounds.saturating_add(2)),
+        centre: dice.near(script.n),
+        role: dice.near(5),
+    }
+}
+
+// Any of these, the first one as often as the others together.
+fn event_of(dice: &mut Dice, walk: &mut Walk, script: &Script, count: u32) -> Event {
+    match dice.roll(8) {
+        0 => anywhere(dice, script, count),
+        1 => again(dice, script),
+        2 => carry(dice, script),
+        3 => round(dice, script, count),
+        _ => ahead(dice, walk, script, count),
+    }
+}
+
+// The place of the kind of an event: steps of clients, of the operator, late copies, carries, rounds.
+fn kind_of(event: &Event) -> usize {
     match event {
-        Event::Again { .. } | Event::Carry { .. } => {
-            after == (before.0.saturating_add(1), before.1.saturating_add(1))
-        }
-        Event::Round { .. } => {
-            let (notes, entries) = (
-                after.0.saturating_sub(before.0),
-                after.1.saturating_sub(before.1),
-            );
-            before.0 <= after.0 && notes == entries
-        }
-        _ => after.0 > before.0 && after.1 >= before.1,
+        Event::Client { .. } => 0,
+        Event::Operator { .. } => 1,
+        Event::Again { .. } => 2,
+        Event::Carry { .. } => 3,
+        Event::Round { .. } => 4,
     }
 }
 
-// A list of events of a seed over a script, with a look at what some of them add.
-fn list_of(
-    rt: &impl Abort,
-    alloc: Global,
-    script: &Script,
-    order: Order,
-    seed: u64,
-) -> Result<Vec<Event>, NoMemory>
-    requires { IsInRange script.now }
-{
-    let mut chance = Chance::new(seed);
-    let mut plan = Plan::new();
-    let mut events = Vec::new(alloc);
-    let mut run = run_of(alloc, script, &[])?;
-    for place in 0..EVENTS {
-        let event = chance.event(&mut plan, order, script, &run.book);
-        if place % LOOK == 0 {
-            let old = run_of(alloc, script, events.as_slice())?;
-            events.push(event)?;
-            run = run_of(alloc, script, events.as_slice())?;
-            assert!(rt;
-                is_grown(script, &event, &old, &run),
-                "seed {seed}, event {place}"
-            );
-        } else {
-            events.push(event)?;
-        }
+// One more at a place.
+fn add(counts: &mut [u32; 5], place: usize) {
+    if let Some(count) = counts.get_mut(place) {
+        *count = count.saturating_add(1);
     }
-    Ok(events)
 }
 
-// How many events of each kind there were, and how many of these were played: of clients, of the operator, late
-// copies, carries and rounds. And how many reads with a value there were, and notes and entries of the books.
-#[derive(Clone, Copy, Debug)]
+/// How many events of each kind were played, and how many named nothing.
+#[derive(Drop)]
 struct Tally {
-    all: [u64; 5],
-    done: [u64; 5],
-    reads: u64,
-    sizes: (u64, u64),
+    done: [u32; 5],
+    missed: [u32; 5],
 }
 
-// Counts events by their kinds.
-fn count(counts: &mut [u64; 5], events: &[Event]) {
-    for event in events {
-        let place = match event {
-            Event::Client { .. } => 0,
-            Event::Operator { .. } => 1,
-            Event::Again { .. } => 2,
-            Event::Carry { .. } => 3,
-            Event::Round { .. } => 4,
-        };
-        if let Some(number) = counts.get_mut(place) {
-            *number = number.saturating_add(1);
-        }
-    }
-}
-
-// Plays a list of a seed over a script, and looks at its book. The same book comes without the events that name
-// nothing.
-fn look_at(
-    rt: &impl Abort,
+// Plays an event, and counts it.
+fn play(
     alloc: Global,
-    script: &Script,
-    seed: u64,
+    world: &mut World<'_>,
+    event: &Event,
     tally: &mut Tally,
-) -> Result<(), NoMemory>
-    requires { IsInRange script.now }
-{
-    let order = if seed % 2 == 0 {
-        Order::Kept
-    } else {
-        Order::Free
-    };
-    let events = list_of(rt, alloc, script, order, seed)?;
-    let run = run_of(alloc, script, events.as_slice())?;
-    let (agree, reads) = count_reads(alloc, &run.book)?;
-    assert_eq!(rt; agree, reads, "seed {seed}");
-    let again = run_of(alloc, script, run.done.as_slice())?;
-    assert!(rt;
-        again.done.len() == run.done.len() && sizes(&again.book) == sizes(&run.book),
-        "seed {seed}"
-    );
-    count(&mut tally.all, events.as_slice());
-    count(&mut tally.done, run.done.as_slice());
-    tally.reads = tally.reads.saturating_add(reads);
-    let (notes, entries) = sizes(&run.book);
-    tally.sizes = (
-        tally.sizes.0.saturating_add(notes),
-        tally.sizes.1.saturating_add(entries),
-    );
+) -> Result<(), NoMemory> {
+    match world.play(alloc, event)? {
+        Played::Done => add(&mut tally.done, kind_of(event)),
+        Played::NoSuch => add(&mut tally.missed, kind_of(event)),
+    }
     Ok(())
 }
 
-// Whether hundreds of steps and copies were played, and as many named nothing, with carries of both sorts.
-fn are_many(tally: &Tally) -> bool {
-    let [steps, orders, copies, carries, rounds] = tally.all;
-    let [
-        steps_done,
-        orders_done,
-        copies_done,
-        carries_done,
-        rounds_done,
-    ] = tally.done;
-    let missed = (
-        steps.saturating_sub(steps_done),
-        orders.saturating_sub(orders_done),
-        copies.saturating_sub(copies_done),
-        carries.saturating_sub(carries_done),
-    );
-    let is_played = steps_done > 3_000 && orders_done > 600 && copies_done > 120;
-    let is_missed = missed.0 > 120 && missed.1 > 200 && missed.2 > 60 && missed.3 > 60;
-    let are_rounds = rounds_done > 450 && rounds.saturating_sub(rounds_done) > 60;
-    let are_read = tally.reads > 200 && tally.sizes.1 > 6_500;
-    is_played && carries_done > 60 && is_missed && are_rounds && are_read
+// Plays the events of a seed in a world of a script: how many trails its book has.
+fn play_all(alloc: Global, script: &Script, seed: u64, tally: &mut Tally) -> Result<usize, NoMemory>
+    requires { IsInRange script.now }
+{
+    let mut world = World::new(alloc, script)?;
+    let mut dice = Dice::new(seed);
+    let mut walk = Walk { at: [0; 5] };
+    let count = u32::try_from(script.sections.as_slice().len()).unwrap_or(0);
+    for _event in 0..EVENTS {
+        let event = event_of(&mut dice, &mut walk, script, count);
+        play(alloc, &mut world, &event, tally)?;
+    }
+    Ok(world.finish(alloc)?.trails.as_slice().len())
+}
+
+// Plays the lists of 35 seeds over a script: whether each book has a trail of each centre.
+fn play_script(alloc: Global, text: &[u8], tally: &mut Tally) -> Result<bool, Fail> {
+    let script = parse(alloc, text)?;
+    for seed in 1..36 {
+        if play_all(alloc, &script, seed, tally)? != usize::from(script.n) {
+            return Ok(false);
+        }
+    }
+    Ok(true)
+}
+
+// Whether each count is at least as wanted.
+fn are_many(counts: &[u32; 5], want: &[u32; 5]) -> bool {
+    counts.iter().zip(want).all(|(count, want)| count >= want)
 }
 
 #[test]
-fn reads_behind_events_in_odd_orders_have_their_values(rt: HostRuntime) -> Result<(), Fail> {
+fn events_in_odd_orders_are_played(rt: HostRuntime) -> Result<(), Fail> {
     let mut tally = Tally {
-        all: [0; 5],
         done: [0; 5],
-        reads: 0,
-        sizes: (0, 0),
+        missed: [0; 5],
     };
     for text in SCRIPTS {
-        let script = parse(rt.alloc(), text)?;
-        for seed in 1..35 {
-            look_at(&rt, rt.alloc(), &script, seed, &mut tally)?;
-        }
+        assert!(rt; play_script(rt.alloc(), text, &mut tally)?);
     }
-    assert!(rt; are_many(&tally), "{tally:?}");
+    assert!(rt; are_many(&tally.done, &[6_000, 1_500, 60, 20, 150]));
+    assert!(rt; are_many(&tally.missed, &[20_000, 5_000, 5_000, 5_000, 5_000]));
     Ok(())
 }

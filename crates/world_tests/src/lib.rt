@@ -3,13 +3,9 @@
 #![tactic(auto)]
 
 #[cfg(test)]
-mod chance;
-#[cfg(test)]
 mod dice;
 #[cfg(test)]
 mod events;
-#[cfg(test)]
-mod reads;
 #[cfg(test)]
 mod rounds;
 #[cfg(test)]
