@@ -1,9 +1,10 @@
 -- Clients are cut into even blocks, and what was done to each of several, in blocks or one by one.
-use Rattle.std.proofs.Common.{◌≡◌, ℕ, zero, suc, ◌+◌, ◌-◌, ◌*◌, ◌/◌, ◌%◌, ◌<◌, ◌≤◌, min, List, [], ◌∷◌, ◌++◌, length, map, flat_map, Ok, Err, IfOk, sym, ap, ◌∙◌, subst, arith}
+use Rattle.std.proofs.Common.{◌≡◌, ℕ, zero, suc, ◌+◌, ◌-◌, ◌*◌, ◌/◌, ◌%◌, ◌<◌, ◌≤◌, min, List, [], ◌∷◌, ◌++◌, length, take, drop, map, flat_map, Ok, Err, IfOk, sym, ap, ◌∙◌, subst, zero-mul, arith}
 use Rattle.std.specs.Prelude.{All, Result, slice_index_or}
 use Rattle.std.specs.List.{AllZip}
 use Rattle.std.specs.Global.{Vec}
 use Rattle.std.proofs.Math.Nat.{div-add-mod, div-eq-sub-div, suc-mul}
+use Rattle.std.proofs.lemmas.List.{append_assoc, take-append-drop, flat_map_more}
 use Rattle.std.proofs.lemmas.List.Elements.{All-nil, All-cons, All-head, All-tail}
 
 module _ {X : Type 0} where
@@ -37,6 +38,12 @@ module _ {X : Type 0} where
       then [] (y ∷ ys) both rest = absurd both
       then (x ∷ xs) [] both rest = absurd both
       then (x ∷ xs) (y ∷ ys) both rest = (both.0, then xs ys both.1 rest)
+
+  -- what is cut off the rest is a block more, and no element is lost
+  pub block_more : (blocks : List (Vec X)) (block : Vec X) (k : ℕ) (rest later all : List X) → block.items ≡ take k rest → later ≡ drop k rest → in_blocks blocks ++ rest ≡ all → in_blocks (blocks ++ block ∷ []) ++ later ≡ all
+  block_more blocks block k rest later all front behind before =
+      ap (λ (xs : List X). xs ++ later) (sym (flat_map_more (λ (b : Vec X). b.items) [] blocks block))
+      ∙ (append_assoc (in_blocks blocks) block.items later ∙ (ap (λ (xs : List X). in_blocks blocks ++ xs) ((λ i. front i ++ behind i) ∙ take-append-drop k rest) ∙ before))
 
 -- ---- even blocks
 
@@ -73,7 +80,8 @@ pub none_left : (count place size longer left : ℕ) → count ≤ place → lon
 none_left count place size longer left past few is =
     let blocks : count - place ≡ 0 = omega (arith, past) in
     let more : longer - place ≡ 0 = omega (arith, past, few) in
-    is ∙ (λ i. blocks i * size + more i)
+    let none : (count - place) * size ≡ 0 = ap (λ k. k * size) blocks ∙ zero-mul size in
+    omega (arith, is, none, more)
 
 module _ {J X E : Type 0} (R : J → X → Type 0) where
   -- each result that is one belongs to the job at its place
