@@ -10,7 +10,7 @@ use Rattle.phase_play.proofs.threads.play_players.Goals as goal
 
 pub map_vec-requires-after_bounds : goal.map_vec-requires-after_bounds
 map_vec-requires-after_bounds g c κs within = λ place block inside is.
-    let all : All (IsPlayerOf c.args.scene) block.items = block_all (IsPlayerOf c.args.scene) c.in_ok-blocks.blocks.items place block (subst (All (IsPlayerOf c.args.scene)) (sym c.in_ok-blocks.ensures) c.requires.players) inside is in
+    let all : All (IsPlayerOf c.args.scene) block.items = block_all (IsPlayerOf c.args.scene) c.in_ok-blocks.blocks.items place block (subst (All (IsPlayerOf c.args.scene)) (sym c.in_ok-blocks.ensures.all) c.requires.players) inside is in
     ((c.requires.scene, all), search rules)
 
 pub returns : goal.returns
@@ -23,5 +23,5 @@ returns g c =
     let zip : AllZip (λ (block after : Vec Player). AllZip (HasTakenSteps scene) block.items after.items) blocks done =
     all_given (λ (block after : Vec Player). AllZip (HasTakenSteps scene) block.items after.items) blocks results done long c.in_ok-all_of.ensures
     (λ place other inside. let given = (c.in_ok-results.ensures.each place other inside).1 in (given.job, given.job_is, given.call.met)) in
-    let whole : AllZip (HasTakenSteps scene) c.args.players.items (in_blocks done) = subst (λ (players : List Player). AllZip (HasTakenSteps scene) players (in_blocks done)) c.in_ok-blocks.ensures (blocks_zip (HasTakenSteps scene) blocks done zip) in
+    let whole : AllZip (HasTakenSteps scene) c.args.players.items (in_blocks done) = subst (λ (players : List Player). AllZip (HasTakenSteps scene) players (in_blocks done)) c.in_ok-blocks.ensures.all (blocks_zip (HasTakenSteps scene) blocks done zip) in
     IfOk-weaker c.join_blocks.result (λ joined. joined.items ≡ in_blocks done) (λ joined. AllZip (HasTakenSteps scene) c.args.players.items joined.items) (λ joined is. subst (AllZip (HasTakenSteps scene) c.args.players.items) (sym is) whole) c.join_blocks.ensures
