@@ -2,6 +2,7 @@
 
 The sources are in the layout of `rt fmt`, which the gate asks for: an item begins and ends at one indentation.
 """
+import os
 import re
 from typing import NamedTuple
 
@@ -34,6 +35,14 @@ class Function(NamedTuple):
         parts = self.name.split("::")
         inside = ["::".join([*parts[:at], "fn", *parts[at:]]) + "::" for at in range(1, len(parts))]
         return name == self.name or any(name.startswith(it) for it in inside)
+
+
+def answers_of(root, folder):
+    """The file with the written answers of the function that a folder is of. The kit puts a '+' before the name of the
+    folder where the function calls itself."""
+    place, _, name = folder.rpartition("/")
+    files = [os.path.join(root, place, it, "Answers.antt") for it in (name, f"+{name}")]
+    return next(filter(os.path.exists, files), files[0])
 
 
 def function_at(crate, file, text, line):

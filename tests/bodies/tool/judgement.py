@@ -3,7 +3,7 @@ import os
 import re
 from typing import NamedTuple
 
-from functions import Function
+from functions import Function, answers_of
 
 # What refuses a body, the strongest first; docs/tests.md says what each shows. Or that nothing did.
 FALSE_GOAL, OPEN_GOAL, WRITTEN_PROOF, LOST_NAME = "false-goal", "open-goal", "written-proof", "lost-name"
@@ -103,7 +103,7 @@ def names_of(goals):
 
 def answered_goals(folder, function):
     """The goals of a function that its written proof answers."""
-    file = os.path.join(folder, function.folder, "Answers.antt")
+    file = answers_of(folder, function.folder)
     if not os.path.exists(file):
         return set()
     with open(file, encoding="utf-8") as it:

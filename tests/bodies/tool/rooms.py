@@ -9,6 +9,7 @@ import subprocess
 import tempfile
 import threading
 
+from functions import answers_of
 from verdicts import Said
 
 PARTS = ("src", "specs", "proofs")
@@ -80,7 +81,7 @@ class Room:
         for file, text in texts.items():
             write(os.path.join(self.folder, file), text)
         for it in without:
-            os.remove(os.path.join(self.folder, it, "Answers.antt"))
+            os.remove(answers_of(self.folder, it))
         return self.check()
 
     def check(self):

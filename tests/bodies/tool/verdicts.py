@@ -25,7 +25,7 @@ class Goal(NamedTuple):
 
 
 class Misfit(NamedTuple):
-    """What does not fit of a written proof: the folder of the proof, the goal, and whether it is for a lost name."""
+    """What does not fit of a written proof: the folder of the proof, without a sign before its name, the goal, and whether it is for a lost name."""
 
     folder: str
     goal: str
@@ -64,7 +64,7 @@ def misfit_in(line):
     found = MISFIT.fullmatch(line)
     if not found or RESTS_ON_REFUSED.search(found[3]):
         return None
-    return Misfit(found[1], found[2] or "?", bool(LOST_NAME.search(found[3])))
+    return Misfit(found[1].replace("/+", "/"), found[2] or "?", bool(LOST_NAME.search(found[3])))
 
 
 def is_unreadable(line):
