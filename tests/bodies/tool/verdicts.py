@@ -25,7 +25,8 @@ class Goal(NamedTuple):
 
 
 class Misfit(NamedTuple):
-    """What does not fit of a written proof: the folder of the proof, without a sign before its name, the goal, and whether it is for a lost name."""
+    """What does not fit of a written proof: the folder of the proof, without a sign before its name, the goal, and
+    whether it is for a lost name."""
 
     folder: str
     goal: str
