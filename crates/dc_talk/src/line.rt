@@ -14,7 +14,7 @@ pub enum Miss {
     Misfit,
 }
 
-/// The word of a step that reads or changes an object.
+/// The word of a step that reads or changes an object. The object of the last four is a bounded counter.
 #[derive(Clone, Copy)]
 pub enum StepWord {
     /// Adds to a counter.
@@ -31,6 +31,14 @@ pub enum StepWord {
     Drop,
     /// Reads an object.
     Read,
+    /// Adds to a holder's own rights in a bounded counter.
+    Grant,
+    /// Gives rights in a bounded counter to another holder.
+    Give,
+    /// Takes from a bounded counter.
+    Take,
+    /// Tells a holder's rights in a bounded counter.
+    Rights,
 }
 
 /// How the push of a commit ended.
@@ -163,6 +171,19 @@ pub enum Line {
         client: u32,
         object: ObjectId,
         value: Value,
+    },
+    /// A holder wanted to take or give more than its rights in a bounded counter, which are these.
+    Short {
+        client: u32,
+        word: StepWord,
+        object: ObjectId,
+        rights: i128,
+    },
+    /// A holder has these rights in a bounded counter.
+    RightsValue {
+        client: u32,
+        object: ObjectId,
+        rights: i128,
     },
     /// A commit got this number.
     CommitNumber {

@@ -1,12 +1,16 @@
 -- What a step leaves in a log: the calls of the session with how they ended, the asks with what became of them,
 -- and the line of the step. All but the answers of the centres is fixed.
-use Rattle.std.specs.Prelude.{◌≡◌, ℕ, Bool, true, false, ◌==◌, cond, fold, map, List, [], ◌∷◌, ◌++◌, Option, Some, None}
+use Rattle.std.specs.Prelude.{◌≡◌, ℕ, ℤ, pos, int_lt, Bool, true, false, ◌==◌, cond, fold, map, List, [], ◌∷◌, ◌++◌, Option, Some, None}
 use Rattle.std.specs.Option.{option_map, option_or}
 use Rattle.std.specs.List.{list_any}
+use Rattle.std.specs.Int.{w128, int_wrap}
 use Rattle.list_core.specs.Choices.{when}
 use Rattle.vv_core.specs.declared.stamp.Lack.{Lack}
 use Rattle.tx_core.specs.declared.tx.Tx.{Tx}
 use Rattle.tx_core.specs.declared.tx.Update.{Update}
+use Rattle.tx_core.specs.declared.state.Value.TheVariants.{Number as NumberValue}
+use Rattle.obj_bounded.specs.CellNames.{cell_name, counter_of, gain_cells, loss_cells}
+use Rattle.obj_bounded.specs.HolderRights.{rights_of}
 use Rattle.ids_core.specs.declared.object.ObjectId.{ObjectId}
 use Rattle.dc_talk.specs.declared.ask.Ask.{Ask}
 use Rattle.dc_talk.specs.declared.ask.Ask.TheVariants.{Commit as CommitAsk}
@@ -37,10 +41,11 @@ use Rattle.dc_talk.specs.Clients.{Client}
 use Rattle.dc_talk.specs.Calls.{outcome_of}
 use Rattle.dc_talk.specs.Rule.{after, takes, hello_of, refresh_of, fetch_of, next_commit}
 use Rattle.script_core.specs.declared.object_call.ObjectCall.{ObjectCall}
+use Rattle.script_core.specs.declared.steps.Share.{Share}
 use Rattle.script_core.specs.declared.steps.AskFault.{AskFault}
 use Rattle.script_core.specs.declared.steps.AskFault.TheVariants.{LoseAsk, LoseReply, Twice}
 use Rattle.script_core.specs.declared.steps.ClientStep.{ClientStep}
-use Rattle.script_core.specs.declared.steps.ClientStep.TheVariants.{Connect, Begin, Change, Read, Commit, Abort, Push, Flush, Refresh, Again, Arm}
+use Rattle.script_core.specs.declared.steps.ClientStep.TheVariants.{Connect, Begin, Change, Read, Grant, Give, Take, Rights, Commit, Abort, Push, Flush, Refresh, Again, Arm}
 
 -- ---- the lines of steps, by what became of an ask; none where an answer is to an ask of another kind
 
@@ -91,12 +96,30 @@ call_line client CommitCall (Refused (PendingFull limit)) = Some (line.CommitPen
 call_line client AbortCall (Refused NotOpen) = Some (line.AbortClosed client)
 call_line client _ _ = None
 
+-- whether the step with this word is one of a bounded counter
+abbrev pub is_of_rights : StepWord → Bool
+is_of_rights step.Grant = true
+is_of_rights step.Give = true
+is_of_rights step.Take = true
+is_of_rights step.Rights = true
+is_of_rights _ = false
+
+-- the line of a call on a cell of a bounded counter that ended so: a value that was read has none
+abbrev pub cell_line : ℕ → ObjectCall → Outcome → Option Line
+cell_line client c (Refused NotOpen) = Some (line.Closed client c.word c.shown)
+cell_line client c (Refused (TooManyUpdates limit)) = Some (line.ManyUpdates client c.word c.shown)
+cell_line client c _ = None
+
+-- the line of a call on an object that ended so
+abbrev pub line_on : ℕ → ObjectCall → Outcome → Option Line
+line_on client c outcome = cond (is_of_rights c.word) (cell_line client c outcome) (call_line client c.call outcome)
+
 -- the line of a fetch for a call, where it gave no state
 abbrev pub fetch_line : ℕ → ObjectCall → Fate → Option Line
-fetch_line client c (Heard (Lacks of need have)) = Some (line.FetchLacks client c.word c.object (lack of need have))
-fetch_line client c (Heard (Pruned centre base low)) = Some (line.FetchPruned client c.word c.object centre base low)
-fetch_line client c (Heard (Object state)) = Some (line.FetchIgnored client c.word c.object)
-fetch_line client c fate = option_map (line.FetchMissed client c.word c.object) (miss_of fate)
+fetch_line client c (Heard (Lacks of need have)) = Some (line.FetchLacks client c.word c.shown (lack of need have))
+fetch_line client c (Heard (Pruned centre base low)) = Some (line.FetchPruned client c.word c.shown centre base low)
+fetch_line client c (Heard (Object state)) = Some (line.FetchIgnored client c.word c.shown)
+fetch_line client c fate = option_map (line.FetchMissed client c.word c.shown) (miss_of fate)
 
 -- how a push that was answered so ended
 abbrev pub answer_end : Say → Option PushEnd
@@ -193,14 +216,18 @@ OrTells (Some x) line Over deeds = Over x deeds
 abbrev pub calls : Client → Call → List Deed
 calls s call = Did call (outcome_of s call) ∷ told (call_line s.client call (outcome_of s call))
 
+-- a call on an object, and its line
+abbrev pub calls_on : Client → ObjectCall → List Deed
+calls_on s c = Did c.call (outcome_of s c.call) ∷ told (line_on s.client c (outcome_of s c.call))
+
 -- what follows a fetch for a call: where the state was taken the call again, and else the line that
 -- says why not
 abbrev pub after_fetch : Client → ℕ → ObjectCall → Fate → List Deed
-after_fetch s i c fate = cond (took s i (fetch_of s c.object) fate) (calls (after s (Asked i (fetch_of s c.object) fate)) c.call) (told (fetch_line s.client c fate))
+after_fetch s i c fate = cond (took s i (fetch_of s c.object) fate) (calls_on (after s (Asked i (fetch_of s c.object) fate)) c) (told (fetch_line s.client c fate))
 
 -- a fetch for a call
 abbrev pub FetchDeeds : Progress → ObjectCall → List Deed → Type 0
-FetchDeeds p c deeds = OrTells p.client.link (line.Unconnected p.client.client c.word c.object) (λ link. Asks p.armed link.centre (fetch_of p.client c.object) (after_fetch p.client link.centre c)) deeds
+FetchDeeds p c deeds = OrTells p.client.link (line.Unconnected p.client.client c.word c.shown) (λ link. Asks p.armed link.centre (fetch_of p.client c.object) (after_fetch p.client link.centre c)) deeds
 
 -- a call that has to have its object fetched
 pub record CallsBehind (p : Progress) (c : ObjectCall) (deeds : List Deed) : Type 0 where
@@ -211,15 +238,97 @@ pub record CallsBehind (p : Progress) (c : ObjectCall) (deeds : List Deed) : Typ
 -- a call on an object whose first try ended so
 abbrev pub CallDeeds : Progress → ObjectCall → Outcome → List Deed → Type 0
 CallDeeds p c (Refused (NeedsFetch o)) deeds = CallsBehind p c deeds
-CallDeeds p c outcome deeds = deeds ≡ calls p.client c.call
+CallDeeds p c outcome deeds = deeds ≡ calls_on p.client c
 
 -- a change of an object as a call on it
 abbrev pub change_call : ObjectId → ChangeOf → ObjectCall
-change_call o change = record { word = word_of change; object = o; call = ChangeCall o change }
+change_call o change = record { word = word_of change; shown = o; object = o; call = ChangeCall o change }
 
 -- a read of an object as a call on it
 abbrev pub read_call : ObjectId → ObjectCall
-read_call o = record { word = step.Read; object = o; call = ReadCall o }
+read_call o = record { word = step.Read; shown = o; object = o; call = ReadCall o }
+
+-- ---- bounded counters
+
+-- the bounded counter of a share, as lines name it
+abbrev pub counter_of_share : Share → ObjectId
+counter_of_share share = counter_of share.name
+
+-- the cell of what the holder gave to another one; to itself, what it was granted; and to 0, what it took
+abbrev pub cell_to : Share → ℕ → ObjectId
+cell_to share to = counter_of (cell_name share.name share.holder to)
+
+-- the cells of a share: first those that count for the holder
+abbrev pub share_cells : Share → List ObjectId
+share_cells share = gain_cells share.name share.holder share.holders ++ loss_cells share.name share.holder share.holders
+
+-- a call on a cell, for a step with this word
+abbrev pub cell_call : StepWord → Share → ObjectId → Call → ObjectCall
+cell_call word share cell call = record { word = word; shown = counter_of_share share; object = cell; call = call }
+
+-- a read of a cell
+abbrev pub cell_read : StepWord → Share → ObjectId → ObjectCall
+cell_read word share cell = cell_call word share cell (ReadCall cell)
+
+-- a change of a cell, which adds an amount
+abbrev pub cell_inc : StepWord → Share → ObjectId → ℕ → ObjectCall
+cell_inc word share cell amount = cell_call word share cell (ChangeCall cell (Inc (pos amount)))
+
+-- the number that a deed read, where it did
+abbrev pub number_got : Deed → Option ℤ
+number_got (Did (ReadCall o) (Got (NumberValue number))) = Some number
+number_got _ = None
+
+-- the number that the last of the deeds read, where it did
+abbrev pub last_number : List Deed → Option ℤ
+last_number deeds = fold (λ found deed. number_got deed) None deeds
+
+-- a client behind deeds of its step
+abbrev pub behind : Progress → List Deed → Progress
+behind p deeds = record p { client = after_all p.client deeds; armed = cond (list_any is_ask deeds) None p.armed }
+
+-- what follows a read, by the number that it got; where it got none, nothing
+abbrev pub FollowsRead : Option ℤ → (ℤ → List Deed → Type 0) → List Deed → Type 0
+FollowsRead None Follows later = later ≡ []
+FollowsRead (Some number) Follows later = Follows number later
+
+-- a read of a cell, fetched where that is needed, and what follows it
+pub record ReadsCell (p : Progress) (c : ObjectCall) (Follows : ℤ → Progress → List Deed → Type 0) (deeds : List Deed) : Type 0 where
+  pub first : List Deed
+  pub later : List Deed
+  pub whole : deeds ≡ first ++ later
+  pub reads : CallDeeds p c (outcome_of p.client c.call) first
+  pub follows : FollowsRead (last_number first) (λ number. Follows number (behind p first)) later
+
+-- reads of cells, one after another, behind those that gave these numbers, and what follows the last one. One that gets
+-- no number is the last deed but for its line.
+abbrev pub CellsDeeds : StepWord → Share → (List ℤ → Progress → List Deed → Type 0) → List ObjectId → List ℤ → Progress → List Deed → Type 0
+CellsDeeds word share Follows [] numbers p deeds = Follows numbers p deeds
+CellsDeeds word share Follows (cell ∷ cells) numbers p deeds = ReadsCell p (cell_read word share cell) (λ number q later. CellsDeeds word share Follows cells (numbers ++ number ∷ []) q later) deeds
+
+-- the rights of a holder by the numbers of its cells. The sum wraps at the ends of 128 bits; in a book that fits it never
+-- comes there.
+abbrev pub rights_got : Share → List ℤ → ℤ
+rights_got share numbers = int_wrap w128 (rights_of share.holders numbers)
+
+-- what follows the reads of a step that takes or gives an amount: where the holder has less, the line that says so, and
+-- else the change
+abbrev pub AddsOwned : StepWord → Share → ℕ → ℕ → List ℤ → Progress → List Deed → Type 0
+AddsOwned word share to amount numbers p deeds = deeds ≡ cond (int_lt (rights_got share numbers) (pos amount))
+    (Told (line.Short p.client.client word (counter_of_share share) (rights_got share numbers)) ∷ [])
+    (calls_on p.client (cell_inc word share (cell_to share to) amount))
+
+-- a step that takes an amount, or gives it to another holder
+abbrev pub TakingDeeds : Progress → StepWord → Share → ℕ → ℕ → List Deed → Type 0
+TakingDeeds p word share to amount deeds = CellsDeeds word share (AddsOwned word share to amount) (share_cells share) [] p deeds
+
+-- what follows the reads of a step that tells the rights
+abbrev pub TellsRights : Share → List ℤ → Progress → List Deed → Type 0
+TellsRights share numbers p deeds = deeds ≡ Told (line.RightsValue p.client.client (counter_of_share share) (rights_got share numbers)) ∷ []
+
+-- a step that tells the rights
+abbrev pub RightsDeeds : Progress → Share → List Deed → Type 0
+RightsDeeds p share deeds = CellsDeeds step.Rights share (TellsRights share) (share_cells share) [] p deeds
 
 -- ---- pushes
 
@@ -290,6 +399,10 @@ StepDeeds p (Connect centre) deeds = Asks p.armed centre (hello_of p.client) (λ
 StepDeeds p Begin deeds = deeds ≡ calls p.client BeginCall
 StepDeeds p (Change o change) deeds = CallDeeds p (change_call o change) (outcome_of p.client (ChangeCall o change)) deeds
 StepDeeds p (Read o) deeds = CallDeeds p (read_call o) (outcome_of p.client (ReadCall o)) deeds
+StepDeeds p (Grant share amount) deeds = deeds ≡ calls_on p.client (cell_inc step.Grant share (cell_to share share.holder) amount)
+StepDeeds p (Give share to amount) deeds = TakingDeeds p step.Give share to amount deeds
+StepDeeds p (Take share amount) deeds = TakingDeeds p step.Take share 0 amount deeds
+StepDeeds p (Rights share) deeds = RightsDeeds p share deeds
 StepDeeds p Commit deeds = deeds ≡ calls p.client CommitCall
 StepDeeds p Abort deeds = deeds ≡ calls p.client AbortCall
 StepDeeds p Push deeds = OverNext p.client (line.PushNone p.client.client) (Pushes p) deeds

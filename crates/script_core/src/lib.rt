@@ -13,4 +13,4 @@ pub use rounds::{MOST_EVERY, MOST_MAILED, ROUNDS_BETWEEN_PRUNES, Role};
 pub use script::{
     DEFAULT_CACHE, DEFAULT_ROUNDS, DEFAULT_THREADS, Header, MOST_ROUNDS, MOST_THREADS, Script,
 };
-pub use steps::{AskFault, ClientStep, OperatorStep, Section, Sections, Step, Steps};
+pub use steps::{AskFault, ClientStep, OperatorStep, Section, Sections, Share, Step, Steps};

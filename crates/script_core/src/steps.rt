@@ -1,6 +1,6 @@
 // The steps of a script.
 use dc_talk::{Change, LinkFault};
-use ids_core::ObjectId;
+use ids_core::{Name, ObjectId};
 use list_core::List;
 
 /// What goes wrong with a client's next ask.
@@ -14,7 +14,16 @@ pub enum AskFault {
     Twice,
 }
 
-/// What a client does in one step. Centres are counted from 1.
+/// A holder's share in a bounded counter (Balegas and others, SRDS 2015): the counter's name, of at most 25 bytes, the
+/// holder, from 1, and how many holders there are, at most 8.
+#[derive(Clone, Copy)]
+pub struct Share {
+    pub name: Name,
+    pub holder: u8,
+    pub holders: u8,
+}
+
+/// What a client does in one step. Centres are counted from 1. Amounts are from 1 to 10^12.
 #[derive(Clone, Copy)]
 pub enum ClientStep {
     /// Hello to this centre: for the first time, again, or to move there.
@@ -25,6 +34,14 @@ pub enum ClientStep {
     Change { object: ObjectId, change: Change },
     /// Reads an object.
     Read { object: ObjectId },
+    /// Adds an amount to the holder's rights.
+    Grant { share: Share, amount: u64 },
+    /// Gives an amount of the holder's rights to another holder, where it has as much.
+    Give { share: Share, to: u8, amount: u64 },
+    /// Takes an amount of the holder's rights, and so of the counter, where it has as much.
+    Take { share: Share, amount: u64 },
+    /// Tells the holder's rights.
+    Rights { share: Share },
     /// Ends the transaction, and keeps its updates.
     Commit,
     /// Ends the transaction, and drops its updates.
