@@ -7,6 +7,8 @@ before it in its own transaction.
 """
 import re
 
+from objects import cells_of
+from script import holders_of
 from words import value_text
 
 
@@ -147,15 +149,45 @@ def value_of(kind, acts):
     return sorted(words.items())
 
 
+# ---- bounded counters
+
+
+def rights_of(cells, updates):
+    """The rights of a holder with these cells for it and against it, by updates."""
+    worth = {**dict.fromkeys(cells[0], 1), **dict.fromkeys(cells[1], -1)}
+    return sum(worth[of] * op[1] for of, op in updates if of in worth)
+
+
+def counters_in(graph):
+    """The bounded counters that the transactions tell of."""
+    cells = {of for tx in graph.nodes.values() for of, _ in tx.updates if of.startswith("c.bc_")}
+    return sorted({f"b.{cell[len('c.bc_'):-len('_1_1')]}" for cell in cells})
+
+
+def check_rights(graph, holders, sets):
+    """Over each of these closed sets no holder has less than nothing."""
+    for shown in counters_in(graph):
+        for holder in range(1, holders + 1):
+            cells = cells_of(shown, holder, holders)
+            worth = {dot: rights_of(cells, tx.updates) for dot, tx in graph.nodes.items()}
+            counted = {dot for dot in worth if worth[dot]}
+            for dots in sets:
+                rights = sum(worth[dot] for dot in counted & dots)
+                if rights < 0:
+                    raise Fault(None, f"holder {holder} of {shown} has {rights} over the closed set {sorted(dots)}")
+
+
 # ---- reads
 
 
 class Session:
     """A client's reads, looked at in their order."""
 
-    def __init__(self, graph, client, lines, bases, rows):
+    def __init__(self, graph, client, lines, bases, rows, holders):
         self.graph, self.client, self.lines, self.bases, self.rows = graph, client, lines, bases, rows
+        self.holders = holders
         self.known, self.own, self.last, self.reads = {}, [], set(), 0
+        self.vector = (0,) * graph.n
 
     def look(self, events):
         for event in events:
@@ -163,6 +195,8 @@ class Session:
                 self.own.append(event[1].dot)
             elif event[0] == "snap":
                 self.hear(event)
+            elif event[0] == "rights":
+                self.count(event)
             else:
                 self.reads += 1
                 self.read(event)
@@ -171,7 +205,7 @@ class Session:
             raise Fault(at, "there are not as many basis lines as reads with a value")
 
     def hear(self, event):
-        moment = self.graph.snap(event)[1]
+        self.vector, moment = self.graph.snap(event)
         for dot in self.graph.known_by(self.rows[event[1]][event[2]]):
             self.known.setdefault(dot, moment)
 
@@ -192,6 +226,16 @@ class Session:
             got = self.lines[line] if line < len(self.lines) else "nothing"
             raise Fault(("line", self.client, line), f"'{got}', but over its basis the read gives '{want}'")
         self.last = basis
+
+    def count(self, event):
+        """Looks at a line with rights: they are those over what the client stands on, and its open updates."""
+        _, shown, number, draft, line = event
+        dots = self.graph.cover(self.vector) | set(self.own)
+        updates = [update for dot in dots for update in self.graph.nodes[dot].updates] + list(draft)
+        rights = rights_of(cells_of(shown, self.client, self.holders), updates)
+        got = self.lines[line] if line < len(self.lines) else "nothing"
+        if rights < 0 or rights != number or not got.endswith(f" {rights}"):
+            raise Fault(("line", self.client, line), f"'{got}', but over its basis the client has {rights}")
 
     def acts(self, thing, dot):
         tx = self.graph.nodes[dot]
@@ -229,6 +273,12 @@ def bases_in(got, clients):
     return found
 
 
+def closed_sets(graph):
+    """Closed sets of transactions: each with what it depends on, two of these together, and all."""
+    sets = [deps | {dot} for dot, deps in graph.deps.items()]
+    return sets + [one | other for one, other in zip(sets, sets[1:])] + [set(graph.nodes)]
+
+
 def place_of(got, at):
     """The number of the line of a fault."""
     if at is None:
@@ -247,9 +297,11 @@ def fault_in(world, got):
         places = graph.moments([event for client in world.clients[1:] for event in client.events])
         rows = {centre: graph.rows_at(centre, places[centre]) for centre in places}
         bases = bases_in(got, world.script.clients)
+        holders = holders_of(world.script)
         for client in world.clients[1:]:
             lines = [line for line in got if line.startswith(f"c{client.number} ")]
-            Session(graph, client.number, lines, bases[client.number], rows).look(client.events)
+            Session(graph, client.number, lines, bases[client.number], rows, holders).look(client.events)
+        check_rights(graph, holders, closed_sets(graph))
     except Fault as fault:
         return place_of(got, fault.args[0]), f"causality: {fault.args[1]}"
     return None

@@ -4,6 +4,7 @@ Each step is a generator. It yields a centre and an ask, gets the answer back, a
 the look at causality needs of the client is written down as events: its commits, the snapshots that it heard, and its reads.
 """
 import objects
+from script import holders_of
 from words import Tx, vector_text, lack_text, value_text
 
 MOST_UPDATES = 256
@@ -26,7 +27,7 @@ def end_text(say):
 
 class Client:
     def __init__(self, number, script, tell, places):
-        self.number, self.capacity = number, script.cache
+        self.number, self.capacity, self.holders = number, script.cache, holders_of(script)
         self.vector = (0,) * script.n
         self.own = self.mine = self.clock = 0
         self.pending, self.draft, self.cache = [], None, []
@@ -195,21 +196,22 @@ class Client:
                 return (objects.fold(thing, state, ops),)
         return None
 
-    def fetch(self, word, thing):
+    def fetch(self, word, thing, shown=None):
         """What the client has of an object, which is fetched where it has to be, or None and a line that says why not."""
         seen = self.view(thing)
         if seen is not None:
             return seen
+        start = f"{word} {shown or thing}"
         if self.link is None:
-            return self.say(f"{word} {thing} unconnected")
+            return self.say(f"{start} unconnected")
         say, took = yield from self.ask(self.link[0], ("fetch", thing, self.vector))
         if took:
             return self.view(thing)
         if say[0] == "pruned":
-            return self.say(f"{word} {thing} pruned {say[1]}:{say[2]} at {say[3]}")
+            return self.say(f"{start} pruned {say[1]}:{say[2]} at {say[3]}")
         if say[0] == "lacks":
-            return self.say(f"{word} {thing} {lack_text('lacks', say)}")
-        return self.say(f"{word} {thing} {MISSES[say[0]]}")
+            return self.say(f"{start} {lack_text('lacks', say)}")
+        return self.say(f"{start} {MISSES[say[0]]}")
 
     def do_read(self, word, thing):
         seen = yield from self.fetch("read", thing)
@@ -233,3 +235,55 @@ class Client:
                 return self.say(f"{word} {thing} tags {len(tags)}")
             op += (tuple(tags),)
         self.draft.append((thing, op))
+
+    # ---- bounded counters
+
+    def rights(self, word, shown):
+        """The client's rights by the cells, read one after another, or None where one cannot be had."""
+        gains, losses = objects.cells_of(shown, self.number, self.holders)
+        values = []
+        for cell in gains + losses:
+            seen = yield from self.fetch(word, cell, shown)
+            if seen is None:
+                return None
+            values.append(seen[0])
+        return sum(values[:len(gains)]) - sum(values[len(gains):])
+
+    def tell_rights(self, word, shown, number):
+        """Tells the client's rights, and writes down by what they are to be judged."""
+        line = self.tell(self.number, f"c{self.number} {word} {number}")
+        self.events.append(("rights", shown, number, tuple(self.draft or ()), line))
+
+    def add_to(self, word, shown, to, amount):
+        """Adds to a cell of the client's share."""
+        if self.draft is None:
+            self.say(f"{word} {shown} closed")
+        elif len(self.draft) >= MOST_UPDATES:
+            self.say(f"{word} {shown} many 256")
+        else:
+            self.draft.append((objects.cell_of(shown, self.number, to), ("inc", amount)))
+
+    def add_owned(self, word, shown, to, amount):
+        """Adds to a cell of the client's share no more than its rights are."""
+        rights = yield from self.rights(word, shown)
+        if rights is None:
+            return
+        if amount > rights:
+            self.tell_rights(f"{word} {shown} short", shown, rights)
+        else:
+            self.add_to(word, shown, to, amount)
+
+    def do_grant(self, word, shown, amount):
+        self.add_to(word, shown, self.number, amount)
+        yield from ()
+
+    def do_give(self, word, shown, to, amount):
+        yield from self.add_owned(word, shown, to, amount)
+
+    def do_take(self, word, shown, amount):
+        yield from self.add_owned(word, shown, 0, amount)
+
+    def do_rights(self, word, shown):
+        rights = yield from self.rights(word, shown)
+        if rights is not None:
+            self.tell_rights(f"rights {shown}", shown, rights)

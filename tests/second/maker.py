@@ -1,12 +1,12 @@
 """Makes scripts that look random, the same for each seed.
 
 There are two to five centres and one to four clients, lines before, between and behind two phases, links with faults, and a
-`settle` with reads at the end. Where there are three centres and more, one is lost for good behind the phases, and its
+`settle` with reads and rights at the end. Where there are three centres and more, one is lost for good behind the phases, and its
 records go on past it.
 """
 import random
 
-OBJECTS = ["c.a", "c.b", "r.a", "r.b", "s.a", "s.b", "m.a"]
+OBJECTS = ["c.a", "c.b", "r.a", "r.b", "s.a", "s.b", "m.a", "c.bc_a_1_1"]
 WORDS = ["x", "y", "z"]
 KEYS = ["k", "l"]
 
@@ -128,6 +128,36 @@ class Maker:
             self.commits[client] += 1
         self.add(f"c{client} flush")
 
+    # ---- bounded counters
+
+    def share(self, client):
+        """A step of a holder: grants are rare, and amounts such that some takings fit and some do not."""
+        shown, amount = self.pick.choice(["b.a", "b.a", "b.b"]), self.pick.randint(1, 9)
+        others = [one for one in range(1, self.m + 1) if one != client]
+        kind = self.pick.randrange(8)
+        if kind < 2:
+            self.add(f"c{client} grant {shown} {self.pick.randint(1, 12)}")
+        elif kind < 4 and others:
+            self.add(f"c{client} give {shown} {self.pick.choice(others)} {amount}")
+        elif kind < 7:
+            self.add(f"c{client} take {shown} {amount}")
+        else:
+            self.add(f"c{client} rights {shown}")
+
+    def shares(self, client):
+        """A transaction of such steps, on its way to others."""
+        if not self.chance(12):
+            self.add(f"c{client} begin")
+        for _ in range(self.pick.randint(1, 4)):
+            self.share(client)
+        if self.pick.randrange(12):
+            self.end(client)
+        if self.chance(4):
+            self.fault(client)
+        self.add(f"c{client} " + self.pick.choice(["push", "flush", "flush", "refresh"]))
+        if self.chance(2):
+            self.add(f"c{client} refresh")
+
     # ---- the operator
 
     def order(self, client):
@@ -182,8 +212,10 @@ class Maker:
 
     def block(self):
         client = self.pick.randint(1, self.m)
-        kind = self.pick.randrange(17)
-        if kind == 16:
+        kind = self.pick.randrange(20)
+        if kind > 16:
+            self.shares(client)
+        elif kind == 16:
             self.hurry(client)
         elif kind < 8:
             self.transaction(client)
@@ -220,6 +252,7 @@ class Maker:
         self.add("settle")
         for client in range(1, self.m + 1):
             self.add(f"c{client} abort", f"c{client} refresh", *(f"c{client} read {thing}" for thing in OBJECTS))
+            self.add(f"c{client} rights b.a", f"c{client} rights b.b")
 
     def script(self):
         self.head()

@@ -77,3 +77,15 @@ def value_of(thing, state):
         if count > 0 and (key not in best or best[key][0] < (kept[0], tag)):
             best[key] = ((kept[0], tag), kept[1])
     return [(key, best[key][1]) for key in sorted(best)]
+
+
+def cell_of(shown, holder, to):
+    """The cell of a bounded counter from a holder to another one, to itself, or to 0."""
+    return f"c.bc_{shown[2:]}_{holder}_{to}"
+
+
+def cells_of(shown, holder, holders):
+    """The cells of a holder: those that count for it, and those that count against it."""
+    every = range(1, holders + 1)
+    gains = [cell_of(shown, one, holder) for one in every]
+    return gains, [cell_of(shown, holder, one) for one in every if one != holder] + [cell_of(shown, holder, 0)]

@@ -12,12 +12,16 @@ Script = namedtuple("Script", "n k clients cache limit threads rounds sections")
 
 NAME = r"[a-z0-9_]{1,32}"
 NUMBER = r"(?:0|[1-9][0-9]{0,18})"
+BOUNDED = r"b\.[a-z0-9_]{1,25}"
+MOST_HOLDERS = 8
 SETTINGS = {"cache": (1, 100000, 1024), "limit": (1, 1000000, 1000000), "threads": (1, 16, 4), "rounds": (0, 1000, 32)}
 CLIENT_FORMS = [
     (rf"connect ({NUMBER})", "connect"), (r"begin", "begin"), (rf"inc (c\.{NAME}) (-?{NUMBER})", "inc"),
     (rf"set (r\.{NAME}) ({NAME})", "set"), (rf"(add|del) (s\.{NAME}) ({NAME})", None),
     (rf"put (m\.{NAME}) ({NAME}) ({NAME})", "put"), (rf"drop (m\.{NAME}) ({NAME})", "drop"),
     (rf"read ([crsm]\.{NAME})", "read"), (r"(commit|abort|push|flush|refresh|twice)", None),
+    (rf"(grant|take) ({BOUNDED}) ({NUMBER})", None), (rf"give ({BOUNDED}) ({NUMBER}) ({NUMBER})", "give"),
+    (rf"rights ({BOUNDED})", "rights"),
     (rf"again ({NUMBER}) ({NUMBER})", "again"), (r"lose (ask|reply)", "lose"),
 ]
 OPERATOR_FORMS = [
@@ -29,6 +33,7 @@ FORMS = {"client": CLIENT_FORMS, "operator": OPERATOR_FORMS}
 COMPILED = {who: [(re.compile(form), word) for form, word in forms] for who, forms in FORMS.items()}
 # The last number of a step that has one beside its centres: how many centres stand before it, and its greatest value.
 COUNTED = {"ship": (2, 1000000), "link": (3, 1000000), "again": (1, 4611686018427387904)}
+RIGHTS = ("grant", "give", "take", "rights")
 CENTRES = {"connect": 1, "again": 1, "down": 1, "up": 1, "prune": 1, "ship": 2, "tell": 2, "link": 2, "relay": 3}
 
 
@@ -47,6 +52,11 @@ def words_of(text):
 
 def refuse(number):
     raise NoScript(f"line {number} of the script is none")
+
+
+def holders_of(script):
+    """How many clients are holders of bounded counters."""
+    return min(script.clients, MOST_HOLDERS)
 
 
 def step_of(words, script, number):
@@ -77,10 +87,22 @@ def checked(step, script, number):
         if not 1 <= said[-1] <= COUNTED[word][1]:
             refuse(number)
     if word == "inc":
-        if said[1] == "-0" or abs(int(said[1])) > 10**12:
+        if said[1] == "-0" or abs(int(said[1])) > 10**12 or said[0].startswith("c.bc_"):
             refuse(number)
         said[1] = int(said[1])
+    if word in RIGHTS:
+        said[1:] = amounts_in(step[0], said[1:], script, number)
     return (step[0], word, *said)
+
+
+def amounts_in(client, said, script, number):
+    """The holder and the amount of a step on a bounded counter, where it has them, of a client that is a holder."""
+    said = list(map(int, said))
+    if client > holders_of(script) or any(not 1 <= amount <= 10**12 for amount in said[-1:]):
+        refuse(number)
+    if len(said) == 2 and (not 1 <= said[0] <= holders_of(script) or said[0] == client):
+        refuse(number)
+    return said
 
 
 def header_of(lines):

@@ -137,6 +137,9 @@ add_changed("a word more or less in a set", r"(c\d+ read s\.\w+ )(\{.*\})",
             lambda pick, line: line[1] + another(pick, line[2], ["{}", "{x}", "{x y}", "{y z}", "{x y z}"]))
 add_changed("another word in a map", r"(c\d+ read m\.\w+ )(\{.*\})",
             lambda pick, line: line[1] + another(pick, line[2], ["{}", "{k=x}", "{k=y l=z}", "{l=x}"]))
+add_changed("other rights", r"(c\d+ rights \S+ )(\d+)", lambda pick, line: line[1] + more(line[2]))
+add_changed("a taking refused with other rights", r"(c\d+ (?:take|give) \S+ short )(\d+)", lambda pick, line: line[1] + more(line[2]))
+add_changed("a taking told as closed", r"(c\d+ (?:take|give) \S+ )short \d+", lambda pick, line: f"{line[1]}closed")
 add_changed("a changed vector of a `sees` line", r"(c\d+ sees )([\d,]+)( own \d+)",
             lambda pick, line: line[1] + other_vector(pick, line[2]) + line[3])
 add_changed("a changed own of a `sees` line", r"(c\d+ sees [\d,]+ own )(\d+)",
