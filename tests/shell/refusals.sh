@@ -40,6 +40,19 @@ count|link 1
 range|link 1 1 drop 0
 count|end 1
 word|link 1 1 lose 3
+range|c1 grant b.x 0
+range|c1 grant b.x 1000000000001
+range|c1 give b.x 1 5
+range|c1 give b.x 2 5
+range|c2 take b.x 1
+range|c9 take B.x 0
+number|c1 take b.x 01
+count|c1 take b.x
+name|c1 take c.x 1
+name|c1 take B.x 0
+name|c1 rights b.abcdefghijklmnopqrstuvwxyz
+name|c1 inc c.bc_x_1_1 1
+kind|c1 inc r.bc_x 1
 END
 }
 
