@@ -44,7 +44,7 @@ advise_end() {
     said "$text"
 }
 
-steps='connect, begin, inc, set, add, del, put, drop, read, commit, abort, push, flush, refresh, again, lose or twice'
+steps='connect, begin, inc, set, add, del, put, drop, read, grant, give, take, rights, commit, abort, push, flush, refresh, again, lose or twice'
 beginnings='centres, clients, cache, limit, threads, rounds, down, up, ship, relay, tell, prune, link, settle, phase or end'
 a_name='1 to 32 bytes out of a to z, 0 to 9 and _'
 
@@ -101,6 +101,27 @@ check_advice_on_names() {
     advise_two "'c.visits' is a counter, and put is for maps (m.NAME); a counter is changed by inc" 'c1 put c.visits ann two'
 }
 
+check_advice_on_bounded_counters() {
+    holders='a bounded counter is held by clients c1 to c3'
+    amount='expected a number from 1 to 1000000000000'
+    bounded='expected b.NAME, with a NAME of 1 to 25 bytes out of a to z, 0 to 9 and _'
+    advise_two "too few words; expected 'cN give b.NAME HOLDER AMOUNT'" 'c1 give b.x 2'
+    advise_two "no step begins with 'grand'; did you mean 'grant'?" 'c1 grand b.x 2'
+    advise_two "'0' is out of range; $amount" 'c1 take b.x 0'
+    advise_two "'1000000000001' is out of range; $amount" 'c1 grant b.x 1000000000001'
+    advise_two "'c4' is no holder; $holders" 'c4 take b.x 1'
+    advise_two "'4' is no holder; $holders" 'c1 give b.x 4 1'
+    advise_two "'2' is c2 itself; expected another holder, and $holders" 'c2 give b.x 2 1'
+    advise_two "'c.x' is no bounded counter; $bounded" 'c1 rights c.x'
+    advise_two "'b.abcdefghijklmnopqrstuvwxyz' is no bounded counter; $bounded" 'c1 rights b.abcdefghijklmnopqrstuvwxyz'
+    advise_two "'c.bc_x_1_1' may be a cell of a bounded counter; expected a counter whose name does not begin with bc_" \
+        'c1 inc c.bc_x_1_1 1'
+    advise "'c9' is no holder; a bounded counter is held by clients c1 to c8" 'c9 rights b.x' \
+        'centres 1 k 1' 'clients 12' 'c9 rights b.x'
+    advise "'1' is c1 itself; expected another holder, and a bounded counter is held by client c1 alone" 'c1 give b.x 1 1' \
+        'centres 1 k 1' 'clients 1' 'c1 give b.x 1 1'
+}
+
 check_advice_on_places() {
     advise "a step may not stand before the header is complete; expected 'clients NUMBER'" 'c1 begin' \
         'centres 1 k 1' '' 'c1 begin'
@@ -153,6 +174,7 @@ check_advice() {
     check_advice_on_counts
     check_advice_on_numbers
     check_advice_on_names
+    check_advice_on_bounded_counters
     check_advice_on_places
     check_advice_on_bytes
 }

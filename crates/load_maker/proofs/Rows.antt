@@ -24,6 +24,7 @@ use Rattle.script_core.specs.declared.steps.OperatorStep.TheVariants as operator
 use Rattle.script_reader.specs.Words.{is_blank, is_plain, is_plain_text, is_comment, words_of, without_return}
 use Rattle.script_reader.specs.Numbers.{is_digit, number_in, delta_in}
 use Rattle.script_reader.specs.Names.{is_name_byte, object_named}
+use Rattle.script_reader.specs.Shares.{summand_in}
 use Rattle.script_reader.specs.Forms.{form_among, form_of, parts_of}
 use Rattle.script_reader.specs.Said.{said_word, said_words, unsaid, with_said, with_object}
 use Rattle.script_reader.specs.Rows.{row_of, row_in, row_in_text, row_in_words, row_spelled, row_said, is_of_its_kind}
@@ -342,6 +343,11 @@ said_object : (text : List ℕ) (object : ObjectId) (parts : List Part) (texts :
 unfolding said_word
 said_object text object parts texts said is = said_next (Some made_header) part.Object parts text texts said (record said { object = object }) (ap (with_object (λ object. record said { object = object })) is)
 
+-- one to which may be added
+said_summand : (text : List ℕ) (object : ObjectId) (parts : List Part) (texts : List (List ℕ)) (said : Said) → summand_in text ≡ Ok object → said_words (Some made_header) (part.Summand ∷ parts) (text ∷ texts) said ≡ said_words (Some made_header) parts texts (record said { summand = object })
+unfolding said_word
+said_summand text object parts texts said is = said_next (Some made_header) part.Summand parts text texts said (record said { summand = object }) (ap (with_said (λ object. record said { summand = object })) is)
+
 -- a delta
 said_delta : (n : ℕ) (parts : List Part) (texts : List (List ℕ)) (said : Said) → 1 ≤ n → n < 1000000 → said_words (Some made_header) (part.Delta ∷ parts) (decimal n ∷ texts) said ≡ said_words (Some made_header) parts texts (record said { delta = pos n })
 unfolding said_word
@@ -371,22 +377,22 @@ unfolding row_of object_named
 total_read client number low high early =
     let wide : client < 2 ^ 64 = omega arith in
     let few = length-decimal-le 3 client (omega arith) (omega arith) wide in
-    client_line client number (codes "inc c.total " ++ decimal client) (codes "inc" ∷ codes "c.total" ∷ decimal client ∷ []) form.Inc (record unsaid { client = client; object = total; delta = pos client }) low high early
+    client_line client number (codes "inc c.total " ++ decimal client) (codes "inc" ∷ codes "c.total" ∷ decimal client ∷ []) form.Inc (record unsaid { client = client; delta = pos client; summand = total }) low high early
     (digits_pass is_plain (decimal client) plain_digit (decimal_digits client wide))
     (omega arith)
     (ended_words (codes "inc") (codes "c.total") [] client wide refl (lit< tt) refl (lit< tt) refl)
     (λ d ds digit digits. form_inc d ds (codes "c.total") (decimal client) digit digits)
-    (said_client client word.Inc (part.Object ∷ part.Delta ∷ []) (codes "inc") (codes "c.total" ∷ decimal client ∷ []) low high
-    ∙ said_object (codes "c.total") total (part.Delta ∷ []) (decimal client ∷ []) (record unsaid { client = client }) refl
-    ∙ said_delta client [] [] (record unsaid { client = client; object = total }) low (omega arith))
+    (said_client client word.Inc (part.Summand ∷ part.Delta ∷ []) (codes "inc") (codes "c.total" ∷ decimal client ∷ []) low high
+    ∙ said_summand (codes "c.total") total (part.Delta ∷ []) (decimal client ∷ []) (record unsaid { client = client }) refl
+    ∙ said_delta client [] [] (record unsaid { client = client; summand = total }) low (omega arith))
     refl
 
 pub side_read : (client number : ℕ) → 1 ≤ client → client ≤ 100 → number ≤ MAX_LINES → row_in (Some made_header) number (client_text client ++ codes " inc c.side 1") ≡ Ok (Some (client_does client (does.Change side (Inc (pos 1)))))
 unfolding row_of object_named words_of said_word delta_in number_in
 side_read client number low high early =
-    client_line client number (codes "inc c.side 1") (codes "inc" ∷ codes "c.side" ∷ codes "1" ∷ []) form.Inc (record unsaid { client = client; object = side; delta = pos 1 }) low high early refl (lit≤ tt) refl
+    client_line client number (codes "inc c.side 1") (codes "inc" ∷ codes "c.side" ∷ codes "1" ∷ []) form.Inc (record unsaid { client = client; delta = pos 1; summand = side }) low high early refl (lit≤ tt) refl
     (λ d ds digit digits. form_inc d ds (codes "c.side") (codes "1") digit digits)
-    (said_client client word.Inc (part.Object ∷ part.Delta ∷ []) (codes "inc") (codes "c.side" ∷ codes "1" ∷ []) low high)
+    (said_client client word.Inc (part.Summand ∷ part.Delta ∷ []) (codes "inc") (codes "c.side" ∷ codes "1" ∷ []) low high)
     refl
 
 pub total_told : (client number : ℕ) → 1 ≤ client → client ≤ 100 → number ≤ MAX_LINES → row_in (Some made_header) number (client_text client ++ codes " read c.total") ≡ Ok (Some (client_does client (does.Read total)))

@@ -9,7 +9,7 @@ use Rattle.vv_core.specs.Vectors.{most}
 use Rattle.tx_core.specs.declared.state.Value.{Value}
 use Rattle.tx_core.specs.declared.state.Value.TheVariants.{Number, Word, Words, Pairs}
 use Rattle.dc_talk.specs.declared.line.Line.{Line}
-use Rattle.dc_talk.specs.declared.line.Line.TheVariants.{At, Refused, ConnectMissed, BeginOpen, BeginClock, Closed, ManyUpdates, ManyTags, Unconnected, FetchMissed, FetchLacks, FetchPruned, FetchIgnored, ReadValue, CommitNumber, CommitNone, CommitClosed, CommitPending, AbortClosed, PushUnconnected, PushNone, Push, AgainNone, Again, Flushed, Sees, RefreshUnconnected, RefreshOpen, RefreshLacks, RefreshMissed, RefreshIgnored, Ship, Relay, ToldDown, ToldMisfit, Based, BaseDown}
+use Rattle.dc_talk.specs.declared.line.Line.TheVariants.{At, Refused, ConnectMissed, BeginOpen, BeginClock, Closed, ManyUpdates, ManyTags, Unconnected, FetchMissed, FetchLacks, FetchPruned, FetchIgnored, ReadValue, Short, RightsValue, CommitNumber, CommitNone, CommitClosed, CommitPending, AbortClosed, PushUnconnected, PushNone, Push, AgainNone, Again, Flushed, Sees, RefreshUnconnected, RefreshOpen, RefreshLacks, RefreshMissed, RefreshIgnored, Ship, Relay, ToldDown, ToldMisfit, Based, BaseDown}
 use Rattle.dc_talk.specs.declared.line.Miss.{Miss}
 use Rattle.dc_talk.specs.declared.line.Miss.TheVariants.{Unreachable, Lost, Misfit}
 use Rattle.dc_talk.specs.declared.line.PushEnd.{PushEnd}
@@ -17,12 +17,12 @@ use Rattle.dc_talk.specs.declared.line.PushEnd.TheVariants.{Stamped, Known, Full
 use Rattle.dc_talk.specs.declared.line.ShipEnd.{ShipEnd}
 use Rattle.dc_talk.specs.declared.line.ShipEnd.TheVariants.{Absent, Applied, Alias, Old, Gap, Waits, Orphan, Trimmed, Down, Misfit as Undelivered}
 use Rattle.dc_talk.specs.declared.line.StepWord.{StepWord}
-use Rattle.dc_talk.specs.declared.line.StepWord.TheVariants.{Read}
+use Rattle.dc_talk.specs.declared.line.StepWord.TheVariants.{Read, Rights}
 use Rattle.dc_talk.specs.declared.log.Deed.{Deed}
 use Rattle.dc_talk.specs.declared.log.Deed.TheVariants.{Told}
 use Rattle.dc_talk.specs.declared.log.Note.{Note}
 use Rattle.dc_talk.specs.Logs.{Logged}
-use Rattle.script_core.specs.Steps.{object_text, word_text}
+use Rattle.script_core.specs.Steps.{shown_text, word_text}
 
 -- a client: `c1`
 abbrev pub client_text : ℕ → List ℕ
@@ -75,9 +75,9 @@ miss_text Unreachable = codes "unreachable"
 miss_text Lost = codes "lost"
 miss_text Misfit = codes "misfit"
 
--- a client's step on an object
+-- a client's step on an object, or on a bounded counter
 abbrev pub step_text : ℕ → StepWord → ObjectId → List ℕ
-step_text client word object = client_text client ++ codes " " ++ word_text word ++ codes " " ++ object_text object
+step_text client word object = client_text client ++ codes " " ++ word_text word ++ codes " " ++ shown_text word object
 
 -- how a push ended
 abbrev pub end_text : PushEnd → List ℕ
@@ -121,6 +121,8 @@ line_text (FetchLacks client word object lack) = step_text client word object ++
 line_text (FetchPruned client word object centre base at) = step_text client word object ++ codes " pruned " ++ decimal centre ++ codes ":" ++ decimal base ++ codes " at " ++ decimal at
 line_text (FetchIgnored client word object) = step_text client word object ++ codes " ignored"
 line_text (ReadValue client object value) = step_text client Read object ++ codes " " ++ value_text value
+line_text (Short client word object rights) = step_text client word object ++ codes " short " ++ signed_decimal rights
+line_text (RightsValue client object rights) = step_text client Rights object ++ codes " " ++ signed_decimal rights
 line_text (CommitNumber client number) = client_text client ++ codes " commit " ++ decimal number
 line_text (CommitNone client) = client_text client ++ codes " commit none"
 line_text (CommitClosed client) = client_text client ++ codes " commit closed"

@@ -1,11 +1,12 @@
 // The lines of steps as bytes.
 ghost use Rattle.std.specs.Prelude.{◌≡◌, ◌++◌, OnOk, codes, decimal, map};
-ghost use Rattle.script_core.specs.Steps.{object_text};
+ghost use Rattle.std.specs.Fmt.{signed_decimal};
+ghost use Rattle.script_core.specs.Steps.{object_text, shown_text};
 ghost use Rattle.print_text.specs.Text.{centres_text, client_text, end_text, lack_text, lacking_text, later, line_text, miss_text, ship_end_text, stamp_text, step_text, vector_text};
 
-use crate::value::write_value;
+use crate::value::{write_sum, write_value};
 use dc_talk::{Line, Miss, PushEnd, ShipEnd, StepWord};
-use ids_core::{NoMemory, ObjectId, Sort};
+use ids_core::{Name, NoMemory, ObjectId, Sort};
 use itoa::Buffer;
 use vv_core::{Lack, Stamp, Vector};
 
@@ -84,6 +85,17 @@ pub fn write_line(text: &mut Vec<u8>, line: &Line) -> Result<(), NoMemory>
             write_step(text, *client, StepWord::Read, object, b" ")?;
             write_value(text, value)
         }
+        Line::Short {
+            client,
+            word,
+            object,
+            rights,
+        } => write_rights(text, *client, *word, object, b" short ", *rights),
+        Line::RightsValue {
+            client,
+            object,
+            rights,
+        } => write_rights(text, *client, StepWord::Rights, object, b" ", *rights),
         Line::CommitNumber { client, number } => write_numbered(
             text,
             *client,
@@ -235,6 +247,21 @@ fn write_fetch_lacks(
     write_lack(text, lack)
 }
 
+// A step on a bounded counter with the words and the rights behind it.
+fn write_rights(
+    text: &mut Vec<u8>,
+    client: u32,
+    word: StepWord,
+    object: &ObjectId,
+    words: &[u8],
+    rights: i128,
+) -> Result<(), NoMemory>
+    ensures { OnOk result (text.new.items ≡ text.old.items ++ (step_text client word object.now ++ words.now ++ signed_decimal rights)) }
+{
+    write_step(text, client, word, object, words)?;
+    write_sum(text, rights)
+}
+
 // Where a base is above a snapshot.
 fn write_pruned(text: &mut Vec<u8>, centre: u8, base: u64, at: u64) -> Result<(), NoMemory>
     ensures { OnOk result (text.new.items ≡ text.old.items ++ (decimal centre ++ codes ":" ++ decimal base ++ codes " at " ++ decimal at)) }
@@ -334,9 +361,34 @@ fn write_step(
         StepWord::Put => write_words(text, client, b" put ")?,
         StepWord::Drop => write_words(text, client, b" drop ")?,
         StepWord::Read => write_words(text, client, b" read ")?,
+        StepWord::Grant => write_words(text, client, b" grant ")?,
+        StepWord::Give => write_words(text, client, b" give ")?,
+        StepWord::Take => write_words(text, client, b" take ")?,
+        StepWord::Rights => write_words(text, client, b" rights ")?,
     }
-    write_object(text, object)?;
+    write_shown(text, word, object)?;
     text.extend_from_slice(words)?;
+    Ok(())
+}
+
+// An object as the lines of a step with this word name it.
+fn write_shown(text: &mut Vec<u8>, word: StepWord, object: &ObjectId) -> Result<(), NoMemory>
+    ensures { OnOk result (text.new.items ≡ text.old.items ++ shown_text word object.now) }
+{
+    match word {
+        StepWord::Grant | StepWord::Give | StepWord::Take | StepWord::Rights => {
+            write_bounded(text, &object.name)
+        }
+        _ => write_object(text, object),
+    }
+}
+
+// A bounded counter of this name.
+fn write_bounded(text: &mut Vec<u8>, name: &Name) -> Result<(), NoMemory>
+    ensures { OnOk result (text.new.items ≡ text.old.items ++ (codes "b." ++ name.now)) }
+{
+    text.extend_from_slice(b"b.")?;
+    text.extend_from_slice(name.as_slice())?;
     Ok(())
 }
 

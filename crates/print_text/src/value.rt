@@ -20,7 +20,8 @@ pub fn write_value(text: &mut Vec<u8>, value: &Value) -> Result<(), NoMemory>
     }
 }
 
-fn write_sum(text: &mut Vec<u8>, sum: i128) -> Result<(), NoMemory>
+/// Writes a sum at the end, with `-` where it is negative. An `Err` leaves a part of it there.
+pub fn write_sum(text: &mut Vec<u8>, sum: i128) -> Result<(), NoMemory>
     ensures { OnOk result (text.new.items ≡ text.old.items ++ signed_decimal sum) }
 {
     let mut buffer = Buffer::new();

@@ -7,6 +7,7 @@ pub mod Growth
 pub mod Pairing
 pub mod Filtered
 pub mod Moves
+pub mod CellReads
 pub mod Happenings
 pub mod Snapshots
 pub mod Dots

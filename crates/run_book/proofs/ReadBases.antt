@@ -1,13 +1,13 @@
--- What the reads of a client stand on, in order, and as it is computed along a log.
-use Rattle.std.proofs.Common.{◌≡◌, ℕ, ◌+◌, ◌-◌, ◌≤◌, ◌<◌, ◌⊎◌, inl, inr, ⊎_elim, cond, List, [], ◌∷◌, ◌++◌, length, take, map, Bool, true, false, Some, refl, sym, ap, ◌∙◌, subst, arith, get_or, add-one}
-use Rattle.std.specs.Prelude.{Option, filter, flat_map, is_some, slice_get}
+-- What the reads of a client stand on whose values its log tells, in order, and as it is computed along the log.
+use Rattle.std.proofs.Common.{◌≡◌, ℕ, suc, ◌+◌, ◌-◌, ◌≤◌, ◌<◌, ◌⊎◌, inl, inr, ⊎_elim, cond, List, [], ◌∷◌, ◌++◌, length, take, map, Bool, true, false, Some, None, refl, sym, ap, ◌∙◌, subst, arith, get_or, add-one}
+use Rattle.std.specs.Prelude.{Option, filter, flat_map, slice_get}
 use Rattle.std.specs.List.{range_with_len, AllByRecursion, cons_option}
 use Rattle.std.specs.List.Sorted.{IsStrictlySortedBy}
 use Rattle.std.specs.Ordering.{ordering_reverse}
 use Rattle.std.specs.declared.cmp.Ordering.{Ordering}
 use Rattle.std.specs.declared.cmp.Ordering.TheVariants.{Less, Equal, Greater}
 use Rattle.std.proofs.lemmas.List.{map-id, map-append}
-use Rattle.std.proofs.lemmas.Option.{slice_get_read}
+use Rattle.std.proofs.lemmas.Option.{none-some, slice_get_read}
 use Rattle.std.proofs.lemmas.List.Elements.{filter-append, filter_map-append}
 use Rattle.std.proofs.lemmas.List.FromFn.{map-range_with_len_more, get_or-map-range_with_len}
 use Rattle.list_core.specs.Members.{In}
@@ -15,9 +15,14 @@ use Rattle.list_core.proofs.Images.{flat_map-agree}
 use Rattle.list_core.proofs.Moments.{take_one_more}
 use Rattle.list_core.proofs.Ranges.{In_from_range}
 use Rattle.ids_core.specs.declared.ids.Dot.{Dot}
+use Rattle.ids_core.specs.declared.object.ObjectId.{ObjectId}
 use Rattle.ids_core.specs.Orders.{dot_cmp, dot_cmp_total, dot_cmp_same}
 use Rattle.ids_core.proofs.Ascending.{one_ascending}
 use Rattle.vv_core.specs.Vectors.{at, centres}
+use Rattle.dc_talk.specs.declared.calls.Call.TheVariants.{Read}
+use Rattle.dc_talk.specs.declared.calls.Outcome.TheVariants.{Got}
+use Rattle.dc_talk.specs.declared.log.Deed.{Deed}
+use Rattle.dc_talk.specs.declared.log.Deed.TheVariants.{Did}
 use Rattle.dc_talk.specs.declared.log.Note.{Note}
 use Rattle.dc_talk.specs.Entries.{Entry}
 use Rattle.dc_talk.specs.Logs.{Logged}
@@ -31,11 +36,12 @@ use Rattle.run_book.specs.Fit.{FitsWith}
 use Rattle.run_book.specs.Graphs.{own_dots, basis, basis_at, client_at}
 use Rattle.run_book.specs.Replay.{Shows, IsInRange}
 use Rattle.run_book.specs.Basis.{dot_stamped, stamped_dots, stamped_cover}
-use Rattle.run_book.specs.ReadValues.{read_of, object_read}
-use Rattle.run_book.specs.ReadBases.{in_place, in_order, stamped_lists, stamped_at, basis_by, basis_told}
+use Rattle.run_book.specs.ReadValues.{read_in, read_of, object_read}
+use Rattle.run_book.specs.ReadBases.{in_place, in_order, note_tells, stamped_lists, stamped_at, basis_by, basis_told}
 use Rattle.run_book.proofs.Bases.{shows_basis}
 use Rattle.run_book.proofs.Growth.{wide_after}
 use Rattle.run_book.proofs.Replays.{shows_more}
+use Rattle.run_book.proofs.Sessions.{after_more}
 
 -- ---- dots in order
 
@@ -148,6 +154,25 @@ stamped_more trail index entry dots more found lt is before stamped grown =
     ∙ sym (filter_map-append (λ (e : Entry). dot_stamped e.ask e.say) (take index trail) (entry ∷ []))
     ∙ ap stamped_dots (sym longer)
 
+-- ---- where a value is told
+
+-- a read that got a value leaves what its client stands on
+read_stands : (b : Book) (s : Client) (deed : Deed) (o : ObjectId) → read_in deed ≡ Some o → basis b (after s deed) ≡ basis b s
+read_stands b s (Did (Read read) (Got value)) o is = refl
+read_stands b s deed o is = absurd (none-some o is)
+
+-- so behind it, where its value is told, the client stands as it did there
+pub told_stands : (b : Book) (setup : Setup) (a m : ℕ) (o : ObjectId) → object_read b a m ≡ Some o → basis_at b setup a (m + 1) ≡ basis_at b setup a m
+told_stands b setup a m o is = go (slice_get (notes_of b a) m) refl is
+  where
+    go : (found : Option Note) → slice_get (notes_of b a) m ≡ found → read_of found ≡ Some o → basis_at b setup a (m + 1) ≡ basis_at b setup a m
+    go None there is = absurd (none-some o is)
+    go (Some note) there is =
+        let next : m + 1 ≡ suc m = omega arith in
+        ap (basis_at b setup a) next
+        ∙ ap (basis b) (after_more b.n (a - 1) setup.capacity m (notes_of b a) note there)
+        ∙ read_stands b (client_at b setup a m) note.deed o is
+
 -- ---- along a log
 
 -- a range with one number more
@@ -157,9 +182,9 @@ range_next first count next is =
     ∙ map-range_with_len_more (λ n. n) first count next (sym is)
     ∙ ap (λ l. l ++ next ∷ []) (map-id (range_with_len first count))
 
--- the reads with a value among the first notes of an actor
+-- those of the first notes of an actor that tell the value of a read
 abbrev pub reads_before : Book → ℕ → ℕ → List ℕ
-reads_before b a many = filter (λ m. is_some (object_read b a m)) (range_with_len 0 many)
+reads_before b a many = filter (λ m. note_tells (slice_get (notes_of b a) m)) (range_with_len 0 many)
 
 -- the bases of the first notes of a log, and the replay of its client there
 pub record Tells (b : Book) (stamped : List (List Dot)) (log : Logged) (bases : List (List Dot)) (r : Replay) (m : ℕ) : Type 0 where
@@ -183,7 +208,7 @@ tells_more b stamped log bases more old new m note there before pushed goes_on =
     are : (a : ℕ) (setup : Setup) → FitsWith b setup → IsClient setup a → log ≡ log_of b a → stamped ≡ stamped_lists b → more ≡ map (λ m. in_order (basis_at b setup a m)) (reads_before b a (m + 1))
     are a setup fit client is lists =
         let tell : ℕ → List Dot = λ m. in_order (basis_at b setup a m) in
-        let test : ℕ → Bool = λ m. is_some (object_read b a m) in
+        let test : ℕ → Bool = λ m. note_tells (slice_get (notes_of b a) m) in
         pushed setup (client_at b setup a m) fit (before.shows a setup fit client is) (wide_after b.n (a - 1) setup.capacity (take m (notes_of b a))) lists
         ∙ ap (λ l. l ++ basis_told b (client_at b setup a m) note.deed) (before.are a setup fit client is lists)
         ∙ ap (λ l. map tell (reads_before b a m) ++ l) (told a setup is)
@@ -191,8 +216,8 @@ tells_more b stamped log bases more old new m note there before pushed goes_on =
         ∙ ap (map tell) (sym (filter-append test (range_with_len 0 m) (m ∷ [])))
         ∙ ap (λ l. map tell (filter test l)) (sym (range_next 0 m m (omega arith)))
       where
-        told : (a : ℕ) (setup : Setup) → log ≡ log_of b a → basis_told b (client_at b setup a m) note.deed ≡ map (λ m. in_order (basis_at b setup a m)) (filter (λ m. is_some (object_read b a m)) (m ∷ []))
-        told a setup is = ap (λ found. cond (is_some (read_of found)) (in_order (basis_at b setup a m) ∷ []) []) (sym (here a is)) ∙ go (is_some (object_read b a m))
+        told : (a : ℕ) (setup : Setup) → log ≡ log_of b a → basis_told b (client_at b setup a m) note.deed ≡ map (λ m. in_order (basis_at b setup a m)) (filter (λ m. note_tells (slice_get (notes_of b a) m)) (m ∷ []))
+        told a setup is = ap (λ found. cond (note_tells found) (in_order (basis_at b setup a m) ∷ []) []) (sym (here a is)) ∙ go (note_tells (slice_get (notes_of b a) m))
           where
             go : (some : Bool) → cond some (in_order (basis_at b setup a m) ∷ []) [] ≡ map (λ m. in_order (basis_at b setup a m)) (cond some (m ∷ []) [])
             go true = refl

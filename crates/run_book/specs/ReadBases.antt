@@ -1,5 +1,5 @@
--- What the reads of a client stand on, each dot once and in order.
-use Rattle.std.specs.Prelude.{ℕ, ◌-◌, cond, filter, flat_map, is_some, length, map, slice_index_or, take, List, [], ◌∷◌, ◌++◌}
+-- What the reads of a client stand on whose values its log tells, each dot once and in order.
+use Rattle.std.specs.Prelude.{ℕ, ◌-◌, Bool, true, false, cond, filter, flat_map, length, map, slice_get, slice_index_or, take, List, [], ◌∷◌, ◌++◌, Option, Some, None}
 use Rattle.std.specs.List.{range_with_len}
 use Rattle.std.specs.declared.cmp.Ordering.TheVariants.{Less, Equal, Greater}
 use Rattle.ids_core.specs.declared.ids.Dot.{Dot}
@@ -7,13 +7,15 @@ use Rattle.ids_core.specs.Orders.{dot_cmp}
 use Rattle.vv_core.specs.Vectors.{at, centres}
 use Rattle.dc_talk.specs.Clients.{Client}
 use Rattle.dc_talk.specs.declared.log.Deed.{Deed}
+use Rattle.dc_talk.specs.declared.log.Deed.TheVariants.{Told}
+use Rattle.dc_talk.specs.declared.log.Note.{Note}
+use Rattle.dc_talk.specs.declared.line.Line.TheVariants.{ReadValue}
 use Rattle.run_book.specs.declared.book.Book.{Book}
 use Rattle.run_book.specs.declared.replay.Replay.{Replay}
 use Rattle.run_book.specs.Setups.{Setup}
 use Rattle.run_book.specs.Parts.{trail_of, notes_of}
 use Rattle.run_book.specs.Graphs.{basis, basis_at, own_dots}
 use Rattle.run_book.specs.Basis.{stamped_dots}
-use Rattle.run_book.specs.ReadValues.{read_in, object_read}
 
 -- a dot among dots that stand in order by client and number: once, and in its place
 abbrev pub in_place : Dot → List Dot → List Dot
@@ -25,11 +27,21 @@ abbrev pub in_order : List Dot → List Dot
 in_order [] = []
 in_order (dot ∷ dots) = in_place dot (in_order dots)
 
--- the notes of actor a that are reads with a value, counted from 0
-abbrev pub reads_of : Book → ℕ → List ℕ
-reads_of b a = filter (λ m. is_some (object_read b a m)) (range_with_len 0 (length (notes_of b a)))
+-- whether a deed tells a value that was read
+abbrev pub tells_value : Deed → Bool
+tells_value (Told (ReadValue client object value)) = true
+tells_value _ = false
 
--- what each of these reads stands on, in order
+-- whether a note does, where there is one
+abbrev pub note_tells : Option Note → Bool
+note_tells None = false
+note_tells (Some note) = tells_value note.deed
+
+-- the notes of actor a that tell the value of a read, counted from 0. The reads in a step of a bounded counter have none.
+abbrev pub reads_of : Book → ℕ → List ℕ
+reads_of b a = filter (λ m. note_tells (slice_get (notes_of b a) m)) (range_with_len 0 (length (notes_of b a)))
+
+-- what each of these reads stands on, in order: at the note that tells its value a client stands as it did at the read
 abbrev pub bases_of : Book → Setup → ℕ → List (List Dot)
 bases_of b setup a = map (λ m. in_order (basis_at b setup a m)) (reads_of b a)
 
@@ -47,6 +59,6 @@ stamped_at stamped e = slice_index_or stamped (e - 1) []
 abbrev pub basis_by : List (List Dot) → Replay → List Dot
 basis_by stamped r = flat_map (λ e. take (at r.vector e) (stamped_at stamped e)) (centres (length r.vector)) ++ own_dots r.client r.own
 
--- what a client stands on where a deed of it is a read with a value, and nothing at other deeds
+-- what a client stands on where a deed of it tells a value that was read, and nothing at other deeds
 abbrev pub basis_told : Book → Client → Deed → List (List Dot)
-basis_told b s deed = cond (is_some (read_in deed)) (in_order (basis b s) ∷ []) []
+basis_told b s deed = cond (tells_value deed) (in_order (basis b s) ∷ []) []

@@ -1,5 +1,5 @@
 // The laws of books. Each is a function with nothing to do, whose contract is the law.
-ghost use Rattle.std.specs.Prelude.{◌≡◌, ◌≢◌, ◌≤◌, ◌-◌, ℕ, true, List, Some, take};
+ghost use Rattle.std.specs.Prelude.{◌≡◌, ◌≢◌, ◌≤◌, ◌+◌, ◌-◌, ℕ, true, List, Some, take};
 ghost use Rattle.list_core.specs.Members.{In};
 ghost use Rattle.ids_core.specs.declared.object.ObjectId.{ObjectId};
 ghost use Rattle.vv_core.specs.Vectors.{Covers};
@@ -16,7 +16,8 @@ ghost use Rattle.dc_talk.specs.Rule.{takes, client_after, commits_of, Follows};
 ghost use Rattle.run_book.specs.Setups.{Setup};
 ghost use Rattle.run_book.specs.Parts.{notes_of, IsClient};
 ghost use Rattle.run_book.specs.Fit.{FitsWith};
-ghost use Rattle.run_book.specs.Graphs.{client_at, commits_at};
+ghost use Rattle.run_book.specs.Graphs.{basis_at, client_at, commits_at};
+ghost use Rattle.run_book.specs.ReadValues.{object_read};
 ghost use Rattle.run_book.specs.Causal.{IsCausal};
 ghost use Rattle.run_book.specs.Refusals.{IsEntry, Exchange, Makes, IsPushAnswer, IsNoRefusal, IsFetched, IsReached};
 ghost use Rattle.run_book.specs.Laws.{HasSoundVectors, HasOneList, HasClosedBases, KeepsSessions, HasKnownBases, HasValues, Agrees, TakesSnapshots, KnowsPruned, HasFewHops};
@@ -76,6 +77,12 @@ pub fn law_known(book: &Book)
 /// open updates, by which update sees which (Shapiro and others, INRIA RR-7506).
 pub fn law_value(book: &Book)
     ensures { (setup : Setup) → FitsWith book.now setup → HasValues book.now setup }
+{}
+
+/// A read that got a value leaves what its client stands on: at the note behind it, which may tell the value, the client
+/// stands as it did at the read.
+pub fn law_read_stands(book: &Book)
+    ensures { (setup : Setup) (a m : ℕ) (object : ObjectId) → object_read book.now a m ≡ Some object → basis_at book.now setup a (m + 1) ≡ basis_at book.now setup a m }
 {}
 
 /// Where the book fits, two reads of an object over equal bases, with nothing open, give one value.

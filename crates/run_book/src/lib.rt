@@ -18,6 +18,6 @@ pub use book::{Book, Logs, Trails};
 pub use edits::{Edit, Edits};
 pub use laws::{
     law_agree, law_causal, law_closed, law_hops, law_known, law_numbers, law_one_list, law_pruned,
-    law_refusals, law_session, law_sound, law_together, law_value,
+    law_read_stands, law_refusals, law_session, law_sound, law_together, law_value,
 };
 pub use read_bases::Dots;

@@ -1,4 +1,4 @@
-// What the reads of a client stand on, one read after another.
+// What the reads of a client stand on whose values its log tells, one read after another.
 ghost use Rattle.std.specs.Prelude.{◌≡◌, ◌≤◌, ◌+◌, [], ◌++◌, ℕ, flat_map, length, take, OnOk, IfOk};
 ghost use Rattle.vv_core.specs.Vectors.{at, centres};
 ghost use Rattle.dc_talk.specs.Clients.{Client};
@@ -7,13 +7,12 @@ ghost use Rattle.run_book.specs.Parts.{log_of, IsClient};
 ghost use Rattle.run_book.specs.Fit.{FitsWith};
 ghost use Rattle.run_book.specs.Replay.{Shows};
 ghost use Rattle.run_book.specs.Basis.{stamped_dots};
-ghost use Rattle.run_book.specs.ReadBases.{bases_of, basis_by, basis_told, in_order, stamped_at, stamped_lists};
+ghost use Rattle.run_book.specs.ReadBases.{bases_of, basis_by, basis_told, in_order, stamped_at, stamped_lists, tells_value};
 
 use crate::basis::{sort_once, stamped_dot};
 use crate::book::Book;
-use crate::read_values::object_of;
 use crate::replay::Replay;
-use dc_talk::{Deed, Entry, Log};
+use dc_talk::{Deed, Entry, Line, Log};
 use ids_core::{Dot, NoMemory};
 use list_core::List;
 use std::alloc::Global;
@@ -35,10 +34,10 @@ impl Book {
         Ok(lists)
     }
 
-    /// What each read with a value of a log stands on (Middleware 2015), in the order of the reads, by what each centre
-    /// stamped: the transactions that the snapshot covers, and those that the client committed before, each once, by
-    /// client and number. Logs are counted from 0. Of a book that does not fit, or a log that is no client's, nothing
-    /// is said. It takes time in the number of notes and, but for a sort, of the dots.
+    /// What each read of a log stands on (Middleware 2015) whose value the log tells, in the order of the reads, by what
+    /// each centre stamped: the transactions that the snapshot covers, and those that the client committed before, each
+    /// once, by client and number. Logs are counted from 0. Of a book that does not fit, or a log that is no client's,
+    /// nothing is said. It takes time in the number of notes and, but for a sort, of the dots.
     pub fn bases(&self, alloc: Global, stamped: &[Dots], log: usize) -> Result<Vec<Dots>, NoMemory>
         ensures { IfOk result (λ bases. (setup : Setup) → FitsWith self.now setup → IsClient setup (log + 1) → stamped.now ≡ stamped_lists self.now →
             bases.items ≡ bases_of self.now setup (log + 1)) }
@@ -49,7 +48,7 @@ impl Book {
         }
     }
 
-    // What each read with a value of a client's log stands on.
+    // What each read of a client's log stands on whose value the log tells.
     fn log_bases(&self, alloc: Global, stamped: &[Dots], log: &Log) -> Result<Vec<Dots>, NoMemory>
         ensures { IfOk result (λ bases. (a : ℕ) (setup : Setup) → FitsWith self.now setup → IsClient setup a → log.now ≡ log_of self.now a → stamped.now ≡ stamped_lists self.now →
             bases.items ≡ bases_of self.now setup a) }
@@ -64,7 +63,7 @@ impl Book {
         Ok(bases)
     }
 
-    // Puts what the client stands on at the end, where the deed is a read with a value.
+    // Puts what the client stands on at the end, where the deed tells a value that was read.
     fn push_basis(
         &self,
         alloc: Global,
@@ -76,11 +75,18 @@ impl Book {
         ensures { OnOk result ((setup : Setup) (s : Client) → FitsWith self.now setup → Shows replay.now s → length s.vector ≡ self.now.n → stamped.now ≡ stamped_lists self.now →
             bases.new.items ≡ bases.old.items ++ basis_told self.now s deed.now) }
     {
-        if object_of(deed).is_some() {
+        if tells_value(deed) {
             bases.push(ordered_basis(alloc, stamped, replay)?)?;
         }
         Ok(())
     }
+}
+
+// Whether a deed tells a value that was read.
+fn tells_value(deed: &Deed) -> bool
+    ensures { result ≡ tells_value deed.now }
+{
+    matches!(deed, Deed::Told(Line::ReadValue { .. }))
 }
 
 // The dots of the commits that the centre of a trail stamped.

@@ -91,7 +91,7 @@ fn object_read(log: &Log, note: usize) -> Option<ObjectId>
 }
 
 // The object that a deed read, where it got a value.
-pub fn object_of(deed: &Deed) -> Option<ObjectId>
+fn object_of(deed: &Deed) -> Option<ObjectId>
     ensures { result ≡ read_in deed.now }
 {
     match deed {

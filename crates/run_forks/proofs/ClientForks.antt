@@ -1,6 +1,7 @@
 -- The deeds of a client's step are the same, or part at an answer.
-use Rattle.std.proofs.Common.{◌≡◌, ℕ, ⊎_elim, inl, inr, true, false, List, [], ◌∷◌, ◌++◌, Option, Some, None, refl, sym, ap, ◌∙◌, subst}
+use Rattle.std.proofs.Common.{◌≡◌, ℕ, ℤ, ⊎_elim, inl, inr, true, false, List, [], ◌∷◌, ◌++◌, Option, Some, None, refl, sym, ap, ◌∙◌, subst}
 use Rattle.std.proofs.lemmas.Bool.{false≢true}
+use Rattle.ids_core.specs.declared.object.ObjectId.{ObjectId}
 use Rattle.tx_core.specs.declared.tx.Tx.{Tx}
 use Rattle.tx_core.specs.declared.tx.Update.{Update}
 use Rattle.dc_talk.specs.declared.ask.Ask.{Ask}
@@ -15,17 +16,20 @@ use Rattle.dc_talk.specs.declared.log.Fate.{Fate}
 use Rattle.dc_talk.specs.declared.log.Fate.TheVariants.{Unheard}
 use Rattle.dc_talk.specs.declared.log.Deed.{Deed}
 use Rattle.dc_talk.specs.declared.log.Deed.TheVariants.{Did, Asked, Told}
+use Rattle.dc_talk.specs.declared.line.StepWord.{StepWord}
+use Rattle.dc_talk.specs.declared.line.StepWord.TheVariants as step
 use Rattle.dc_talk.specs.declared.line.Line.{Line}
 use Rattle.dc_talk.specs.declared.line.Line.TheVariants as line
 use Rattle.dc_talk.specs.Clients.{Client}
 use Rattle.dc_talk.specs.Calls.{outcome_of}
 use Rattle.dc_talk.specs.Rule.{hello_of, refresh_of, fetch_of, next_commit}
 use Rattle.script_core.specs.declared.object_call.ObjectCall.{ObjectCall}
+use Rattle.script_core.specs.declared.steps.Share.{Share}
 use Rattle.script_core.specs.declared.steps.AskFault.{AskFault}
 use Rattle.script_core.specs.declared.steps.AskFault.TheVariants.{LoseAsk, LoseReply, Twice}
 use Rattle.script_core.specs.declared.steps.ClientStep.{ClientStep}
-use Rattle.script_core.specs.declared.steps.ClientStep.TheVariants.{Connect, Begin, Change, Read, Commit, Abort, Push, Flush, Refresh, Again, Arm}
-use Rattle.script_core.specs.Deeds.{Progress, fate_of, copies, took, told, Asks, OrTells, calls, after_fetch, CallDeeds, change_call, read_call, Pushes, OverNext, goes_on, PushesOn, FlushEnds, pushed, FlushDeeds, flush_ends, flush_goes, commit_sent, again_line, push_line, hello_line, refresh_line, AgainDeeds, RefreshDeeds, StepDeeds}
+use Rattle.script_core.specs.declared.steps.ClientStep.TheVariants.{Connect, Begin, Change, Read, Grant, Give, Take, Rights, Commit, Abort, Push, Flush, Refresh, Again, Arm}
+use Rattle.script_core.specs.Deeds.{Progress, fate_of, copies, took, told, Asks, OrTells, calls, calls_on, after_fetch, CallDeeds, change_call, read_call, cell_to, cell_read, cell_inc, share_cells, last_number, behind, FollowsRead, ReadsCell, CellsDeeds, AddsOwned, TakingDeeds, TellsRights, RightsDeeds, Pushes, OverNext, goes_on, PushesOn, FlushEnds, pushed, FlushDeeds, flush_ends, flush_goes, commit_sent, again_line, push_line, hello_line, refresh_line, AgainDeeds, RefreshDeeds, StepDeeds}
 use Rattle.run_forks.specs.Forks.{AreRivals, AreOneOrFork}
 use Rattle.run_forks.proofs.Forks.{Same, fork_head, fork_as, with_as, with_then, with_cons, with_same, one_or_fork, both_are, fates, by_fate, by_unheard}
 
@@ -55,9 +59,43 @@ call_fork : (p : Progress) (c : ObjectCall) (outcome : Outcome) (ds es : List De
 call_fork p c (Refused (NeedsFetch o)) ds es one two =
     with_as (Did c.call (outcome_of p.client c.call) ∷ one.rest) (Did c.call (outcome_of p.client c.call) ∷ two.rest) ds es (Unit {0}) one.whole two.whole
     (with_cons (Did c.call (outcome_of p.client c.call)) one.rest two.rest (Unit {0})
-    (tells_fork p.client.link (line.Unconnected p.client.client c.word c.object) (λ link. Asks p.armed link.centre (fetch_of p.client c.object) (after_fetch p.client link.centre c)) one.rest two.rest
+    (tells_fork p.client.link (line.Unconnected p.client.client c.word c.shown) (λ link. Asks p.armed link.centre (fetch_of p.client c.object) (after_fetch p.client link.centre c)) one.rest two.rest
     (λ link. asks_fork p.armed link.centre (fetch_of p.client c.object) (after_fetch p.client link.centre c) one.rest two.rest) one.fetch two.fetch))
-call_fork p c outcome ds es one two = both_are ds es (calls p.client c.call) one two
+call_fork p c outcome ds es one two = both_are ds es (calls_on p.client c) one two
+
+-- ---- bounded counters
+
+-- what follows reads that got the same
+follows_fork : (found : Option ℤ) (Follows : ℤ → List Deed → Type 0) (ds es : List Deed) → ((number : ℤ) → Follows number ds → Follows number es → Same ds es) → FollowsRead found Follows ds → FollowsRead found Follows es → Same ds es
+follows_fork None Follows ds es each one two = both_are ds es [] one two
+follows_fork (Some number) Follows ds es each one two = each number one two
+
+-- reads of a cell, and what follows them
+cell_fork : (p : Progress) (c : ObjectCall) (Follows : ℤ → Progress → List Deed → Type 0) (ds es : List Deed) → ((number : ℤ) (q : Progress) (xs ys : List Deed) → Follows number q xs → Follows number q ys → Same xs ys) → ReadsCell p c Follows ds → ReadsCell p c Follows es → Same ds es
+cell_fork p c Follows ds es each one two =
+    let After : List Deed → List Deed → Type 0 = λ first later. FollowsRead (last_number first) (λ number. Follows number (behind p first)) later in
+    with_as (one.first ++ one.later) (two.first ++ two.later) ds es (Unit {0}) one.whole two.whole
+    (with_then one.first two.first one.later two.later (one.first ≡ two.first) (Unit {0})
+    (with_same one.first two.first (Unit {0}) (call_fork p c (outcome_of p.client c.call) one.first two.first one.reads two.reads))
+    (λ same. follows_fork (last_number one.first) (λ number. Follows number (behind p one.first)) one.later two.later
+    (λ number. each number (behind p one.first) one.later two.later) one.follows (subst (λ first. After first two.later) (sym same) two.follows)))
+
+-- reads of cells, one after another, and what follows them all
+cells_fork : (word : StepWord) (share : Share) (Follows : List ℤ → Progress → List Deed → Type 0) → ((numbers : List ℤ) (q : Progress) (xs ys : List Deed) → Follows numbers q xs → Follows numbers q ys → Same xs ys) → (cells : List ObjectId) (numbers : List ℤ) (p : Progress) (ds es : List Deed) → CellsDeeds word share Follows cells numbers p ds → CellsDeeds word share Follows cells numbers p es → Same ds es
+cells_fork word share Follows each [] numbers p ds es one two = each numbers p ds es one two
+cells_fork word share Follows each (cell ∷ cells) numbers p ds es one two =
+    cell_fork p (cell_read word share cell) (λ number q later. CellsDeeds word share Follows cells (numbers ++ number ∷ []) q later) ds es
+    (λ number q xs ys first later. cells_fork word share Follows each cells (numbers ++ number ∷ []) q xs ys first later) one two
+
+-- a step that takes an amount, or gives it
+taking_fork : (p : Progress) (word : StepWord) (share : Share) (to amount : ℕ) (ds es : List Deed) → TakingDeeds p word share to amount ds → TakingDeeds p word share to amount es → Same ds es
+taking_fork p word share to amount ds es one two =
+    cells_fork word share (AddsOwned word share to amount) (λ numbers q xs ys first later. both_are xs ys _ first later) (share_cells share) [] p ds es one two
+
+-- a step that tells the rights
+rights_fork : (p : Progress) (share : Share) (ds es : List Deed) → RightsDeeds p share ds → RightsDeeds p share es → Same ds es
+rights_fork p share ds es one two =
+    cells_fork step.Rights share (TellsRights share) (λ numbers q xs ys first later. both_are xs ys _ first later) (share_cells share) [] p ds es one two
 
 -- ---- pushes
 
@@ -163,6 +201,10 @@ step_same p (Connect centre) ds es one two = asks_fork p.armed centre (hello_of 
 step_same p Begin ds es one two = both_are ds es (calls p.client BeginCall) one two
 step_same p (Change o change) ds es one two = call_fork p (change_call o change) (outcome_of p.client (ChangeCall o change)) ds es one two
 step_same p (Read o) ds es one two = call_fork p (read_call o) (outcome_of p.client (ReadCall o)) ds es one two
+step_same p (Grant share amount) ds es one two = both_are ds es (calls_on p.client (cell_inc step.Grant share (cell_to share share.holder) amount)) one two
+step_same p (Give share to amount) ds es one two = taking_fork p step.Give share to amount ds es one two
+step_same p (Take share amount) ds es one two = taking_fork p step.Take share 0 amount ds es one two
+step_same p (Rights share) ds es one two = rights_fork p share ds es one two
 step_same p Commit ds es one two = both_are ds es (calls p.client CommitCall) one two
 step_same p Abort ds es one two = both_are ds es (calls p.client AbortCall) one two
 step_same p Push ds es one two = over_fork p.client (line.PushNone p.client.client) (Pushes p) ds es (λ link tx first later. push_fork p link tx ds es first later) one two

@@ -1,17 +1,17 @@
 -- The text of a book tells the values that its clients read.
 use Rattle.std.proofs.Common.{◌≡◌, ◌≤◌, ◌<◌, ℕ, zero, suc, ◌+◌, ◌-◌, inl, inr, ⊎_elim, List, [], ◌∷◌, ◌++◌, length, map, Some, refl, sym, ap, ◌∙◌, subst, arith}
-use Rattle.std.specs.Prelude.{◌==◌, flat_map, slice_index_or}
+use Rattle.std.specs.Prelude.{◌==◌, Option, None, flat_map, slice_get, slice_index_or}
+use Rattle.std.specs.Option.{option_map}
 use Rattle.std.specs.List.{filter_map, cons_option, range_with_len}
 use Rattle.std.proofs.lemmas.Bool.{eq-eqb}
 use Rattle.std.proofs.lemmas.Grind.{flat_map-append}
-use Rattle.std.proofs.lemmas.Option.{none-some, same_Some}
+use Rattle.std.proofs.lemmas.Option.{none-some, same_Some, slice_get-map}
 use Rattle.list_core.specs.Members.{In}
-use Rattle.list_core.proofs.Gets.{In_get, get_In}
-use Rattle.list_core.proofs.Members.{In_either, In_filter, In_flat_map, In_from_filter, In_from_flat_map, In_left, In_map, In_right}
+use Rattle.list_core.proofs.Gets.{In_get, get_In, get_in_front}
+use Rattle.list_core.proofs.Members.{All-In, In_either, In_filter, In_flat_map, In_from_filter, In_from_flat_map, In_from_map, In_left, In_map, In_right}
 use Rattle.list_core.proofs.Passing.{In_filter_map, In_from_filter_map}
 use Rattle.list_core.proofs.Ranges.{In_range}
 use Rattle.ids_core.specs.declared.object.ObjectId.{ObjectId}
-use Rattle.vv_core.specs.Vectors.{most}
 use Rattle.vv_core.proofs.Reaching.{In-most}
 use Rattle.tx_core.specs.declared.state.Value.{Value}
 use Rattle.dc_talk.specs.declared.calls.Call.TheVariants.{Read}
@@ -23,12 +23,20 @@ use Rattle.dc_talk.specs.declared.log.Deed.TheVariants.{Did, Asked, Told}
 use Rattle.dc_talk.specs.declared.log.Note.{Note}
 use Rattle.dc_talk.specs.Logs.{Logged}
 use Rattle.print_text.specs.Text.{last_section, lines_in, notes_in, notes_text, operator_last, told_text, text_of}
+use Rattle.script_core.specs.declared.script.Script.{Script}
 use Rattle.run_book.specs.declared.book.Book.{Book}
 use Rattle.run_book.specs.Causal.{Reads}
 use Rattle.run_book.specs.Fit.{FitsWith}
 use Rattle.run_book.specs.Parts.{idle_log, notes_of, IsClient}
 use Rattle.run_book.specs.Setups.{Setup}
-use Rattle.run_laws.specs.ReadLines.{line_of, section_lines, lines_of, printed, value_told, value_due, HasRead, TellsValues}
+use Rattle.run_book.specs.Graphs.{basis_at}
+use Rattle.run_book.specs.ReadValues.{read_in, read_of, object_read}
+use Rattle.run_book.proofs.ReadBases.{told_stands}
+use Rattle.run_sections.specs.Orders.{deeds_of}
+use Rattle.run_steps.specs.Logs.{InSteps, AreStepDeeds}
+use Rattle.run_steps.proofs.Places.{get_behind, get_deed, in_step}
+use Rattle.run_laws.specs.ReadLines.{line_of, section_lines, lines_of, printed, value_told, value_due, HasRead, StandsBehind, IsNamedAsCell, ReadsCellsAlone, ReadsNoOther, TellsPart, TellsReads, TellsValues}
+use Rattle.run_laws.proofs.ReadPlaces.{step_behind}
 use Rattle.run_laws.proofs.RunLines.{IsTale}
 
 -- ---- the text is made of its lines
@@ -147,41 +155,148 @@ read_by c (Did (Read o) (Got v)) client object value due =
     record { who = who; is = λ i. Did (Read (of_object i)) (Got (got i)) }
 read_by c deed client object value due = absurd (none-some (ReadValue client object value) due)
 
+-- ---- parts of a log
+
+-- notes of a log that are a part of it, with one of them
+record IsPart (client : ℕ) (notes mine : List Note) (note : Note) : Type 0 where
+  all : (other : Note) → In other mine → In other notes
+  among : In note.deed (deeds_of mine)
+  tells : TellsPart client (deeds_of mine)
+
+-- a note of a log in parts stands in one of them
+in_part : (client : ℕ) (notes : List Note) (note : Note) → InSteps (TellsPart client) notes → In note notes → (mine : List Note) × IsPart client notes mine note
+in_part client notes note parts there =
+    let place = In_get notes note there in
+    let part = in_step (TellsPart client) notes place.0 note parts place.1 in (
+      part.mine,
+      record {
+        all = λ other i. subst (In other) (sym part.whole) (In_right part.before (part.mine ++ part.later) other (In_left part.mine part.later other i));
+        among = In_map (λ (note : Note). note.deed) part.mine note (get_In part.mine part.place note part.there);
+        tells = part.such;
+      },
+    )
+
+-- a note of a log with such a deed
+record HasNote (notes : List Note) (P : Deed → Type 0) : Type 0 where
+  note : Note
+  there : In note notes
+  such : P note.deed
+
+-- a deed of a part is that of a note of the log
+deed_noted : (client : ℕ) (notes mine : List Note) (note : Note) (P : Deed → Type 0) (deed : Deed) → IsPart client notes mine note → In deed (deeds_of mine) → P deed → HasNote notes P
+deed_noted client notes mine note P deed part there such =
+    let from = In_from_map (λ (note : Note). note.deed) mine deed there in
+    record { note = from.0; there = part.all from.0 from.1; such = subst P from.2 such }
+
+module _ (client : ℕ) (notes mine : List Note) (note : Note) (part : IsPart client notes mine note) (line : Line) where
+  -- where it tells a value, the line with it is due for a deed
+  told_due : value_told note.deed ≡ Some line → HasNote notes (λ deed. value_due client deed ≡ Some line)
+  told_due tells = ⊎_elim due none part.tells
+    where
+      told : In line (filter_map value_told (deeds_of mine))
+      told = In_filter_map value_told (deeds_of mine) note.deed line part.among tells
+
+      due : TellsReads client (deeds_of mine) → HasNote notes (λ deed. value_due client deed ≡ Some line)
+      due same =
+          let from = In_from_filter_map (value_due client) (deeds_of mine) line (subst (In line) same told) in
+          deed_noted client notes mine note (λ deed. value_due client deed ≡ Some line) from.0 part from.1 from.2
+
+      none : ReadsCellsAlone (deeds_of mine) → HasNote notes (λ deed. value_due client deed ≡ Some line)
+      none cells = absurd (subst (In line) cells.silent told)
+
+  -- where a line with a value is due for it, and it may read no cell, a deed tells it
+  due_told : value_due client note.deed ≡ Some line → (ReadsNoOther note.deed → ⊥) → HasNote notes (λ deed. value_told deed ≡ Some line)
+  due_told due other = ⊎_elim tells none part.tells
+    where
+      among : In line (filter_map (value_due client) (deeds_of mine))
+      among = In_filter_map (value_due client) (deeds_of mine) note.deed line part.among due
+
+      tells : TellsReads client (deeds_of mine) → HasNote notes (λ deed. value_told deed ≡ Some line)
+      tells same =
+          let from = In_from_filter_map value_told (deeds_of mine) line (subst (In line) (sym same) among) in
+          deed_noted client notes mine note (λ deed. value_told deed ≡ Some line) from.0 part from.1 from.2
+
+      none : ReadsCellsAlone (deeds_of mine) → HasNote notes (λ deed. value_told deed ≡ Some line)
+      none cells = absurd (other (All-In ReadsNoOther (deeds_of mine) note.deed cells.cells part.among))
+
+-- the note of a deed that stands at a place
+note_at : (notes : List Note) (p : ℕ) (deed : Deed) → slice_get (deeds_of notes) p ≡ Some deed → (note : Note) × (slice_get notes p ≡ Some note) × (note.deed ≡ deed)
+note_at notes p deed at = go (slice_get notes p) refl (sym (slice_get-map (λ (note : Note). note.deed) notes p) ∙ at)
+  where
+    go : (found : Option Note) → slice_get notes p ≡ found → option_map (λ (note : Note). note.deed) found ≡ Some deed → (note : Note) × (slice_get notes p ≡ Some note) × (note.deed ≡ deed)
+    go None is none = absurd (none-some deed none)
+    go (Some note) is same = (note, is, same_Some note.deed deed same)
+
 -- ---- the book
 
 module _ (b : Book) (setup : Setup) (fits : FitsWith b setup) (tales : (a : ℕ) → IsTale a (notes_of b a)) where
+  -- an actor has a read of a client
+  record HasReadOf (a client : ℕ) (object : ObjectId) (value : Value) : Type 0 where
+    place : ℕ
+    reads : Reads b setup (record { actor = a; place = place; object = object; value = value })
+    who : a ≡ client + 1
+
+  -- an actor that notes a line with a value has the read
+  noted_read : (a : ℕ) (note : Note) (client : ℕ) (object : ObjectId) (value : Value) → In note (notes_of b a) → value_told note.deed ≡ Some (ReadValue client object value) → HasReadOf a client object value
+  noted_read a note client object value there tells =
+      let part = in_part (a - 1) (notes_of b a) note (tales a).told there in
+      let due = told_due (a - 1) (notes_of b a) part.0 note part.1 (ReadValue client object value) tells in
+      let by = read_by (a - 1) due.note.deed client object value due.such in
+      let place = In_get (notes_of b a) due.note due.there in
+      let is_client : IsClient setup a = fits.form.calls a place.0 due.note (Read object) (Got value) place.1 by.is in
+      record {
+        place = place.0;
+        reads = record { client = is_client; note = due.note; there = place.1; deed_is = by.is };
+        who = omega (arith, by.who, is_client.low);
+      }
+
   -- a line with a value is of a read
   of_read : (client : ℕ) (object : ObjectId) (value : Value) → In (ReadValue client object value) (lines_of b.logs) → HasRead b setup client object value
   of_read client object value there =
-      let line : Line = ReadValue client object value in
-      let noted = line_noted b line there in
-      let a : ℕ = noted.actor in
-      let told : In line (filter_map (λ (note : Note). value_told note.deed) (notes_of b a)) = In_filter_map (λ (note : Note). value_told note.deed) (notes_of b a) noted.note line noted.there (value_line noted.note.deed client object value noted.tells) in
-      let due = In_from_filter_map (λ (note : Note). value_due (a - 1) note.deed) (notes_of b a) line (subst (In line) (tales a).told told) in
-      let by = read_by (a - 1) due.0.deed client object value due.2 in
-      let place = In_get (notes_of b a) due.0 due.1 in
-      let is_client : IsClient setup a = fits.form.calls a place.0 due.0 (Read object) (Got value) place.1 by.is in
-      let who : a ≡ client + 1 = omega (arith, by.who, is_client.low) in
-      let read : Reads b setup (record { actor = a; place = place.0; object = object; value = value }) = record { client = is_client; note = due.0; there = place.1; deed_is = by.is } in
-      record { place = place.0; read = subst (λ a. Reads b setup (record { actor = a; place = place.0; object = object; value = value })) who read }
+      let noted = line_noted b (ReadValue client object value) there in
+      let r = noted_read noted.actor noted.note client object value noted.there (value_line noted.note.deed client object value noted.tells) in
+      record { place = r.place; read = subst (λ a. Reads b setup (record { actor = a; place = r.place; object = object; value = value })) r.who r.reads }
 
-  -- a read has its line
-  has_line : (client : ℕ) (object : ObjectId) (value : Value) → HasRead b setup client object value → In (ReadValue client object value) (lines_of b.logs)
-  has_line client object value has =
+  -- a read has its line, where it is of no cell
+  has_line : (client : ℕ) (object : ObjectId) (value : Value) → (IsNamedAsCell object → ⊥) → HasRead b setup client object value → In (ReadValue client object value) (lines_of b.logs)
+  has_line client object value other has =
       let line : Line = ReadValue client object value in
       let a : ℕ = client + 1 in
       let read = has.read in
       let who : a - 1 ≡ client = omega arith in
       let due : value_due (a - 1) read.note.deed ≡ Some line = ap (value_due (a - 1)) read.deed_is ∙ ap (λ c. Some (ReadValue c object value)) who in
-      let among : In line (filter_map (λ (note : Note). value_due (a - 1) note.deed) (notes_of b a)) = In_filter_map (λ (note : Note). value_due (a - 1) note.deed) (notes_of b a) read.note line (get_In (notes_of b a) has.place read.note read.there) due in
-      let told = In_from_filter_map (λ (note : Note). value_told note.deed) (notes_of b a) line (subst (In line) (sym (tales a).told) among) in
+      let part = in_part (a - 1) (notes_of b a) read.note (tales a).told (get_In (notes_of b a) has.place read.note read.there) in
+      let told = due_told (a - 1) (notes_of b a) part.0 read.note part.1 line due (λ cell. other (subst ReadsNoOther read.deed_is cell)) in
       let within : a ≤ length b.logs = omega (arith, read.client.high, fits.form.logs) in
-      noted_line b line a told.0 within told.1 ((tales a).low told.0 told.1) (told_line told.0.deed line told.2)
+      noted_line b line a told.note within told.there ((tales a).low told.note told.there) (told_line told.note.deed line told.such)
 
-pub book_tells : (b : Book) (setup : Setup) → FitsWith b setup → ((a : ℕ) → IsTale a (notes_of b a)) → TellsValues b setup
-book_tells b setup fits tales = record {
+  -- a line with a value stands right behind its read
+  module _ (script : Script) (chains : (a : ℕ) → IsClient setup a → InSteps (AreStepDeeds script (a - 1)) (notes_of b a)) where
+    stands_behind : (a p client : ℕ) (object : ObjectId) (value : Value) (note : Note) → slice_get (notes_of b a) p ≡ Some note → note.deed ≡ Told (ReadValue client object value) → StandsBehind b setup a p object value
+    stands_behind a p client object value note at is =
+        let line : Line = ReadValue client object value in
+        let has = noted_read a note client object value (get_In (notes_of b a) p note at) (ap value_told is) in
+        let step = in_step (AreStepDeeds script (a - 1)) (notes_of b a) p note (chains a has.reads.client) at in
+        let told : slice_get (deeds_of step.mine) step.place ≡ Some (Told line) = get_deed step.mine step.place note step.there ∙ ap Some is in
+        let behind = step_behind step.such.come step.such.does (deeds_of step.mine) step.such.such step.place client object value told in
+        let read = note_at step.mine behind.before (Did (Read object) (Got value)) behind.there in
+        let before : ℕ = length step.before + behind.before in
+        let next : p ≡ before + 1 = omega (arith, step.upto, behind.next) in
+        let there : slice_get (notes_of b a) before ≡ Some read.0 = ap (λ l. slice_get l before) step.whole
+        ∙ (get_behind step.before (step.mine ++ step.later) behind.before ∙ get_in_front step.mine step.later behind.before read.0 read.1) in
+        let found : object_read b a before ≡ Some object = ap read_of there ∙ ap read_in read.2 in
+        record {
+          before = before;
+          next = next;
+          read = record { client = has.reads.client; note = read.0; there = there; deed_is = read.2 };
+          stands = ap (basis_at b setup a) next ∙ told_stands b setup a before object found;
+        }
+
+pub book_tells : (b : Book) (setup : Setup) (script : Script) → FitsWith b setup → ((a : ℕ) → IsTale a (notes_of b a)) → ((a : ℕ) → IsClient setup a → InSteps (AreStepDeeds script (a - 1)) (notes_of b a)) → TellsValues b setup
+book_tells b setup script fits tales chains = record {
   text = text_printed b.logs;
   read = of_read b setup fits tales;
   told = has_line b setup fits tales;
   each = λ actor. (tales actor).told;
+  behind = stands_behind b setup fits tales script chains;
 }

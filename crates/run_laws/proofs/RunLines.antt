@@ -1,9 +1,10 @@
 -- The notes of a run tell the values that its clients read, and are of sections that are counted from 1.
 use Rattle.std.proofs.Common.{◌≡◌, ◌≢◌, ◌≤◌, ◌<◌, ℕ, zero, suc, ◌+◌, ◌-◌, ◌*◌, ⊎_elim, inl, inr, Bool, true, false, cond, List, [], ◌∷◌, ◌++◌, length, map, Option, Some, None, refl, sym, ap, ◌∙◌, subst, arith}
 use Rattle.std.specs.Prelude.{◌==◌, All, max, nat_le, flat_map, slice_get}
-use Rattle.std.specs.List.{filter_map, cons_option, range_with_len}
+use Rattle.std.specs.List.{filter_map, range_with_len}
 use Rattle.std.specs.Option.{option_map}
-use Rattle.std.proofs.lemmas.Bool.{cases_eq, cases_lt, eqb-true}
+use Rattle.std.proofs.lemmas.Bool.{cases_eq, cases_lt}
+use Rattle.std.proofs.lemmas.List.{append_assoc, append-nil}
 use Rattle.std.proofs.lemmas.List.Elements.{filter_map-append}
 use Rattle.std.proofs.lemmas.Option.{none-some, same_Some}
 use Rattle.list_core.specs.Members.{In}
@@ -13,7 +14,6 @@ use Rattle.list_core.proofs.Gets.{past_end}
 use Rattle.vv_core.specs.Vectors.{centres}
 use Rattle.dc_talk.specs.declared.log.Deed.{Deed}
 use Rattle.dc_talk.specs.declared.log.Note.{Note}
-use Rattle.dc_talk.specs.declared.line.Line.{Line}
 use Rattle.dc_talk.specs.Logs.{Logged}
 use Rattle.script_core.specs.declared.script.Script.{Script}
 use Rattle.script_core.specs.declared.steps.OperatorStep.{OperatorStep}
@@ -22,7 +22,7 @@ use Rattle.script_core.specs.declared.steps.Step.{Step}
 use Rattle.script_core.specs.declared.steps.Step.TheVariants.{Client, Operator}
 use Rattle.script_core.specs.declared.rounds.Role.{Role}
 use Rattle.script_core.specs.declared.rounds.Role.TheVariants.{Sender, Receiver, Reporter, Pruner}
-use Rattle.script_core.specs.Deeds.{Progress, stepped}
+use Rattle.script_core.specs.Deeds.{Progress}
 use Rattle.script_core.specs.Mail.{due_at_close, due_in_round}
 use Rattle.script_core.specs.Rounds.{worker_of}
 use Rattle.script_core.specs.Steps.{IsCount}
@@ -37,38 +37,39 @@ use Rattle.run_sections.specs.Orders.{deeds_of, InOrder, none_left, one_first, C
 use Rattle.run_sections.specs.Sections.{actors_of, Between, first_between, Left, PlaysSection, receipts_in, rounds_in}
 use Rattle.run_sections.specs.Runs.{PlaysSections, no_sections, next_section, IsSectionRunOf}
 use Rattle.run_sections.proofs.Actors.{by_actor}
-use Rattle.run_laws.specs.ReadLines.{TellsReads, value_told, value_due}
-use Rattle.run_laws.proofs.ClientLines.{AreTold, step_told, stepped_client}
+use Rattle.run_steps.specs.Logs.{InSteps, no_steps, next_step}
+use Rattle.run_steps.proofs.Who.{behind_who, come_who}
+use Rattle.run_laws.specs.ReadLines.{TellsPart}
+use Rattle.run_laws.proofs.ClientLines.{step_told}
 use Rattle.run_laws.proofs.CarrierLines.{order_told, sender_told, receiver_told, reporter_told, pruner_told}
 
 -- ---- the notes of an actor
 
--- they tell its reads, and their sections are counted from 1
+-- they are those of parts that tell its reads, or read cells alone, and their sections are counted from 1
 pub record IsTale (actor : ℕ) (notes : List Note) : Type 0 where
-  pub told : TellsReads actor notes
+  pub told : InSteps (TellsPart (actor - 1)) notes
   pub low : (note : Note) → In note notes → 1 ≤ note.section
 
 -- where there are none
 none_tale : (actor : ℕ) → IsTale actor []
-none_tale actor = record { told = refl; low = λ note there. absurd there }
+none_tale actor = record { told = no_steps; low = λ note there. absurd there }
+
+-- those of steps, one after another, and of others behind them
+steps_behind : (Step : List Deed → Type 0) (first later : List Note) → InSteps Step first → InSteps Step later → InSteps Step (first ++ later)
+steps_behind Step _ later no_steps rest = rest
+steps_behind Step first later (next_step mine more whole such steps) rest = next_step mine (more ++ later) (ap (λ l. l ++ later) whole ∙ append_assoc mine more later) such (steps_behind Step more later steps rest)
 
 -- some, and others behind them
 both_tale : (actor : ℕ) (first later : List Note) → IsTale actor first → IsTale actor later → IsTale actor (first ++ later)
 both_tale actor first later one two = record {
-  told = filter_map-append (λ (note : Note). value_told note.deed) first later
-      ∙ ((λ i. one.told i ++ two.told i) ∙ sym (filter_map-append (λ (note : Note). value_due (actor - 1) note.deed) first later));
+  told = steps_behind (TellsPart (actor - 1)) first later one.told two.told;
   low = λ note there. ⊎_elim (λ front. one.low note front) (λ back. two.low note back) (In_either first later note there);
 }
 
--- what is told of deeds is told of their notes
-of_notes : (f : Deed → Option Line) (notes : List Note) → filter_map f (deeds_of notes) ≡ filter_map (λ note. f note.deed) notes
-of_notes f [] = refl
-of_notes f (note ∷ notes) = ap (cons_option (f note.deed)) (of_notes f notes)
-
 -- what was noted in a step or a round of a section
-step_tale : (actor c section step : ℕ) (notes : List Note) → actor - 1 ≡ c → 1 ≤ section → All (IsAt section step) notes → AreTold c (deeds_of notes) → IsTale actor notes
+step_tale : (actor c section step : ℕ) (notes : List Note) → actor - 1 ≡ c → 1 ≤ section → All (IsAt section step) notes → TellsPart c (deeds_of notes) → IsTale actor notes
 step_tale actor c section step notes same low at told = record {
-  told = sym (of_notes value_told notes) ∙ (told ∙ (of_notes (value_due c) notes ∙ ap (λ c. filter_map (λ (note : Note). value_due c note.deed) notes) (sym same)));
+  told = next_step notes [] (sym (append-nil notes)) (subst (λ c. TellsPart c (deeds_of notes)) (sym same) told) no_steps;
   low = λ note there. let here : note.section ≡ section = (All-In (IsAt section step) notes note at there).section_is in omega (arith, here, low);
 }
 
@@ -78,26 +79,15 @@ step_tale actor c section step notes same low at told = record {
 abbrev HasClients : Stage → Type 0
 HasClients stage = (client : ℕ) → (stage.come client).client.client ≡ client
 
--- it is so behind a move
-has_after : (does : Does) (mine : List Note) (stage : Stage) → HasClients stage → (client : ℕ) → ((stage_after does mine stage).come client).client.client ≡ client
-has_after (client_does c step) mine stage has client = go (client == c) refl
-  where
-    go : (test : Bool) → (client == c) ≡ test → (cond test (stepped (stage.come c) step mine) (stage.come client)).client.client ≡ client
-    go true is = stepped_client (stage.come c) step mine ∙ (has c ∙ sym (eqb-true client c is))
-    go false is = has client
-has_after (operator_does step) mine stage has client = has client
-has_after (worker_does i role) mine stage has client = has client
-has_after (closes i) mine stage has client = has client
-
 -- what is done by a move tells
-does_told : (n clients number : ℕ) (stage : Stage) (does : Does) (deeds : List Deed) → HasClients stage → DoesSo n stage number does deeds → AreTold (actor_of clients does - 1) deeds
-does_told n clients number stage (client_does client step) deeds has is = let same : client ≡ client + 1 - 1 = omega arith in subst (λ c. AreTold c deeds) (has client ∙ same) (step_told (stage.come client) step deeds is)
-does_told n clients number stage (operator_does step) deeds has is = order_told 0 n step deeds is
-does_told n clients number stage (worker_does i Sender) deeds has is = sender_told (worker_of clients i Sender - 1) n i deeds is
-does_told n clients number stage (worker_does i Receiver) deeds has is = receiver_told (worker_of clients i Receiver - 1) n i (λ from. due_in_round (stage.posts from i)) deeds is
-does_told n clients number stage (worker_does i Reporter) deeds has is = reporter_told (worker_of clients i Reporter - 1) n i deeds is
-does_told n clients number stage (worker_does i Pruner) deeds has is = pruner_told (worker_of clients i Pruner - 1) i number deeds is
-does_told n clients number stage (closes i) deeds has is = receiver_told (worker_of clients i Receiver - 1) n i (λ from. due_at_close (stage.posts from i)) deeds is
+does_told : (n clients number : ℕ) (stage : Stage) (does : Does) (deeds : List Deed) → HasClients stage → DoesSo n stage number does deeds → TellsPart (actor_of clients does - 1) deeds
+does_told n clients number stage (client_does client step) deeds has is = let same : client ≡ client + 1 - 1 = omega arith in subst (λ c. TellsPart c deeds) (has client ∙ same) (step_told (stage.come client) step deeds is)
+does_told n clients number stage (operator_does step) deeds has is = inl (order_told 0 n step deeds is)
+does_told n clients number stage (worker_does i Sender) deeds has is = inl (sender_told (worker_of clients i Sender - 1) n i deeds is)
+does_told n clients number stage (worker_does i Receiver) deeds has is = inl (receiver_told (worker_of clients i Receiver - 1) n i (λ from. due_in_round (stage.posts from i)) deeds is)
+does_told n clients number stage (worker_does i Reporter) deeds has is = inl (reporter_told (worker_of clients i Reporter - 1) n i deeds is)
+does_told n clients number stage (worker_does i Pruner) deeds has is = inl (pruner_told (worker_of clients i Pruner - 1) i number deeds is)
+does_told n clients number stage (closes i) deeds has is = inl (receiver_told (worker_of clients i Receiver - 1) n i (λ from. due_at_close (stage.posts from i)) deeds is)
 
 -- all that happened by moves of sections that are counted from 1
 plays_tale : (n clients : ℕ) (stage : Stage) (moves : List Move) (all : List Happened) → HasClients stage → ((one : Move) → In one moves → 1 ≤ one.section) → Plays n clients stage moves all → (a : ℕ) → IsTale a (notes_by a all)
@@ -109,7 +99,7 @@ plays_tale n clients stage (one ∷ moves) all has low (next_move mine later who
     (λ (same : a ≡ actor). subst (λ b. IsTale b (notes_by b (happening actor mine))) (sym same) (subst (IsTale actor) (sym (own_then actor [] mine)) own))
     (λ (differs : a ≢ actor). subst (IsTale a) (sym (other_then actor a [] mine (λ same. differs (sym same)))) (none_tale a))
     (cases_eq a actor) in
-    let behind = plays_tale n clients (stage_after one.does mine stage) moves later (has_after one.does mine stage has) (λ other there. low other (inr there)) rest a in
+    let behind = plays_tale n clients (stage_after one.does mine stage) moves later (come_who one.does mine stage.come has) (λ other there. low other (inr there)) rest a in
     subst (λ all. IsTale a (notes_by a all)) (sym whole) (subst (IsTale a) (sym (filter_map-append (note_by a) (happening actor mine) later)) (both_tale a (notes_by a (happening actor mine)) (notes_by a later) here behind))
 
 -- ---- the sections of moves
@@ -178,7 +168,7 @@ steps_tale script b steps a = subst (IsTale a) (sym (steps.notes a)) (plays_tale
 -- ---- sections one after another
 
 -- what an actor did in order in a section
-order_tale : {S M : Type 0} (Does : S → ℕ → M → List Note → S → Type 0) (actor c section : ℕ) (Keeps : S → Type 0) → ((s next : S) (step : ℕ) (m : M) (mine : List Note) → Keeps s → Does s step m mine next → AreTold c (deeds_of mine) × Keeps next)
+order_tale : {S M : Type 0} (Does : S → ℕ → M → List Note → S → Type 0) (actor c section : ℕ) (Keeps : S → Type 0) → ((s next : S) (step : ℕ) (m : M) (mine : List Note) → Keeps s → Does s step m mine next → TellsPart c (deeds_of mine) × Keeps next)
     → actor - 1 ≡ c → 1 ≤ section → (step : ℕ) (s last : S) (ms : List M) (notes : List Note) → Keeps s → InOrder Does section step s ms notes last → IsTale actor notes × Keeps last
 order_tale Does actor c section Keeps each same low step s last [] notes keeps none_left = (none_tale actor, keeps)
 order_tale Does actor c section Keeps each same low step s last (m ∷ ms) notes keeps (one_first next mine later whole at does rest) =
@@ -198,28 +188,28 @@ module _ (script : Script) (number : ℕ) (section : Section) (old : Between) (l
   -- what a client did, and that it stays the same one
   client_tale : (client : ℕ) → IsCount script.clients client → IsTale (client + 1) (left.notes (client + 1)) × IsOf client (new.come client)
   client_tale client range = order_tale ClientGoes (client + 1) client number (IsOf client)
-      (λ p next step m mine is does. (subst (λ c. AreTold c (deeds_of mine)) is (step_told p m (deeds_of mine) does.0), ap (λ (p : Progress). p.client.client) does.1 ∙ (stepped_client p m mine ∙ is)))
+      (λ p next step m mine is does. (subst (λ c. TellsPart c (deeds_of mine)) is (step_told p m (deeds_of mine) does.0), ap (λ (p : Progress). p.client.client) does.1 ∙ (behind_who p.client mine ∙ is)))
       (omega arith) low 1 (old.come client) (new.come client) (client_steps client section) (left.notes (client + 1)) (clients client range) (plays.clients client range)
 
   -- what a worker did
   worker_tale : (i : ℕ) (role : Role) → IsCount script.n i → IsTale (worker_of script.clients i role) (left.notes (worker_of script.clients i role))
   worker_tale i Sender centre = (order_tale (SenderGoes script.n i) (worker_of script.clients i Sender) (worker_of script.clients i Sender - 1) number (λ s. Unit {0})
-      (λ s next step m mine none does. (sender_told (worker_of script.clients i Sender - 1) script.n i (deeds_of mine) does, tt))
+      (λ s next step m mine none does. (inl (sender_told (worker_of script.clients i Sender - 1) script.n i (deeds_of mine) does), tt))
       refl low 1 tt tt (rounds_in script section) (left.notes (worker_of script.clients i Sender)) tt (plays.senders i centre)).0
   worker_tale i Receiver centre = let r = plays.receivers i centre in (order_tale (ReceiverGoes script.n i) (worker_of script.clients i Receiver) (worker_of script.clients i Receiver - 1) number (λ s. Unit {0})
-      (λ s next step m mine none does. (receiver_told (worker_of script.clients i Receiver - 1) script.n i (λ from. delivered_of m (s from).inlet (does.items from)) (deeds_of mine) does.delivers, tt))
+      (λ s next step m mine none does. (inl (receiver_told (worker_of script.clients i Receiver - 1) script.n i (λ from. delivered_of m (s from).inlet (does.items from)) (deeds_of mine) does.delivers), tt))
       refl low 1 r.first r.last (receipts_in script section) (left.notes (worker_of script.clients i Receiver)) tt r.order).0
   worker_tale i Reporter centre = (order_tale (ReporterGoes script.n i) (worker_of script.clients i Reporter) (worker_of script.clients i Reporter - 1) number (λ s. Unit {0})
-      (λ s next step m mine none does. (reporter_told (worker_of script.clients i Reporter - 1) script.n i (deeds_of mine) does, tt))
+      (λ s next step m mine none does. (inl (reporter_told (worker_of script.clients i Reporter - 1) script.n i (deeds_of mine) does), tt))
       refl low 1 tt tt (rounds_in script section) (left.notes (worker_of script.clients i Reporter)) tt (plays.reporters i centre)).0
   worker_tale i Pruner centre = (order_tale (PrunerGoes i) (worker_of script.clients i Pruner) (worker_of script.clients i Pruner - 1) number (λ s. Unit {0})
-      (λ s next step m mine none does. (pruner_told (worker_of script.clients i Pruner - 1) i m (deeds_of mine) does, tt))
+      (λ s next step m mine none does. (inl (pruner_told (worker_of script.clients i Pruner - 1) i m (deeds_of mine) does), tt))
       refl low 1 tt tt (rounds_in script section) (left.notes (worker_of script.clients i Pruner)) tt (plays.pruners i centre)).0
 
   -- what each actor did
   section_tale : (a : ℕ) → IsCount (actors_of script) a → IsTale a (left.notes a)
   section_tale = by_actor script (λ a. IsTale a (left.notes a))
-      (order_tale (OperatorGoes script.n) 1 0 number (λ s. Unit {0}) (λ s next step m mine none does. (order_told 0 script.n m (deeds_of mine) does, tt)) refl low 1 tt tt (operator_steps section) (left.notes 1) tt plays.operator).0
+      (order_tale (OperatorGoes script.n) 1 0 number (λ s. Unit {0}) (λ s next step m mine none does. (inl (order_told 0 script.n m (deeds_of mine) does), tt)) refl low 1 tt tt (operator_steps section) (left.notes 1) tt plays.operator).0
       (λ client range. (client_tale client range).0)
       worker_tale
 

@@ -31,9 +31,10 @@ pub fn law_one_script()
 {}
 
 /// The text of a run tells the values that its clients read: each line with a value is of a read of that client, of that
-/// object and with that value, each read that got a value has its line, and in the notes of a client these lines are one
-/// for each read, in the order of the reads. So it is of a run on one thread (`turns`) and of one section by section, with
-/// threads in its phases (`sections`).
+/// object and with that value, and each read that got a value has its line, where it is of no cell of a bounded counter. In
+/// the notes of a client these lines are one for each read, in the order of the reads, but for parts with no such line that
+/// read cells alone; and each stands right behind its read, and on what that stands on. So it is of a run on one thread
+/// (`turns`) and of one section by section, with threads in its phases (`sections`).
 pub fn law_value_lines(book: &Book)
     ensures turns { (script : Script) → IsRunOf script book.now → TellsValues book.now (setup_of script) }
     ensures sections { (script : Script) → IsSectionRunOf script book.now → TellsValues book.now (setup_of script) }

@@ -1,7 +1,9 @@
 -- What holds of each ask, of each line and of the calls of a step, holds of each of its deeds.
-use Rattle.std.proofs.Common.{◌≡◌, ℕ, Bool, true, false, cond, List, [], ◌++◌, Option, Some, None, refl, sym, subst}
+use Rattle.std.proofs.Common.{◌≡◌, ℕ, ℤ, pos, int_lt, inl, inr, Bool, true, false, cond, List, [], ◌++◌, Option, Some, None, refl, sym, subst}
 use Rattle.std.specs.Prelude.{All}
 use Rattle.std.proofs.lemmas.List.Elements.{All-nil, All-cons, All-append}
+use Rattle.list_core.specs.Members.{In}
+use Rattle.ids_core.specs.declared.object.ObjectId.{ObjectId}
 use Rattle.tx_core.specs.declared.tx.Tx.{Tx}
 use Rattle.tx_core.specs.declared.tx.Update.{Update}
 use Rattle.dc_talk.specs.declared.ask.Ask.{Ask}
@@ -17,18 +19,22 @@ use Rattle.dc_talk.specs.declared.log.Deed.{Deed}
 use Rattle.dc_talk.specs.declared.log.Deed.TheVariants.{Did, Asked, Told}
 use Rattle.dc_talk.specs.declared.log.Fate.{Fate}
 use Rattle.dc_talk.specs.declared.log.Fate.TheVariants.{Unheard}
+use Rattle.dc_talk.specs.declared.line.StepWord.{StepWord}
+use Rattle.dc_talk.specs.declared.line.StepWord.TheVariants as step
 use Rattle.dc_talk.specs.declared.line.Line.{Line}
 use Rattle.dc_talk.specs.declared.line.Line.TheVariants as line
 use Rattle.dc_talk.specs.Clients.{Client}
 use Rattle.dc_talk.specs.Calls.{outcome_of}
 use Rattle.dc_talk.specs.Rule.{after, next_commit, hello_of, refresh_of, fetch_of}
 use Rattle.script_core.specs.declared.object_call.ObjectCall.{ObjectCall}
+use Rattle.script_core.specs.declared.steps.Share.{Share}
 use Rattle.script_core.specs.declared.steps.AskFault.{AskFault}
 use Rattle.script_core.specs.declared.steps.AskFault.TheVariants.{LoseAsk, LoseReply, Twice}
 use Rattle.script_core.specs.declared.steps.ClientStep.{ClientStep}
-use Rattle.script_core.specs.declared.steps.ClientStep.TheVariants.{Connect, Begin, Change, Read, Commit, Abort, Push, Flush, Refresh, Again, Arm}
-use Rattle.script_core.specs.Deeds.{Progress, StepDeeds, Asks, OrTells, OverNext, Pushes, PushesOn, FetchDeeds, CallDeeds, FlushDeeds, flush_ends, flush_goes, RefreshDeeds, AgainDeeds, after_fetch, calls, call_line, change_call, read_call, commit_sent, copies, fate_of, fetch_line, goes_on, hello_line, push_line, pushed, refresh_line, again_line, told, took}
-use Rattle.run_steps.specs.Calls.{IsCallOf}
+use Rattle.script_core.specs.declared.steps.ClientStep.TheVariants.{Connect, Begin, Change, Read, Grant, Give, Take, Rights, Commit, Abort, Push, Flush, Refresh, Again, Arm}
+use Rattle.script_core.specs.Deeds.{Progress, StepDeeds, Asks, OrTells, OverNext, Pushes, PushesOn, FetchDeeds, CallDeeds, FlushDeeds, flush_ends, flush_goes, RefreshDeeds, AgainDeeds, CellsDeeds, AddsOwned, TakingDeeds, TellsRights, RightsDeeds, after_fetch, calls, calls_on, call_line, cell_inc, cell_read, cell_to, change_call, counter_of_share, line_on, read_call, rights_got, share_cells, commit_sent, copies, fate_of, fetch_line, goes_on, hello_line, push_line, pushed, refresh_line, again_line, told, took}
+use Rattle.run_book.proofs.CellReads.{cells_hold}
+use Rattle.run_steps.specs.Calls.{IsCallOf, adds_to}
 
 module _ (P : Deed → Type 0) (asked : (i : ℕ) (ask : Ask) (fate : Fate) → P (Asked i ask fate)) (line_told : (line : Line) → P (Told line)) where
   told_each : (l : Option Line) → All P (told l)
@@ -60,16 +66,36 @@ module _ (P : Deed → Type 0) (asked : (i : ℕ) (ask : Ask) (fate : Fate) → 
   calls_each : (s : Client) (call : Call) → ((outcome : Outcome) → P (Did call outcome)) → All P (calls s call)
   calls_each s call each = All-cons P (Did call (outcome_of s call)) (told (call_line s.client call (outcome_of s call))) (each (outcome_of s call)) (told_each (call_line s.client call (outcome_of s call)))
 
+  calls_on_each : (s : Client) (c : ObjectCall) → ((outcome : Outcome) → P (Did c.call outcome)) → All P (calls_on s c)
+  calls_on_each s c each = All-cons P (Did c.call (outcome_of s c.call)) (told (line_on s.client c (outcome_of s c.call))) (each (outcome_of s c.call)) (told_each (line_on s.client c (outcome_of s c.call)))
+
   fetch_each : (p : Progress) (c : ObjectCall) (deeds : List Deed) → ((outcome : Outcome) → P (Did c.call outcome)) → FetchDeeds p c deeds → All P deeds
   fetch_each p c deeds each fetch =
-      over_each p.client.link (line.Unconnected p.client.client c.word c.object) (λ link. Asks p.armed link.centre (fetch_of p.client c.object) (after_fetch p.client link.centre c)) deeds
+      over_each p.client.link (line.Unconnected p.client.client c.word c.shown) (λ link. Asks p.armed link.centre (fetch_of p.client c.object) (after_fetch p.client link.centre c)) deeds
       (λ link asks. asks_each p.armed link.centre (fetch_of p.client c.object) (after_fetch p.client link.centre c) deeds (λ fate.
       either_each (took p.client link.centre (fetch_of p.client c.object) fate) _ _
-      (calls_each (after p.client (Asked link.centre (fetch_of p.client c.object) fate)) c.call each) (told_each (fetch_line p.client.client c fate))) asks) fetch
+      (calls_on_each (after p.client (Asked link.centre (fetch_of p.client c.object) fate)) c each) (told_each (fetch_line p.client.client c fate))) asks) fetch
 
   call_each : (p : Progress) (c : ObjectCall) (out : Outcome) (deeds : List Deed) → ((outcome : Outcome) → P (Did c.call outcome)) → CallDeeds p c out deeds → All P deeds
   call_each p c (Refused (NeedsFetch o)) deeds each r = subst (All P) (sym r.whole) (All-cons P (Did c.call (outcome_of p.client c.call)) r.rest (each (outcome_of p.client c.call)) (fetch_each p c r.rest each r.fetch))
-  call_each p c _ deeds each are = subst (All P) (sym are) (calls_each p.client c.call each)
+  call_each p c _ deeds each are = subst (All P) (sym are) (calls_on_each p.client c each)
+
+  cells_each : (word : StepWord) (share : Share) (Follows : List ℤ → Progress → List Deed → Type 0) (p : Progress) (deeds : List Deed) → ((numbers : List ℤ) (q : Progress) (later : List Deed) → Follows numbers q later → All P later) → ((cell : ObjectId) (outcome : Outcome) → In cell (share_cells share) → P (Did (ReadCall cell) outcome)) → CellsDeeds word share Follows (share_cells share) [] p deeds → All P deeds
+  cells_each word share Follows p deeds each read reads =
+      cells_hold (λ q. Unit {0}) (All P) (All-nil P) (All-append P) word share Follows (λ numbers q later keeps. each numbers q later) (share_cells share)
+      (λ cell q first i keeps are. (call_each q (cell_read word share cell) (outcome_of q.client (ReadCall cell)) first (λ outcome. read cell outcome i) are, tt)) [] p deeds tt reads
+
+  taking_each : (p : Progress) (word : StepWord) (share : Share) (to amount : ℕ) (deeds : List Deed) → ((cell : ObjectId) (outcome : Outcome) → In cell (share_cells share) → P (Did (ReadCall cell) outcome)) → ((outcome : Outcome) → P (Did (adds_to share to amount) outcome)) → TakingDeeds p word share to amount deeds → All P deeds
+  taking_each p word share to amount deeds read adds taking =
+      cells_each word share (AddsOwned word share to amount) p deeds (λ numbers q later are. subst (All P) (sym are)
+      (either_each (int_lt (rights_got share numbers) (pos amount)) _ _
+      (told_each (Some (line.Short q.client.client word (counter_of_share share) (rights_got share numbers))))
+      (calls_on_each q.client (cell_inc word share (cell_to share to) amount) adds))) read taking
+
+  rights_each : (p : Progress) (share : Share) (deeds : List Deed) → ((cell : ObjectId) (outcome : Outcome) → In cell (share_cells share) → P (Did (ReadCall cell) outcome)) → RightsDeeds p share deeds → All P deeds
+  rights_each p share deeds read rights =
+      cells_each step.Rights share (TellsRights share) p deeds (λ numbers q later are. subst (All P) (sym are)
+      (told_each (Some (line.RightsValue q.client.client (counter_of_share share) (rights_got share numbers))))) read rights
 
   pushes_each : (p : Progress) (deeds : List Deed) (link : Connection) (tx : Tx) → Pushes p link tx deeds → All P deeds
   pushes_each p deeds link tx push = asks_each p.armed link.centre (CommitAsk tx) (λ fate. told (push_line p.client.client tx.dot.number fate)) deeds (λ fate. told_each (push_line p.client.client tx.dot.number fate)) push
@@ -98,6 +124,12 @@ module _ (P : Deed → Type 0) (asked : (i : ℕ) (ask : Ask) (fate : Fate) → 
   step_each p Begin deeds each are = subst (All P) (sym are) (calls_each p.client BeginCall (λ outcome. each BeginCall outcome refl))
   step_each p (Change o change) deeds each are = call_each p (change_call o change) (outcome_of p.client (ChangeCall o change)) deeds (λ outcome. each (ChangeCall o change) outcome refl) are
   step_each p (Read o) deeds each are = call_each p (read_call o) (outcome_of p.client (ReadCall o)) deeds (λ outcome. each (ReadCall o) outcome refl) are
+  step_each p (Grant share amount) deeds each are = subst (All P) (sym are) (calls_on_each p.client (cell_inc step.Grant share (cell_to share share.holder) amount) (λ outcome. each (adds_to share share.holder amount) outcome refl))
+  step_each p (Give share to amount) deeds each taking =
+      taking_each p step.Give share to amount deeds (λ cell outcome i. each (ReadCall cell) outcome (inl (cell, (i, refl)))) (λ outcome. each (adds_to share to amount) outcome (inr refl)) taking
+  step_each p (Take share amount) deeds each taking =
+      taking_each p step.Take share 0 amount deeds (λ cell outcome i. each (ReadCall cell) outcome (inl (cell, (i, refl)))) (λ outcome. each (adds_to share 0 amount) outcome (inr refl)) taking
+  step_each p (Rights share) deeds each rights = rights_each p share deeds (λ cell outcome i. each (ReadCall cell) outcome (cell, (i, refl))) rights
   step_each p Commit deeds each are = subst (All P) (sym are) (calls_each p.client CommitCall (λ outcome. each CommitCall outcome refl))
   step_each p Abort deeds each are = subst (All P) (sym are) (calls_each p.client AbortCall (λ outcome. each AbortCall outcome refl))
   step_each p Push deeds each push = next_each p.client (line.PushNone p.client.client) (Pushes p) deeds (λ link tx push. pushes_each p deeds link tx push) push

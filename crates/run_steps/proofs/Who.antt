@@ -53,7 +53,7 @@ heard_who s i ask say = go (takes s i ask say)
     go false = refl
 
 -- and each deed
-after_who : (s : Client) (deed : Deed) → (after s deed).client ≡ s.client
+pub after_who : (s : Client) (deed : Deed) → (after s deed).client ≡ s.client
 after_who s (Did call outcome) = did_who s call outcome
 after_who s (Asked i ask (Heard say)) = heard_who s i ask say
 after_who s (Asked i ask _) = refl

@@ -23,7 +23,7 @@ pub fn law_chain(book: &Book)
     ensures sections { (script : Script) (a : ℕ) → HasSectionSteps script book.now → IsClient (setup_of script) a → InSteps (AreStepDeeds script (a - 1)) (notes_of book.now a) }
 {}
 
-/// Each deed of a step is an ask, a line, or the call of the step, however it ended.
+/// Each deed of a step is an ask, a line, or one of the step's calls, however it ended.
 pub fn law_each_deed()
     ensures { (come : Progress) (does : ClientStep) (deeds : List Deed) → StepDeeds come does deeds → All (IsDeedOf does) deeds }
 {}

@@ -65,7 +65,8 @@ pub fn near_forms(alloc: Global, words: &[&[u8]]) -> Result<Vec<Form>, AllocErro
 fn told_part(part: Part) -> &'static [u8] {
     match part {
         Part::Fixed(word) => spelled(word),
-        Part::Client => b"cN",
+        Part::Client | Part::Holder => b"cN",
+        Part::OtherHolder => b"HOLDER",
         Part::Centre => b"CENTRE",
         Part::Other => b"OTHER",
         Part::Third => b"THIRD",
@@ -74,7 +75,9 @@ fn told_part(part: Part) -> &'static [u8] {
         Part::Count { .. } => b"NUMBER",
         Part::Commit => b"COMMIT",
         Part::Delta => b"DELTA",
-        Part::Object => b"OBJECT",
+        Part::Object | Part::Summand => b"OBJECT",
+        Part::Bounded => b"b.NAME",
+        Part::Amount => b"AMOUNT",
         Part::Key => b"KEY",
         Part::Name => b"WORD",
     }

@@ -3,8 +3,11 @@
 use crate::lines::word_at;
 use crate::shown::{push_shown, quoted, unclear, unquoted};
 use ids_core::{MOST_CENTRES, MOST_DELTA, MOST_NUMBER};
+use obj_bounded::MOST_BOUNDED_NAME;
 use script_core::Header;
-use script_reader::{Cause, Form, Part, Said, are_digits, parts, said_word, u8_in};
+use script_reader::{
+    Cause, Form, Part, Said, are_digits, holders_of, object_named, parts, said_word, u8_in,
+};
 use std::alloc::{AllocError, Global};
 
 /// What a name is.
@@ -85,6 +88,20 @@ fn client_wanted(alloc: Global, header: Option<Header>) -> Result<String, AllocE
     }
 }
 
+// Which clients hold bounded counters in a script.
+fn holders_told(alloc: Global, header: Header) -> Result<String, AllocError> {
+    let holders = clients_told(alloc, u32::from(holders_of(header.clients)))?;
+    format!(in alloc; "a bounded counter is held by {holders}")
+}
+
+// That one of the holders of bounded counters was expected.
+fn holder_wanted(alloc: Global, header: Option<Header>) -> Result<String, AllocError> {
+    match header {
+        Some(header) => holders_told(alloc, header),
+        None => String::from_str(alloc, "expected one of the clients"),
+    }
+}
+
 // That one of as many centres was expected as the second word says.
 fn share_wanted(alloc: Global, words: &[&[u8]]) -> Result<String, AllocError> {
     let centres = unquoted(alloc, word_at(words, 1))?;
@@ -103,6 +120,14 @@ fn object_wanted(alloc: Global) -> Result<String, AllocError> {
     format!(in alloc; "expected c.NAME, r.NAME, s.NAME or m.NAME, with a NAME of {name}")
 }
 
+// That a bounded counter was expected.
+fn bounded_wanted(alloc: Global) -> Result<String, AllocError> {
+    let most = MOST_BOUNDED_NAME;
+    format!(in alloc;
+        "expected b.NAME, with a NAME of 1 to {most} bytes out of a to z, 0 to 9 and _"
+    )
+}
+
 // That a name was expected.
 fn name_wanted(alloc: Global) -> Result<String, AllocError> {
     let name = A_NAME;
@@ -118,13 +143,16 @@ fn wanted(
 ) -> Result<String, AllocError> {
     match part {
         Part::Client => client_wanted(alloc, header),
+        Part::Holder | Part::OtherHolder => holder_wanted(alloc, header),
         Part::Centre | Part::Other | Part::Third => centre_wanted(alloc, header),
         Part::Centres => number_wanted(alloc, 1, u64::from(MOST_CENTRES)),
         Part::Stable => share_wanted(alloc, words),
         Part::Count { least, most } => number_wanted(alloc, u64::from(least), u64::from(most)),
         Part::Commit => number_wanted(alloc, 1, MOST_NUMBER),
         Part::Delta => delta_wanted(alloc),
-        Part::Object => object_wanted(alloc),
+        Part::Object | Part::Summand => object_wanted(alloc),
+        Part::Bounded => bounded_wanted(alloc),
+        Part::Amount => number_wanted(alloc, 1, MOST_DELTA),
         Part::Key | Part::Name | Part::Fixed(_) => name_wanted(alloc),
     }
 }
@@ -133,7 +161,7 @@ fn wanted(
 // delta.
 fn digits_of(part: Part, word: &[u8]) -> &[u8] {
     let has_mark = match part {
-        Part::Client => true,
+        Part::Client | Part::Holder => true,
         Part::Delta => !word.is_empty() && word[0] == b'-',
         _ => false,
     };
@@ -167,7 +195,7 @@ fn no_number(
     blame: Blamed<'_>,
 ) -> Result<String, AllocError> {
     let word = quoted(alloc, blame.word)?;
-    let noun = if matches!(blame.part, Part::Client) {
+    let noun = if matches!(blame.part, Part::Client | Part::Holder) {
         "client"
     } else {
         "number"
@@ -182,6 +210,26 @@ fn no_client(alloc: Global, header: Header, word: &[u8]) -> Result<String, Alloc
     let word = quoted(alloc, word)?;
     let clients = clients_told(alloc, header.clients)?;
     format!(in alloc; "{word} is no client of this script; it has {clients}")
+}
+
+// Of a client that holds no bounded counters, or of no such number.
+fn no_holder(alloc: Global, header: Header, word: &[u8]) -> Result<String, AllocError> {
+    let word = quoted(alloc, word)?;
+    let holders = holders_told(alloc, header)?;
+    format!(in alloc; "{word} is no holder; {holders}")
+}
+
+// Of a holder that is the one before.
+fn same_holder(
+    alloc: Global,
+    header: Header,
+    words: &[&[u8]],
+    word: &[u8],
+) -> Result<String, AllocError> {
+    let word = quoted(alloc, word)?;
+    let other = unquoted(alloc, word_at(words, 0))?;
+    let holders = holders_told(alloc, header)?;
+    format!(in alloc; "{word} is {other} itself; expected another holder, and {holders}")
 }
 
 // Of a centre that the script does not have.
@@ -237,6 +285,11 @@ fn out_of_script(
 ) -> Result<String, AllocError> {
     match blame.part {
         Part::Client => no_client(alloc, header, blame.word),
+        Part::Holder => no_holder(alloc, header, blame.word),
+        Part::OtherHolder => match u8_in(holders_of(header.clients), blame.word) {
+            Ok(_) => same_holder(alloc, header, words, blame.word),
+            Err(_) => no_holder(alloc, header, blame.word),
+        },
         Part::Centre => no_centre(alloc, header, blame.word),
         Part::Other | Part::Third => match u8_in(header.n, blame.word) {
             Ok(_) => same_centre(alloc, header, words, blame),
@@ -259,7 +312,20 @@ fn out_of_range(
     }
 }
 
-// Of a word that is no name, and of one that is no object.
+// Whether a word names an object to which nothing may be added.
+fn is_cell(blame: Blamed<'_>) -> bool {
+    matches!(blame.part, Part::Summand) && object_named(blame.word).is_some()
+}
+
+// Of a counter to which nothing may be added.
+fn a_cell(alloc: Global, word: &[u8]) -> Result<String, AllocError> {
+    let word = quoted(alloc, word)?;
+    format!(in alloc;
+        "{word} may be a cell of a bounded counter; expected a counter whose name does not begin with bc_"
+    )
+}
+
+// Of a word that is no name, and of one that names nothing.
 fn no_name(
     alloc: Global,
     header: Option<Header>,
@@ -268,7 +334,8 @@ fn no_name(
 ) -> Result<String, AllocError> {
     let word = quoted(alloc, blame.word)?;
     let noun = match blame.part {
-        Part::Object => "object",
+        Part::Object | Part::Summand => "object",
+        Part::Bounded => "bounded counter",
         Part::Key => "key",
         _ => "name",
     };
@@ -287,6 +354,7 @@ pub fn odd_value(
         Some(blame) => match blame.why {
             Cause::Number => no_number(alloc, header, words, blame),
             Cause::Range => out_of_range(alloc, header, words, blame),
+            _ if is_cell(blame) => a_cell(alloc, blame.word),
             _ => no_name(alloc, header, words, blame),
         },
         None => unclear(alloc),

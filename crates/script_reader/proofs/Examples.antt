@@ -1,13 +1,17 @@
 -- Scripts that are refused, by the definitions alone, with the line and the cause, and scripts that are taken, with their
 -- sections.
-use Rattle.std.proofs.Common.{◌≡◌, ℕ, List, [], ◌∷◌, ◌++◌, refl}
+use Rattle.std.proofs.Common.{◌≡◌, ℕ, pos, List, [], ◌∷◌, ◌++◌, refl}
 use Rattle.std.specs.Prelude.{codes, Ok, Err}
 use Rattle.ids_core.specs.declared.limits.TheConstants.{MOST_RECORDS}
+use Rattle.obj_bounded.specs.CellNames.{counter_of}
+use Rattle.dc_talk.specs.declared.calls.Change.TheVariants.{Inc}
 use Rattle.dc_talk.specs.declared.links.LinkFault.TheVariants as fault
 use Rattle.script_core.specs.declared.script.Script.{Script}
 use Rattle.script_core.specs.declared.script.TheConstants.{DEFAULT_CACHE, DEFAULT_THREADS, DEFAULT_ROUNDS}
 use Rattle.script_core.specs.declared.steps.Section.{Section}
-use Rattle.script_core.specs.declared.steps.ClientStep.TheVariants.{Begin}
+use Rattle.script_core.specs.declared.steps.Share.{Share}
+use Rattle.script_core.specs.declared.steps.ClientStep.{ClientStep}
+use Rattle.script_core.specs.declared.steps.ClientStep.TheVariants.{Begin, Change, Read, Grant, Give, Take, Rights}
 use Rattle.script_core.specs.declared.steps.OperatorStep.TheVariants.{Down, Up, Relay, Link, Settle}
 use Rattle.script_core.specs.declared.steps.Step.TheVariants.{Client, Operator}
 use Rattle.script_core.specs.Rows.{phase_of, section_of}
@@ -17,6 +21,7 @@ use Rattle.script_reader.specs.declared.fault.ScriptFault.TheVariants.{Refused}
 use Rattle.script_reader.specs.Words.{words_of}
 use Rattle.script_reader.specs.Numbers.{number_in, delta_in}
 use Rattle.script_reader.specs.Names.{object_named}
+use Rattle.script_reader.specs.Shares.{bounded_in}
 use Rattle.script_reader.specs.Forms.{form_among}
 use Rattle.script_reader.specs.Said.{said_word}
 use Rattle.script_reader.specs.Rows.{row_of, row_in_text, row_in}
@@ -197,6 +202,68 @@ a_relay_to_a_word : RefusedOfThree (codes "relay 1 2 x\n") cause.Number
 unfolding script_read words_of number_in delta_in object_named form_among said_word row_of row_in_text row_in may_stand read_more
 a_relay_to_a_word = refl
 
+-- ---- bounded counters
+
+-- this line behind the two of a header with one centre and twelve clients is refused so
+abbrev RefusedOfTwelve : List ℕ → Cause → Type 0
+RefusedOfTwelve line why = script_read (codes "centres 1 k 1\nclients 12\n" ++ line) ≡ Err (Refused 3 why)
+
+a_ninth_holder : RefusedOfTwelve (codes "c9 take B.x 0\n") cause.Range
+unfolding script_read words_of number_in delta_in object_named bounded_in form_among said_word row_of row_in_text row_in may_stand read_more
+a_ninth_holder = refl
+
+a_gift_to_a_ninth_holder : RefusedOfTwelve (codes "c1 give b.x 9 5\n") cause.Range
+unfolding script_read words_of number_in delta_in object_named bounded_in form_among said_word row_of row_in_text row_in may_stand read_more
+a_gift_to_a_ninth_holder = refl
+
+a_gift_to_oneself : RefusedOfTwelve (codes "c2 give b.x 2 x\n") cause.Range
+unfolding script_read words_of number_in delta_in object_named bounded_in form_among said_word row_of row_in_text row_in may_stand read_more
+a_gift_to_oneself = refl
+
+a_gift_to_a_word : RefusedOfTwelve (codes "c2 give b.x one 0\n") cause.Number
+unfolding script_read words_of number_in delta_in object_named bounded_in form_among said_word row_of row_in_text row_in may_stand read_more
+a_gift_to_a_word = refl
+
+an_amount_of_nothing : RefusedOfTwelve (codes "c8 take b.x 0\n") cause.Range
+unfolding script_read words_of number_in delta_in object_named bounded_in form_among said_word row_of row_in_text row_in may_stand read_more
+an_amount_of_nothing = refl
+
+too_large_an_amount : RefusedOfTwelve (codes "c8 grant b.x 1000000000001\n") cause.Range
+unfolding script_read words_of number_in delta_in object_named bounded_in form_among said_word row_of row_in_text row_in may_stand read_more
+too_large_an_amount = refl
+
+an_amount_below_zero : RefusedOfTwelve (codes "c8 grant b.x -5\n") cause.Number
+unfolding script_read words_of number_in delta_in object_named bounded_in form_among said_word row_of row_in_text row_in may_stand read_more
+an_amount_below_zero = refl
+
+no_bounded_counter : RefusedOfTwelve (codes "c8 take B.x 0\n") cause.Name
+unfolding script_read words_of number_in delta_in object_named bounded_in form_among said_word row_of row_in_text row_in may_stand read_more
+no_bounded_counter = refl
+
+a_counter_that_is_not_bounded : RefusedOfTwelve (codes "c8 rights c.x\n") cause.Name
+unfolding script_read words_of number_in delta_in object_named bounded_in form_among said_word row_of row_in_text row_in may_stand read_more
+a_counter_that_is_not_bounded = refl
+
+too_long_a_name : RefusedOfTwelve (codes "c8 rights b.abcdefghijklmnopqrstuvwxyz\n") cause.Name
+unfolding script_read words_of number_in delta_in object_named bounded_in form_among said_word row_of row_in_text row_in may_stand read_more
+too_long_a_name = refl
+
+rights_of_two_words : RefusedOfTwelve (codes "c8 rights b.x 5\n") cause.Count
+unfolding script_read words_of number_in delta_in object_named bounded_in form_among said_word row_of row_in_text row_in may_stand read_more
+rights_of_two_words = refl
+
+an_addition_to_a_cell : RefusedOfTwelve (codes "c1 inc c.bc_x_1_1 x\n") cause.Name
+unfolding script_read words_of number_in delta_in object_named bounded_in form_among said_word row_of row_in_text row_in may_stand read_more
+an_addition_to_a_cell = refl
+
+an_addition_to_a_set : RefusedOfTwelve (codes "c1 inc s.bc_x 5\n") cause.Kind
+unfolding script_read words_of number_in delta_in object_named bounded_in form_among said_word row_of row_in_text row_in may_stand read_more
+an_addition_to_a_set = refl
+
+a_gift_of_one_holder : RefusedThird (codes "c1 give b.x 2 5\n") cause.Range
+unfolding script_read words_of number_in delta_in object_named bounded_in form_among said_word row_of row_in_text row_in may_stand read_more
+a_gift_of_one_holder = refl
+
 -- ---- scripts that are taken
 
 -- the script with these sections, of two centres, with one client and no settings
@@ -226,3 +293,23 @@ faults_of_links = refl
 a_relay : script_read (codes "centres 3 k 1\nclients 1\nrelay 3 1 2\nphase\nrelay 1 2 3\nend\n") ≡ Ok (record (plain_script (section_of (Operator (Relay 3 1 2)) ∷ phase_of (Operator (Relay 1 2 3) ∷ []) ∷ [])) { n = 3 })
 unfolding script_read words_of number_in delta_in object_named form_among said_word row_of row_in_text row_in may_stand read_more
 a_relay = refl
+
+-- a share of one of eight holders in the bounded counter `b.x`
+abbrev share_of : ℕ → Share
+share_of holder = record { name = codes "x"; holder = holder; holders = 8 }
+
+-- a step of a client, as a section of its own
+abbrev does : ℕ → ClientStep → Section
+does client step = section_of (Client client step)
+
+steps_of_bounded_counters : script_read (codes "centres 2 k 1\nclients 12\nc8 grant b.x 1000000000000\nc8 give b.x 1 4\nc1 take b.x 1\nc2 rights b.x\n") ≡ Ok (record (plain_script (does 8 (Grant (share_of 8) 1000000000000) ∷ does 8 (Give (share_of 8) 1 4) ∷ does 1 (Take (share_of 1) 1) ∷ does 2 (Rights (share_of 2)) ∷ [])) { clients = 12 })
+unfolding script_read words_of number_in delta_in object_named bounded_in form_among said_word row_of row_in_text row_in may_stand read_more
+steps_of_bounded_counters = refl
+
+the_longest_name : Reads (codes "c1 rights b.abcdefghijklmnopqrstuvwxy\n") (does 1 (Rights (record { name = codes "abcdefghijklmnopqrstuvwxy"; holder = 1; holders = 1 })) ∷ [])
+unfolding script_read words_of number_in delta_in object_named bounded_in form_among said_word row_of row_in_text row_in may_stand read_more
+the_longest_name = refl
+
+a_read_of_a_cell : Reads (codes "c1 read c.bc_x_1_1\nc1 inc c.bcx 5\n") (does 1 (Read (counter_of (codes "bc_x_1_1"))) ∷ does 1 (Change (counter_of (codes "bcx")) (Inc (pos 5))) ∷ [])
+unfolding script_read words_of number_in delta_in object_named bounded_in form_among said_word row_of row_in_text row_in may_stand read_more
+a_read_of_a_cell = refl

@@ -2,6 +2,7 @@ mod Examples
 pub mod Blanks
 pub mod Digits
 pub mod NameTests
+pub mod CellTests
 pub mod Fitting
 pub mod Saying
 pub mod Onward

@@ -1,11 +1,14 @@
 -- What lines say is in range.
 use Rattle.std.proofs.Common.{◌≡◌, ◌≤◌, ℕ, Bool, true, false, List, [], ◌∷◌, length, refl, ap, sym, ◌∙◌, subst, arith, eqb-true}
-use Rattle.std.specs.Prelude.{nat_lt, cond, find, Option, Some, None, Result, Ok, Err, IfSome}
+use Rattle.std.specs.Prelude.{◌&&◌, not, nat_lt, cond, find, Option, Some, None, Result, Ok, Err, IfSome}
 use Rattle.std.specs.List.{list_any}
 use Rattle.std.proofs.lemmas.Bool.{and_parts}
+use Rattle.ids_core.specs.Ids.{same_sort}
 use Rattle.ids_core.specs.Same.{same_sort-true}
+use Rattle.ids_core.specs.declared.object.ObjectId.{ObjectId}
+use Rattle.ids_core.specs.declared.object.Sort.TheVariants.{Counter}
 use Rattle.ids_core.specs.declared.limits.TheConstants.{MOST_CENTRES, MOST_CLIENTS, MOST_CACHED, MOST_RECORDS}
-use Rattle.script_core.specs.Steps.{IsCount, IsDetour, IsHeader, IsRoute, IsStepOf}
+use Rattle.script_core.specs.Steps.{IsCount, IsDetour, IsHeader, IsRoute, IsStepOf, is_cell_name}
 use Rattle.script_core.specs.declared.limits.TheConstants.{MAX_LINE, MAX_LINES}
 use Rattle.script_core.specs.declared.script.Header.{Header}
 use Rattle.script_reader.specs.declared.fault.Cause.{Cause}
@@ -14,15 +17,16 @@ use Rattle.script_core.specs.declared.script.TheConstants.{MOST_THREADS, MOST_RO
 use Rattle.script_reader.specs.declared.form.Form.{Form}
 use Rattle.script_reader.specs.declared.form.Form.TheVariants as form
 use Rattle.script_reader.specs.declared.form.Word.TheVariants as word
-use Rattle.script_reader.specs.declared.form.Part.TheVariants.{Fixed, Count}
+use Rattle.script_reader.specs.declared.form.Part.TheVariants.{Fixed, OtherHolder, Count, Bounded, Amount}
 use Rattle.script_reader.specs.declared.said.Said.{Said}
 use Rattle.script_reader.specs.declared.row.Row.{Row}
 use Rattle.script_reader.specs.declared.row.Row.TheVariants as row
 use Rattle.script_reader.specs.Words.{words_of, without_return, is_comment, is_plain_text}
 use Rattle.script_reader.specs.Forms.{agrees, fits, forms, found, form_among, form_of, parts_of}
 use Rattle.script_reader.specs.Said.{unsaid, said_words}
+use Rattle.script_reader.specs.Shares.{is_cell}
 use Rattle.script_reader.specs.Rows.{row_of, is_of_its_kind, kind_checked, row_said, row_spelled, row_in_words, row_in_text, row_in}
-use Rattle.script_reader.proofs.SaidRanges.{IsSaid, IsCounted, IsOther, IsThird, count_of, unsaid_in_range, words_in_range, counted_in_range, route_said, detour_said}
+use Rattle.script_reader.proofs.SaidRanges.{IsSaid, IsCounted, IsOther, IsThird, HasOwn, HasOther, count_of, unsaid_in_range, words_in_range, counted_in_range, route_said, detour_said, own_said, gift_said}
 
 -- what a line sets is in its range
 abbrev pub SetsInRange : Row → Type 0
@@ -56,17 +60,22 @@ sets_in_range header form.Threads said is counted = counted
 sets_in_range header form.Rounds said is counted = counted.1
 sets_in_range header _ said is counted = tt
 
--- where a form has two centres, the second is another one, and where it has three, they differ
-abbrev HasRoute : ℕ → Form → Said → Type 0
-HasRoute n form.ShipOne said = IsOther n said
-HasRoute n form.Ship said = IsOther n said
-HasRoute n form.Relay said = IsThird n said
-HasRoute n form.Tell said = IsOther n said
-HasRoute n form.LinkDrop said = IsOther n said
-HasRoute n form.LinkTwice said = IsOther n said
-HasRoute n form.LinkHold said = IsOther n said
-HasRoute n form.LinkClean said = IsOther n said
-HasRoute n _ said = Unit {0}
+-- where a form has two centres, the second is another one; where it has three, they differ; a share is the client's own; and where
+-- a form has two holders, the second is another one
+abbrev FitsTogether : Header → Form → Said → Type 0
+FitsTogether h form.ShipOne said = IsOther h.n said
+FitsTogether h form.Ship said = IsOther h.n said
+FitsTogether h form.Relay said = IsThird h.n said
+FitsTogether h form.Tell said = IsOther h.n said
+FitsTogether h form.LinkDrop said = IsOther h.n said
+FitsTogether h form.LinkTwice said = IsOther h.n said
+FitsTogether h form.LinkHold said = IsOther h.n said
+FitsTogether h form.LinkClean said = IsOther h.n said
+FitsTogether h form.Grant said = HasOwn h said
+FitsTogether h form.Give said = HasOwn h said × HasOther said
+FitsTogether h form.Take said = HasOwn h said
+FitsTogether h form.Rights said = HasOwn h said
+FitsTogether h _ said = Unit {0}
 
 -- the two centres of a form
 is_route : (h : Header) (said : Said) → IsSaid (Some h) said → IsOther h.n said → IsRoute h.n said.centre said.other
@@ -76,57 +85,69 @@ is_route h said is route = record { from_there = is.centre; to_there = route.0; 
 is_detour : (h : Header) (said : Said) → IsSaid (Some h) said → IsThird h.n said → IsDetour h.n said.centre said.other said.third
 is_detour h said is route = record { from_there = is.centre; origin_there = route.other.0; to_there = route.third; other_origin = route.other.1; apart = route.apart; away = route.away }
 
-does_in_range : (h : Header) (one : Form) (said : Said) → IsSaid (Some h) said → IsCounted (count_of (parts_of one)) unsaid said → HasRoute h.n one said → is_of_its_kind (row_of one said) ≡ true → DoesInRange h (row_of one said)
-unfolding row_of
-does_in_range h form.Centres said is counted route kind = tt
-does_in_range h form.Clients said is counted route kind = tt
-does_in_range h form.Cache said is counted route kind = tt
-does_in_range h form.Limit said is counted route kind = tt
-does_in_range h form.Threads said is counted route kind = tt
-does_in_range h form.Rounds said is counted route kind = tt
-does_in_range h form.Connect said is counted route kind = (is.client, is.centre)
-does_in_range h form.Begin said is counted route kind = (is.client, tt)
-does_in_range h form.Inc said is counted route kind = (is.client, (same_sort-true _ _ kind, is.object, is.delta))
-does_in_range h form.Set said is counted route kind = (is.client, (same_sort-true _ _ kind, is.object, is.word))
-does_in_range h form.Add said is counted route kind = (is.client, (same_sort-true _ _ kind, is.object, is.word))
-does_in_range h form.Del said is counted route kind = (is.client, (same_sort-true _ _ kind, is.object, is.word))
-does_in_range h form.Put said is counted route kind = (is.client, (same_sort-true _ _ kind, is.object, (is.key, is.word)))
-does_in_range h form.Drop said is counted route kind = (is.client, (same_sort-true _ _ kind, is.object, is.key))
-does_in_range h form.Read said is counted route kind = (is.client, is.object)
-does_in_range h form.Commit said is counted route kind = (is.client, tt)
-does_in_range h form.Abort said is counted route kind = (is.client, tt)
-does_in_range h form.Push said is counted route kind = (is.client, tt)
-does_in_range h form.Flush said is counted route kind = (is.client, tt)
-does_in_range h form.Refresh said is counted route kind = (is.client, tt)
-does_in_range h form.Again said is counted route kind = (is.client, (is.centre, is.number))
-does_in_range h form.LoseAsk said is counted route kind = (is.client, tt)
-does_in_range h form.LoseReply said is counted route kind = (is.client, tt)
-does_in_range h form.AskTwice said is counted route kind = (is.client, tt)
-does_in_range h form.Down said is counted route kind = is.centre
-does_in_range h form.Up said is counted route kind = is.centre
-does_in_range h form.ShipOne said is counted route kind = (is_route h said is route, counted)
-does_in_range h form.Ship said is counted route kind = is_route h said is route
-does_in_range h form.Relay said is counted route kind = is_detour h said is route
-does_in_range h form.Tell said is counted route kind = is_route h said is route
-does_in_range h form.Prune said is counted route kind = is.centre
-does_in_range h form.LinkDrop said is counted route kind = (is_route h said is route, counted)
-does_in_range h form.LinkTwice said is counted route kind = (is_route h said is route, counted)
-does_in_range h form.LinkHold said is counted route kind = (is_route h said is route, counted)
-does_in_range h form.LinkClean said is counted route kind = (is_route h said is route, tt)
-does_in_range h form.Settle said is counted route kind = tt
-does_in_range h form.Phase said is counted route kind = tt
-does_in_range h form.End said is counted route kind = tt
+-- an addition is to no cell
+spares_cells : (object : ObjectId) → object.sort ≡ Counter → is_cell object ≡ false → not (is_cell_name object.name) ≡ true
+spares_cells object counter spares = ap not (sym (ap (λ sort. same_sort sort Counter && is_cell_name object.name) counter) ∙ spares)
 
-route_in_range : (h : Header) (one : Form) (texts : List (List ℕ)) (said : Said) → length (parts_of one) ≡ length texts → said_words (Some h) (parts_of one) texts unsaid ≡ Ok said → HasRoute h.n one said
-route_in_range h form.ShipOne texts said same e = route_said h word.Ship (Count 1 1000000 ∷ []) texts unsaid said (omega arith) (tt, tt) e
-route_in_range h form.Ship texts said same e = route_said h word.Ship [] texts unsaid said (omega arith) tt e
-route_in_range h form.Relay texts said same e = detour_said h word.Relay texts unsaid said (omega arith) e
-route_in_range h form.Tell texts said same e = route_said h word.Tell [] texts unsaid said (omega arith) tt e
-route_in_range h form.LinkDrop texts said same e = route_said h word.Link (Fixed word.Drop ∷ Count 1 1000000 ∷ []) texts unsaid said (omega arith) (tt, (tt, tt)) e
-route_in_range h form.LinkTwice texts said same e = route_said h word.Link (Fixed word.Twice ∷ Count 1 1000000 ∷ []) texts unsaid said (omega arith) (tt, (tt, tt)) e
-route_in_range h form.LinkHold texts said same e = route_said h word.Link (Fixed word.Hold ∷ Count 1 1000000 ∷ []) texts unsaid said (omega arith) (tt, (tt, tt)) e
-route_in_range h form.LinkClean texts said same e = route_said h word.Link (Fixed word.Clean ∷ []) texts unsaid said (omega arith) (tt, tt) e
-route_in_range h _ texts said same e = tt
+does_in_range : (h : Header) (one : Form) (said : Said) → IsSaid (Some h) said → IsCounted (count_of (parts_of one)) unsaid said → FitsTogether h one said → is_of_its_kind (row_of one said) ≡ true → DoesInRange h (row_of one said)
+unfolding row_of
+does_in_range h form.Centres said is counted together kind = tt
+does_in_range h form.Clients said is counted together kind = tt
+does_in_range h form.Cache said is counted together kind = tt
+does_in_range h form.Limit said is counted together kind = tt
+does_in_range h form.Threads said is counted together kind = tt
+does_in_range h form.Rounds said is counted together kind = tt
+does_in_range h form.Connect said is counted together kind = (is.client, is.centre, tt)
+does_in_range h form.Begin said is counted together kind = (is.client, tt, tt)
+does_in_range h form.Inc said is counted together kind = (is.client, (same_sort-true _ _ kind, is.summand.named, is.delta, spares_cells said.summand (same_sort-true _ _ kind) is.summand.spares), tt)
+does_in_range h form.Set said is counted together kind = (is.client, (same_sort-true _ _ kind, is.object, is.word, tt), tt)
+does_in_range h form.Add said is counted together kind = (is.client, (same_sort-true _ _ kind, is.object, is.word, tt), tt)
+does_in_range h form.Del said is counted together kind = (is.client, (same_sort-true _ _ kind, is.object, is.word, tt), tt)
+does_in_range h form.Put said is counted together kind = (is.client, (same_sort-true _ _ kind, is.object, (is.key, is.word), tt), tt)
+does_in_range h form.Drop said is counted together kind = (is.client, (same_sort-true _ _ kind, is.object, is.key, tt), tt)
+does_in_range h form.Read said is counted together kind = (is.client, is.object, tt)
+does_in_range h form.Grant said is counted together kind = (is.client, (is.share, is.amount), together)
+does_in_range h form.Give said is counted together kind = (is.client, (is.share, together.1, is.amount), together.0)
+does_in_range h form.Take said is counted together kind = (is.client, (is.share, is.amount), together)
+does_in_range h form.Rights said is counted together kind = (is.client, is.share, together)
+does_in_range h form.Commit said is counted together kind = (is.client, tt, tt)
+does_in_range h form.Abort said is counted together kind = (is.client, tt, tt)
+does_in_range h form.Push said is counted together kind = (is.client, tt, tt)
+does_in_range h form.Flush said is counted together kind = (is.client, tt, tt)
+does_in_range h form.Refresh said is counted together kind = (is.client, tt, tt)
+does_in_range h form.Again said is counted together kind = (is.client, (is.centre, is.number), tt)
+does_in_range h form.LoseAsk said is counted together kind = (is.client, tt, tt)
+does_in_range h form.LoseReply said is counted together kind = (is.client, tt, tt)
+does_in_range h form.AskTwice said is counted together kind = (is.client, tt, tt)
+does_in_range h form.Down said is counted together kind = is.centre
+does_in_range h form.Up said is counted together kind = is.centre
+does_in_range h form.ShipOne said is counted together kind = (is_route h said is together, counted)
+does_in_range h form.Ship said is counted together kind = is_route h said is together
+does_in_range h form.Relay said is counted together kind = is_detour h said is together
+does_in_range h form.Tell said is counted together kind = is_route h said is together
+does_in_range h form.Prune said is counted together kind = is.centre
+does_in_range h form.LinkDrop said is counted together kind = (is_route h said is together, counted)
+does_in_range h form.LinkTwice said is counted together kind = (is_route h said is together, counted)
+does_in_range h form.LinkHold said is counted together kind = (is_route h said is together, counted)
+does_in_range h form.LinkClean said is counted together kind = (is_route h said is together, tt)
+does_in_range h form.Settle said is counted together kind = tt
+does_in_range h form.Phase said is counted together kind = tt
+does_in_range h form.End said is counted together kind = tt
+
+fits_together : (h : Header) (one : Form) (texts : List (List ℕ)) (said : Said) → length (parts_of one) ≡ length texts → said_words (Some h) (parts_of one) texts unsaid ≡ Ok said → FitsTogether h one said
+fits_together h form.ShipOne texts said same e = route_said h word.Ship (Count 1 1000000 ∷ []) texts unsaid said (omega arith) (tt, tt) e
+fits_together h form.Ship texts said same e = route_said h word.Ship [] texts unsaid said (omega arith) tt e
+fits_together h form.Relay texts said same e = detour_said h word.Relay texts unsaid said (omega arith) e
+fits_together h form.Tell texts said same e = route_said h word.Tell [] texts unsaid said (omega arith) tt e
+fits_together h form.LinkDrop texts said same e = route_said h word.Link (Fixed word.Drop ∷ Count 1 1000000 ∷ []) texts unsaid said (omega arith) (tt, (tt, tt)) e
+fits_together h form.LinkTwice texts said same e = route_said h word.Link (Fixed word.Twice ∷ Count 1 1000000 ∷ []) texts unsaid said (omega arith) (tt, (tt, tt)) e
+fits_together h form.LinkHold texts said same e = route_said h word.Link (Fixed word.Hold ∷ Count 1 1000000 ∷ []) texts unsaid said (omega arith) (tt, (tt, tt)) e
+fits_together h form.LinkClean texts said same e = route_said h word.Link (Fixed word.Clean ∷ []) texts unsaid said (omega arith) (tt, tt) e
+fits_together h form.Grant texts said same e = own_said h (Fixed word.Grant ∷ Bounded ∷ Amount ∷ []) texts unsaid said (omega arith) (tt, (tt, (tt, tt))) e
+fits_together h form.Give texts said same e = (own_said h (Fixed word.Give ∷ Bounded ∷ OtherHolder ∷ Amount ∷ []) texts unsaid said (omega arith) (tt, (tt, (tt, (tt, tt)))) e, gift_said h word.Give texts unsaid said (omega arith) e)
+fits_together h form.Take texts said same e = own_said h (Fixed word.Take ∷ Bounded ∷ Amount ∷ []) texts unsaid said (omega arith) (tt, (tt, (tt, tt))) e
+fits_together h form.Rights texts said same e = own_said h (Fixed word.Rights ∷ Bounded ∷ []) texts unsaid said (omega arith) (tt, (tt, tt)) e
+fits_together h _ texts said same e = tt
 
 both_in_range : (header : Option Header) (one : Form) (texts : List (List ℕ)) (said : Said) → IfSome header IsHeader → length (parts_of one) ≡ length texts → said_words header (parts_of one) texts unsaid ≡ Ok said → is_of_its_kind (row_of one said) ≡ true → IsRowInRange header (row_of one said)
 both_in_range None one texts said head same e kind =
@@ -135,7 +156,7 @@ both_in_range None one texts said head same e kind =
 both_in_range (Some h) one texts said head same e kind =
     let is = words_in_range (Some h) (parts_of one) texts unsaid said e (unsaid_in_range (Some h) head) in
     let counted = counted_in_range (Some h) (parts_of one) texts unsaid said same e in
-    record { sets = sets_in_range (Some h) one said is counted; does = does_in_range h one said is counted (route_in_range h one texts said same e) kind }
+    record { sets = sets_in_range (Some h) one said is counted; does = does_in_range h one said is counted (fits_together h one texts said same e) kind }
 
 -- ---- a line
 

@@ -8,17 +8,21 @@ use Rattle.ids_core.specs.Name.{IsName}
 use Rattle.ids_core.specs.declared.limits.TheConstants.{MOST_CENTRES, MOST_NUMBER, MOST_DELTA}
 use Rattle.ids_core.specs.declared.object.ObjectId.{ObjectId}
 use Rattle.ids_core.specs.declared.object.Sort.{Sort}
-use Rattle.script_core.specs.Steps.{IsCount, IsDelta, IsHeader}
+use Rattle.obj_bounded.specs.declared.cell_names.TheConstants.{MOST_BOUNDED_NAME, MOST_HOLDERS}
+use Rattle.obj_bounded.specs.CellNames.{IsHolder}
+use Rattle.script_core.specs.Steps.{IsAmount, IsCount, IsDelta, IsHeader, IsOtherHolder, IsShare, IsShareOf, holders_of}
 use Rattle.script_core.specs.declared.script.Header.{Header}
+use Rattle.script_core.specs.declared.steps.Share.{Share}
 use Rattle.script_reader.specs.declared.fault.Cause.{Cause}
 use Rattle.script_reader.specs.declared.fault.Cause.TheVariants as cause
 use Rattle.script_reader.specs.declared.form.Word.{Word}
 use Rattle.script_reader.specs.declared.form.Part.{Part}
-use Rattle.script_reader.specs.declared.form.Part.TheVariants.{Fixed, Client, Centre, Other, Third, Centres, Stable, Count, Commit, Delta, Object, Key, Name}
+use Rattle.script_reader.specs.declared.form.Part.TheVariants.{Fixed, Client, Holder, OtherHolder, Centre, Other, Third, Centres, Stable, Count, Commit, Delta, Object, Summand, Bounded, Amount, Key, Name}
 use Rattle.script_reader.specs.declared.said.Said.{Said}
 use Rattle.script_reader.specs.Numbers.{is_number, number_of, number_in, delta_in, below_zero, from_zero}
 use Rattle.script_reader.specs.Names.{is_name, sort_marked, object_named}
-use Rattle.script_reader.specs.Said.{unsaid, with_said, with_name, with_object, other_said, third_said, said_word, said_words}
+use Rattle.script_reader.specs.Shares.{bounded_in, is_cell, summand_in, unless_cell}
+use Rattle.script_reader.specs.Said.{unsaid, with_said, with_name, with_object, with_holder, with_counter, to_said, other_said, third_said, said_word, said_words}
 use Rattle.script_reader.proofs.NameTests.{name_from_test}
 
 -- ---- numbers, deltas and objects
@@ -70,12 +74,58 @@ object_within text object named = go (slice_index text 1 == 46) (is_name (drop 2
     go true true is None e = absurd (cc)
     go true true is (Some s) e = subst IsName (let same : ◌≡◌ {A = ObjectId} (record { sort = s; name = drop 2 text }) object = cc in ap (λ (o : ObjectId). o.name) same) (name_from_test (drop 2 text) is)
 
+-- ---- bounded counters and their cells
+
+-- a name that is short enough for those of the cells of a bounded counter
+pub record IsBoundedName (name : List ℕ) : Type 0 where
+  pub named : IsName name
+  pub short : length name ≤ MOST_BOUNDED_NAME
+
+-- a bounded counter that is named has such a name
+bounded_within : (text name : List ℕ) → bounded_in text ≡ Ok name → IsBoundedName name
+unfolding bounded_in
+bounded_within text name named = go (slice_index text 0 == 98) (slice_index text 1 == 46) (nat_le (length (drop 2 text)) MOST_BOUNDED_NAME) refl (is_name (drop 2 text)) refl named
+  where
+    go : (mark dot short : Bool) → nat_le (length (drop 2 text)) MOST_BOUNDED_NAME ≡ short → (word : Bool) → is_name (drop 2 text) ≡ word → cond (mark && (dot && (short && word))) (Ok (drop 2 text)) (Err cause.Name) ≡ Ok name → IsBoundedName name
+    go false dot short few word is e = absurd (cc)
+    go true false short few word is e = absurd (cc)
+    go true true false few word is e = absurd (cc)
+    go true true true few false is e = absurd (cc)
+    go true true true few true is e = subst IsBoundedName (let same : drop 2 text ≡ name = cc in same) (record { named = name_from_test (drop 2 text) is; short = leb-true _ _ few })
+
+-- an object with a name that may not be a cell of a bounded counter
+pub record IsSummand (object : ObjectId) : Type 0 where
+  pub named : IsName object.name
+  pub spares : is_cell object ≡ false
+
+-- one that is named to be added to is such
+summand_within : (text : List ℕ) (object : ObjectId) → summand_in text ≡ Ok object → IsSummand object
+summand_within text object named = go (object_named text) refl named
+  where
+    spared : (one : ObjectId) (cell : Bool) → is_cell one ≡ cell → object_named text ≡ Some one → cond cell (Err cause.Name) (Ok one) ≡ Ok object → IsSummand object
+    spared one true is found e = absurd (cc)
+    spared one false is found e = subst IsSummand (let same : one ≡ object = cc in same) (record { named = object_within text one found; spares = is })
+
+    go : (found : Option ObjectId) → object_named text ≡ found → unless_cell found ≡ Ok object → IsSummand object
+    go None found e = absurd (cc)
+    go (Some one) found e = spared one (is_cell one) refl found e
+
+-- one of the holders among clients is one of the clients
+holder_client : (clients n : ℕ) → IsCount (holders_of clients) n → IsCount clients n
+holder_client clients n is = (is.0, let high = is.1 in omega arith)
+
+-- and there are few of them
+holder_within : (clients n : ℕ) → IsCount (holders_of clients) n → IsHolder (holders_of clients) n
+holder_within clients n is = record { low = is.0; high = is.1; most = omega arith }
+
 -- ---- one word
 
 -- what a word changes that stands in the place of a part, and in which range
 abbrev pub SaysSo : Option Header → Part → Said → Said → Type 0
 SaysSo header (Fixed own) said more = more ≡ said
 SaysSo header Client said more = MatchOption header (more ≡ said) (λ h. (n : ℕ) × (more ≡ record said { client = n }) × IsCount h.clients n)
+SaysSo header Holder said more = MatchOption header (more ≡ said) (λ h. (n : ℕ) × (more ≡ with_holder said (holders_of h.clients) n) × IsCount (holders_of h.clients) n)
+SaysSo header OtherHolder said more = MatchOption header (more ≡ said) (λ h. (n : ℕ) × (more ≡ record said { to = n }) × IsOtherHolder said.share n)
 SaysSo header Centre said more = MatchOption header (more ≡ said) (λ h. (n : ℕ) × (more ≡ record said { centre = n }) × IsCount h.n n)
 SaysSo header Other said more = MatchOption header (more ≡ said) (λ h. (n : ℕ) × (more ≡ record said { other = n }) × IsCount h.n n × (said.centre ≢ n))
 SaysSo header Third said more = MatchOption header (more ≡ said) (λ h. (n : ℕ) × (more ≡ record said { third = n }) × IsCount h.n n × (said.centre ≢ n) × (said.other ≢ n))
@@ -85,6 +135,9 @@ SaysSo header (Count least most) said more = (n : ℕ) × (more ≡ record said 
 SaysSo header Commit said more = (n : ℕ) × (more ≡ record said { number = n }) × IsCount MOST_NUMBER n
 SaysSo header Delta said more = (d : ℤ) × (more ≡ record said { delta = d }) × IsDelta d
 SaysSo header Object said more = (o : ObjectId) × (more ≡ record said { object = o }) × IsName o.name
+SaysSo header Summand said more = (o : ObjectId) × (more ≡ record said { summand = o }) × IsSummand o
+SaysSo header Bounded said more = (name : List ℕ) × (more ≡ with_counter said name) × IsBoundedName name
+SaysSo header Amount said more = (n : ℕ) × (more ≡ record said { amount = n }) × IsAmount n
 SaysSo header Key said more = (name : List ℕ) × (more ≡ record said { key = name }) × IsName name
 SaysSo header Name said more = (name : List ℕ) × (more ≡ record said { word = name }) × IsName name
 
@@ -111,6 +164,14 @@ other_put said more most (Ok n) within e = go (n == said.centre) refl e
     go true is bad = absurd (cc)
     go false is put = (n, (let same : record said { other = n } ≡ more = cc in sym same), within n refl, λ e. eqb-false n said.centre is (sym e))
 
+to_put : (said more : Said) (r : Result ℕ Cause) → ((n : ℕ) → r ≡ Ok n → IsCount said.share.holders n) → to_said said r ≡ Ok more → (n : ℕ) × (more ≡ record said { to = n }) × IsOtherHolder said.share n
+to_put said more (Err why) within e = absurd (cc)
+to_put said more (Ok n) within e = go (n == said.share.holder) refl e
+  where
+    go : (same : Bool) → (n == said.share.holder) ≡ same → cond same (Err cause.Range) (Ok (record said { to = n })) ≡ Ok more → (m : ℕ) × (more ≡ record said { to = m }) × IsOtherHolder said.share m
+    go true is bad = absurd (cc)
+    go false is put = (n, (let same : record said { to = n } ≡ more = cc in sym same), (within n refl, eqb-false n said.share.holder is))
+
 third_put : (said more : Said) (most : ℕ) (r : Result ℕ Cause) → ((n : ℕ) → r ≡ Ok n → IsCount most n) → third_said said r ≡ Ok more → (n : ℕ) × (more ≡ record said { third = n }) × IsCount most n × (said.centre ≢ n) × (said.other ≢ n)
 third_put said more most (Err why) within e = absurd (cc)
 third_put said more most (Ok n) within e = go (n == said.centre) refl (n == said.other) refl e
@@ -136,6 +197,10 @@ unfolding said_word
 says_so header (Fixed own) text said more e = let same : said ≡ more = cc in sym same
 says_so None Client text said more e = early_same said more (drop 1 text) e
 says_so (Some h) Client text said more e = number_put (λ n. record said { client = n }) 1 h.clients (drop 1 text) more e
+says_so None Holder text said more e = early_same said more (drop 1 text) e
+says_so (Some h) Holder text said more e = number_put (with_holder said (holders_of h.clients)) 1 (holders_of h.clients) (drop 1 text) more e
+says_so None OtherHolder text said more e = early_same said more text e
+says_so (Some h) OtherHolder text said more e = to_put said more (number_in 1 said.share.holders text) (number_within 1 said.share.holders text) e
 says_so None Centre text said more e = early_same said more text e
 says_so (Some h) Centre text said more e = number_put (λ n. record said { centre = n }) 1 h.n text more e
 says_so None Other text said more e = early_same said more text e
@@ -148,6 +213,9 @@ says_so header (Count least most) text said more e = number_put (λ n. record sa
 says_so header Commit text said more e = number_put (λ n. record said { number = n }) 1 MOST_NUMBER text more e
 says_so header Delta text said more e = let p = put_of (λ d. record said { delta = d }) (delta_in text) more e in (p.0, p.1, delta_within text p.0 p.2)
 says_so header Object text said more e = object_put (λ o. record said { object = o }) (object_named text) more (object_within text) e
+says_so header Summand text said more e = let p = put_of (λ o. record said { summand = o }) (summand_in text) more e in (p.0, p.1, summand_within text p.0 p.2)
+says_so header Bounded text said more e = let p = put_of (with_counter said) (bounded_in text) more e in (p.0, p.1, bounded_within text p.0 p.2)
+says_so header Amount text said more e = number_put (λ n. record said { amount = n }) 1 MOST_DELTA text more e
 says_so header Key text said more e = name_put (λ name. record said { key = name }) text more e
 says_so header Name text said more e = name_put (λ name. record said { word = name }) text more e
 
@@ -156,12 +224,15 @@ says_so header Name text said more e = name_put (λ name. record said { word = n
 -- what is said is in range, whatever form it is of
 pub record IsSaid (header : Option Header) (said : Said) : Type 0 where
   pub client : IfSome header (λ h. IsCount h.clients said.client)
+  pub share : IsShare said.share
   pub centre : IfSome header (λ h. IsCount h.n said.centre)
   pub n : IsCount MOST_CENTRES said.n
   pub k : IsCount said.n said.k
   pub number : IsCount MOST_NUMBER said.number
+  pub amount : IsAmount said.amount
   pub delta : IsDelta said.delta
   pub object : IsName said.object.name
+  pub summand : IsSummand said.summand
   pub key : IsName said.key
   pub word : IsName said.word
 
@@ -169,29 +240,39 @@ pub record IsSaid (header : Option Header) (said : Said) : Type 0 where
 said_more : (header : Option Header) (part : Part) (said more : Said) → SaysSo header part said more → IsSaid header said → IsSaid header more
 said_more header (Fixed own) said more says is = subst (IsSaid header) (sym says) is
 said_more None Client said more says is = subst (IsSaid None) (sym says) is
-said_more (Some h) Client said more says is = subst (IsSaid (Some h)) (sym says.1) (record { client = says.2; centre = is.centre; n = is.n; k = is.k; number = is.number; delta = is.delta; object = is.object; key = is.key; word = is.word })
+said_more (Some h) Client said more says is = subst (IsSaid (Some h)) (sym says.1) (record { client = says.2; share = is.share; centre = is.centre; n = is.n; k = is.k; number = is.number; amount = is.amount; delta = is.delta; object = is.object; summand = is.summand; key = is.key; word = is.word })
+said_more None Holder said more says is = subst (IsSaid None) (sym says) is
+said_more (Some h) Holder said more says is = subst (IsSaid (Some h)) (sym says.1) (record { client = holder_client h.clients says.0 says.2; share = record { named = is.share.named; short = is.share.short; holder = holder_within h.clients says.0 says.2 }; centre = is.centre; n = is.n; k = is.k; number = is.number; amount = is.amount; delta = is.delta; object = is.object; summand = is.summand; key = is.key; word = is.word })
+said_more None OtherHolder said more says is = subst (IsSaid None) (sym says) is
+said_more (Some h) OtherHolder said more says is = subst (IsSaid (Some h)) (sym says.1) (record { client = is.client; share = is.share; centre = is.centre; n = is.n; k = is.k; number = is.number; amount = is.amount; delta = is.delta; object = is.object; summand = is.summand; key = is.key; word = is.word })
 said_more None Centre said more says is = subst (IsSaid None) (sym says) is
-said_more (Some h) Centre said more says is = subst (IsSaid (Some h)) (sym says.1) (record { client = is.client; centre = says.2; n = is.n; k = is.k; number = is.number; delta = is.delta; object = is.object; key = is.key; word = is.word })
+said_more (Some h) Centre said more says is = subst (IsSaid (Some h)) (sym says.1) (record { client = is.client; share = is.share; centre = says.2; n = is.n; k = is.k; number = is.number; amount = is.amount; delta = is.delta; object = is.object; summand = is.summand; key = is.key; word = is.word })
 said_more None Other said more says is = subst (IsSaid None) (sym says) is
-said_more (Some h) Other said more says is = subst (IsSaid (Some h)) (sym says.1) (record { client = is.client; centre = is.centre; n = is.n; k = is.k; number = is.number; delta = is.delta; object = is.object; key = is.key; word = is.word })
+said_more (Some h) Other said more says is = subst (IsSaid (Some h)) (sym says.1) (record { client = is.client; share = is.share; centre = is.centre; n = is.n; k = is.k; number = is.number; amount = is.amount; delta = is.delta; object = is.object; summand = is.summand; key = is.key; word = is.word })
 said_more None Third said more says is = subst (IsSaid None) (sym says) is
-said_more (Some h) Third said more says is = subst (IsSaid (Some h)) (sym says.1) (record { client = is.client; centre = is.centre; n = is.n; k = is.k; number = is.number; delta = is.delta; object = is.object; key = is.key; word = is.word })
-said_more header Centres said more says is = subst (IsSaid header) (sym says.1) (record { client = is.client; centre = is.centre; n = says.2; k = (omega arith, says.2.0); number = is.number; delta = is.delta; object = is.object; key = is.key; word = is.word })
-said_more header Stable said more says is = subst (IsSaid header) (sym says.1) (record { client = is.client; centre = is.centre; n = is.n; k = says.2; number = is.number; delta = is.delta; object = is.object; key = is.key; word = is.word })
-said_more header (Count least most) said more says is = subst (IsSaid header) (sym says.1) (record { client = is.client; centre = is.centre; n = is.n; k = is.k; number = is.number; delta = is.delta; object = is.object; key = is.key; word = is.word })
-said_more header Commit said more says is = subst (IsSaid header) (sym says.1) (record { client = is.client; centre = is.centre; n = is.n; k = is.k; number = says.2; delta = is.delta; object = is.object; key = is.key; word = is.word })
-said_more header Delta said more says is = subst (IsSaid header) (sym says.1) (record { client = is.client; centre = is.centre; n = is.n; k = is.k; number = is.number; delta = says.2; object = is.object; key = is.key; word = is.word })
-said_more header Object said more says is = subst (IsSaid header) (sym says.1) (record { client = is.client; centre = is.centre; n = is.n; k = is.k; number = is.number; delta = is.delta; object = says.2; key = is.key; word = is.word })
-said_more header Key said more says is = subst (IsSaid header) (sym says.1) (record { client = is.client; centre = is.centre; n = is.n; k = is.k; number = is.number; delta = is.delta; object = is.object; key = says.2; word = is.word })
-said_more header Name said more says is = subst (IsSaid header) (sym says.1) (record { client = is.client; centre = is.centre; n = is.n; k = is.k; number = is.number; delta = is.delta; object = is.object; key = is.key; word = says.2 })
+said_more (Some h) Third said more says is = subst (IsSaid (Some h)) (sym says.1) (record { client = is.client; share = is.share; centre = is.centre; n = is.n; k = is.k; number = is.number; amount = is.amount; delta = is.delta; object = is.object; summand = is.summand; key = is.key; word = is.word })
+said_more header Centres said more says is = subst (IsSaid header) (sym says.1) (record { client = is.client; share = is.share; centre = is.centre; n = says.2; k = (omega arith, says.2.0); number = is.number; amount = is.amount; delta = is.delta; object = is.object; summand = is.summand; key = is.key; word = is.word })
+said_more header Stable said more says is = subst (IsSaid header) (sym says.1) (record { client = is.client; share = is.share; centre = is.centre; n = is.n; k = says.2; number = is.number; amount = is.amount; delta = is.delta; object = is.object; summand = is.summand; key = is.key; word = is.word })
+said_more header (Count least most) said more says is = subst (IsSaid header) (sym says.1) (record { client = is.client; share = is.share; centre = is.centre; n = is.n; k = is.k; number = is.number; amount = is.amount; delta = is.delta; object = is.object; summand = is.summand; key = is.key; word = is.word })
+said_more header Commit said more says is = subst (IsSaid header) (sym says.1) (record { client = is.client; share = is.share; centre = is.centre; n = is.n; k = is.k; number = says.2; amount = is.amount; delta = is.delta; object = is.object; summand = is.summand; key = is.key; word = is.word })
+said_more header Delta said more says is = subst (IsSaid header) (sym says.1) (record { client = is.client; share = is.share; centre = is.centre; n = is.n; k = is.k; number = is.number; amount = is.amount; delta = says.2; object = is.object; summand = is.summand; key = is.key; word = is.word })
+said_more header Object said more says is = subst (IsSaid header) (sym says.1) (record { client = is.client; share = is.share; centre = is.centre; n = is.n; k = is.k; number = is.number; amount = is.amount; delta = is.delta; object = says.2; summand = is.summand; key = is.key; word = is.word })
+said_more header Summand said more says is = subst (IsSaid header) (sym says.1) (record { client = is.client; share = is.share; centre = is.centre; n = is.n; k = is.k; number = is.number; amount = is.amount; delta = is.delta; object = is.object; summand = says.2; key = is.key; word = is.word })
+said_more header Bounded said more says is = subst (IsSaid header) (sym says.1) (record { client = is.client; share = record { named = says.2.named; short = says.2.short; holder = is.share.holder }; centre = is.centre; n = is.n; k = is.k; number = is.number; amount = is.amount; delta = is.delta; object = is.object; summand = is.summand; key = is.key; word = is.word })
+said_more header Amount said more says is = subst (IsSaid header) (sym says.1) (record { client = is.client; share = is.share; centre = is.centre; n = is.n; k = is.k; number = is.number; amount = says.2; delta = is.delta; object = is.object; summand = is.summand; key = is.key; word = is.word })
+said_more header Key said more says is = subst (IsSaid header) (sym says.1) (record { client = is.client; share = is.share; centre = is.centre; n = is.n; k = is.k; number = is.number; amount = is.amount; delta = is.delta; object = is.object; summand = is.summand; key = says.2; word = is.word })
+said_more header Name said more says is = subst (IsSaid header) (sym says.1) (record { client = is.client; share = is.share; centre = is.centre; n = is.n; k = is.k; number = is.number; amount = is.amount; delta = is.delta; object = is.object; summand = is.summand; key = is.key; word = says.2 })
 
 a_name : IsName (97 ∷ [])
 a_name = name_from_test (97 ∷ []) refl
 
+a_share : IsShare (record { name = 97 ∷ []; holder = 1; holders = 1 })
+a_share = record { named = a_name; short = omega arith; holder = record { low = omega arith; high = omega arith; most = omega arith } }
+
 -- before the first word
 pub unsaid_in_range : (header : Option Header) → IfSome header IsHeader → IsSaid header unsaid
-unsaid_in_range None is = record { client = tt; centre = tt; n = (omega arith, omega arith); k = (omega arith, omega arith); number = (omega arith, omega arith); delta = refl; object = a_name; key = a_name; word = a_name }
-unsaid_in_range (Some h) is = record { client = (omega arith, is.clients.0); centre = (omega arith, is.n.0); n = (omega arith, omega arith); k = (omega arith, omega arith); number = (omega arith, omega arith); delta = refl; object = a_name; key = a_name; word = a_name }
+unsaid_in_range None is = record { client = tt; share = a_share; centre = tt; n = (omega arith, omega arith); k = (omega arith, omega arith); number = (omega arith, omega arith); amount = (omega arith, omega arith); delta = refl; object = a_name; summand = record { named = a_name; spares = refl }; key = a_name; word = a_name }
+unsaid_in_range (Some h) is = record { client = (omega arith, is.clients.0); share = a_share; centre = (omega arith, is.n.0); n = (omega arith, omega arith); k = (omega arith, omega arith); number = (omega arith, omega arith); amount = (omega arith, omega arith); delta = refl; object = a_name; summand = record { named = a_name; spares = refl }; key = a_name; word = a_name }
 
 -- one word was said, and then the others
 record SaidFirst (header : Option Header) (part : Part) (parts : List Part) (texts : List (List ℕ)) (said more : Said) : Type 0 where
@@ -240,6 +321,10 @@ counted_more : (header : Option Header) (part : Part) (parts : List Part) (said 
 counted_more header (Fixed own) parts said mid more says is = counted_same (count_of parts) said mid more (ap (λ (s : Said). s.count) says) is
 counted_more None Client parts said mid more says is = counted_same (count_of parts) said mid more (ap (λ (s : Said). s.count) says) is
 counted_more (Some h) Client parts said mid more says is = counted_same (count_of parts) said mid more (ap (λ (s : Said). s.count) says.1) is
+counted_more None Holder parts said mid more says is = counted_same (count_of parts) said mid more (ap (λ (s : Said). s.count) says) is
+counted_more (Some h) Holder parts said mid more says is = counted_same (count_of parts) said mid more (ap (λ (s : Said). s.count) says.1) is
+counted_more None OtherHolder parts said mid more says is = counted_same (count_of parts) said mid more (ap (λ (s : Said). s.count) says) is
+counted_more (Some h) OtherHolder parts said mid more says is = counted_same (count_of parts) said mid more (ap (λ (s : Said). s.count) says.1) is
 counted_more None Centre parts said mid more says is = counted_same (count_of parts) said mid more (ap (λ (s : Said). s.count) says) is
 counted_more (Some h) Centre parts said mid more says is = counted_same (count_of parts) said mid more (ap (λ (s : Said). s.count) says.1) is
 counted_more None Other parts said mid more says is = counted_same (count_of parts) said mid more (ap (λ (s : Said). s.count) says) is
@@ -256,6 +341,9 @@ counted_more header (Count least most) parts said mid more says is = go (count_o
 counted_more header Commit parts said mid more says is = counted_same (count_of parts) said mid more (ap (λ (s : Said). s.count) says.1) is
 counted_more header Delta parts said mid more says is = counted_same (count_of parts) said mid more (ap (λ (s : Said). s.count) says.1) is
 counted_more header Object parts said mid more says is = counted_same (count_of parts) said mid more (ap (λ (s : Said). s.count) says.1) is
+counted_more header Summand parts said mid more says is = counted_same (count_of parts) said mid more (ap (λ (s : Said). s.count) says.1) is
+counted_more header Bounded parts said mid more says is = counted_same (count_of parts) said mid more (ap (λ (s : Said). s.count) says.1) is
+counted_more header Amount parts said mid more says is = counted_same (count_of parts) said mid more (ap (λ (s : Said). s.count) says.1) is
 counted_more header Key parts said mid more says is = counted_same (count_of parts) said mid more (ap (λ (s : Said). s.count) says.1) is
 counted_more header Name parts said mid more says is = counted_same (count_of parts) said mid more (ap (λ (s : Said). s.count) says.1) is
 
@@ -335,3 +423,69 @@ detour_said h own [] said more long e = absurd (omega arith)
 detour_said h own (a ∷ []) said more long e = absurd (omega arith)
 detour_said h own (a ∷ b ∷ []) said more long e = absurd (omega arith)
 detour_said h own (a ∷ b ∷ c ∷ []) said more long e = absurd (omega arith)
+
+-- ---- holders
+
+-- a part leaves the client and its share, but for the counter's name
+abbrev pub KeepsHolder : Part → Type 0
+KeepsHolder (Fixed own) = Unit {0}
+KeepsHolder OtherHolder = Unit {0}
+KeepsHolder Bounded = Unit {0}
+KeepsHolder Amount = Unit {0}
+KeepsHolder _ = ⊥
+
+-- what is said has the share of the client that it names
+abbrev pub HasOwn : Header → Said → Type 0
+HasOwn h said = IsShareOf h.clients said.client said.share
+
+-- such a word leaves it
+own_more : (h : Header) (part : Part) (said more : Said) → KeepsHolder part → SaysSo (Some h) part said more → HasOwn h said → HasOwn h more
+own_more h (Fixed own) said more keeps says is = subst (HasOwn h) (sym says) is
+own_more h OtherHolder said more keeps says is = subst (HasOwn h) (sym says.1) is
+own_more h Bounded said more keeps says is = subst (HasOwn h) (sym says.1) is
+own_more h Amount said more keeps says is = subst (HasOwn h) (sym says.1) is
+own_more h part said more keeps says is = absurd keeps
+
+-- and so do such words
+own_kept : (h : Header) (parts : List Part) (texts : List (List ℕ)) (said more : Said) → AllByRecursion KeepsHolder parts → said_words (Some h) parts texts said ≡ Ok more → HasOwn h said → HasOwn h more
+own_kept h [] texts said more keep e is = subst (HasOwn h) (let same : said ≡ more = cc in same) is
+own_kept h (part ∷ parts) [] said more keep e is = subst (HasOwn h) (let same : said ≡ more = cc in same) is
+own_kept h (part ∷ parts) (text ∷ texts) said more keep e is =
+    let first = said_first (Some h) part parts text texts said more e in
+    own_kept h parts texts first.mid more keep.1 first.later (own_more h part said first.mid keep.0 first.says is)
+
+-- a holder, and such words behind it
+pub own_said : (h : Header) (parts : List Part) (texts : List (List ℕ)) (said more : Said) → 1 ≤ length texts → AllByRecursion KeepsHolder parts → said_words (Some h) (Holder ∷ parts) texts said ≡ Ok more → HasOwn h more
+own_said h parts [] said more long keep e = absurd (omega arith)
+own_said h parts (text ∷ texts) said more long keep e =
+    let first = said_first (Some h) Holder parts text texts said more e in
+    own_kept h parts texts first.mid more keep first.later (subst (HasOwn h) (sym first.says.1) (refl, refl))
+
+-- another holder than the one before
+abbrev pub HasOther : Said → Type 0
+HasOther said = IsOtherHolder said.share said.to
+
+-- another holder, and an amount behind it
+other_said_last : (h : Header) (texts : List (List ℕ)) (said more : Said) → length texts ≡ 2 → said_words (Some h) (OtherHolder ∷ Amount ∷ []) texts said ≡ Ok more → HasOther more
+other_said_last h (a ∷ b ∷ texts) said more long e =
+    let first = said_first (Some h) OtherHolder (Amount ∷ []) a (b ∷ texts) said more e in
+    let second = said_first (Some h) Amount [] b texts first.mid more first.later in
+    let put : HasOther first.mid = subst HasOther (sym first.says.1) first.says.2 in
+    let kept : HasOther second.mid = subst HasOther (sym second.says.1) put in
+    subst HasOther (last_is second.mid texts second.later) kept
+  where
+    last_is : (mid : Said) (texts : List (List ℕ)) → said_words (Some h) [] texts mid ≡ Ok more → mid ≡ more
+    last_is mid texts e = cc
+other_said_last h [] said more long e = absurd (omega arith)
+other_said_last h (a ∷ []) said more long e = absurd (omega arith)
+
+-- the words of a gift name another holder
+pub gift_said : (h : Header) (own : Word) (texts : List (List ℕ)) (said more : Said) → length texts ≡ 5 → said_words (Some h) (Holder ∷ Fixed own ∷ Bounded ∷ OtherHolder ∷ Amount ∷ []) texts said ≡ Ok more → HasOther more
+gift_said h own (a ∷ b ∷ c ∷ texts) said more long e =
+    let first = said_first (Some h) Holder (Fixed own ∷ Bounded ∷ OtherHolder ∷ Amount ∷ []) a (b ∷ c ∷ texts) said more e in
+    let second = said_first (Some h) (Fixed own) (Bounded ∷ OtherHolder ∷ Amount ∷ []) b (c ∷ texts) first.mid more first.later in
+    let third = said_first (Some h) Bounded (OtherHolder ∷ Amount ∷ []) c texts second.mid more second.later in
+    other_said_last h texts third.mid more (omega arith) third.later
+gift_said h own [] said more long e = absurd (omega arith)
+gift_said h own (a ∷ []) said more long e = absurd (omega arith)
+gift_said h own (a ∷ b ∷ []) said more long e = absurd (omega arith)

@@ -9,7 +9,7 @@ use Rattle.script_reader.specs.declared.form.TheConstants.{MOST_COUNTED}
 use Rattle.script_reader.specs.declared.form.Word.{Word}
 use Rattle.script_reader.specs.declared.form.Word.TheVariants as word
 use Rattle.script_reader.specs.declared.form.Part.{Part}
-use Rattle.script_reader.specs.declared.form.Part.TheVariants.{Fixed, Client, Centre, Other, Third, Centres, Stable, Count, Commit, Delta, Object, Key, Name}
+use Rattle.script_reader.specs.declared.form.Part.TheVariants.{Fixed, Client, Holder, OtherHolder, Centre, Other, Third, Centres, Stable, Count, Commit, Delta, Object, Summand, Bounded, Amount, Key, Name}
 use Rattle.script_reader.specs.declared.form.Form.{Form}
 use Rattle.script_reader.specs.declared.form.Form.TheVariants as form
 use Rattle.script_reader.specs.Numbers.{is_digit}
@@ -32,6 +32,10 @@ word_text word.Del = codes "del"
 word_text word.Put = codes "put"
 word_text word.Drop = codes "drop"
 word_text word.Read = codes "read"
+word_text word.Grant = codes "grant"
+word_text word.Give = codes "give"
+word_text word.Take = codes "take"
+word_text word.Rights = codes "rights"
 word_text word.Commit = codes "commit"
 word_text word.Abort = codes "abort"
 word_text word.Push = codes "push"
@@ -65,13 +69,17 @@ parts_of form.Threads = Fixed word.Threads ∷ Count 1 MOST_THREADS ∷ []
 parts_of form.Rounds = Fixed word.Rounds ∷ Count 0 MOST_ROUNDS ∷ []
 parts_of form.Connect = Client ∷ Fixed word.Connect ∷ Centre ∷ []
 parts_of form.Begin = Client ∷ Fixed word.Begin ∷ []
-parts_of form.Inc = Client ∷ Fixed word.Inc ∷ Object ∷ Delta ∷ []
+parts_of form.Inc = Client ∷ Fixed word.Inc ∷ Summand ∷ Delta ∷ []
 parts_of form.Set = Client ∷ Fixed word.Set ∷ Object ∷ Name ∷ []
 parts_of form.Add = Client ∷ Fixed word.Add ∷ Object ∷ Name ∷ []
 parts_of form.Del = Client ∷ Fixed word.Del ∷ Object ∷ Name ∷ []
 parts_of form.Put = Client ∷ Fixed word.Put ∷ Object ∷ Key ∷ Name ∷ []
 parts_of form.Drop = Client ∷ Fixed word.Drop ∷ Object ∷ Key ∷ []
 parts_of form.Read = Client ∷ Fixed word.Read ∷ Object ∷ []
+parts_of form.Grant = Holder ∷ Fixed word.Grant ∷ Bounded ∷ Amount ∷ []
+parts_of form.Give = Holder ∷ Fixed word.Give ∷ Bounded ∷ OtherHolder ∷ Amount ∷ []
+parts_of form.Take = Holder ∷ Fixed word.Take ∷ Bounded ∷ Amount ∷ []
+parts_of form.Rights = Holder ∷ Fixed word.Rights ∷ Bounded ∷ []
 parts_of form.Commit = Client ∷ Fixed word.Commit ∷ []
 parts_of form.Abort = Client ∷ Fixed word.Abort ∷ []
 parts_of form.Push = Client ∷ Fixed word.Push ∷ []
@@ -98,7 +106,7 @@ parts_of form.End = Fixed word.End ∷ []
 
 -- all forms
 abbrev pub forms : List Form
-forms = form.Centres ∷ form.Clients ∷ form.Cache ∷ form.Limit ∷ form.Threads ∷ form.Rounds ∷ form.Connect ∷ form.Begin ∷ form.Inc ∷ form.Set ∷ form.Add ∷ form.Del ∷ form.Put ∷ form.Drop ∷ form.Read ∷ form.Commit ∷ form.Abort ∷ form.Push ∷ form.Flush ∷ form.Refresh ∷ form.Again ∷ form.LoseAsk ∷ form.LoseReply ∷ form.AskTwice ∷ form.Down ∷ form.Up ∷ form.ShipOne ∷ form.Ship ∷ form.Relay ∷ form.Tell ∷ form.Prune ∷ form.LinkDrop ∷ form.LinkTwice ∷ form.LinkHold ∷ form.LinkClean ∷ form.Settle ∷ form.Phase ∷ form.End ∷ []
+forms = form.Centres ∷ form.Clients ∷ form.Cache ∷ form.Limit ∷ form.Threads ∷ form.Rounds ∷ form.Connect ∷ form.Begin ∷ form.Inc ∷ form.Set ∷ form.Add ∷ form.Del ∷ form.Put ∷ form.Drop ∷ form.Read ∷ form.Grant ∷ form.Give ∷ form.Take ∷ form.Rights ∷ form.Commit ∷ form.Abort ∷ form.Push ∷ form.Flush ∷ form.Refresh ∷ form.Again ∷ form.LoseAsk ∷ form.LoseReply ∷ form.AskTwice ∷ form.Down ∷ form.Up ∷ form.ShipOne ∷ form.Ship ∷ form.Relay ∷ form.Tell ∷ form.Prune ∷ form.LinkDrop ∷ form.LinkTwice ∷ form.LinkHold ∷ form.LinkClean ∷ form.Settle ∷ form.Phase ∷ form.End ∷ []
 
 -- a `c` and digits
 abbrev pub is_client_word : List ℕ → Bool
@@ -108,6 +116,7 @@ is_client_word text = slice_index text 0 == 99 && (nat_lt 1 (length text) && lis
 abbrev pub may_be : Part → List ℕ → Bool
 may_be (Fixed own) text = bytes_eq text (word_text own)
 may_be Client text = is_client_word text
+may_be Holder text = is_client_word text
 may_be _ text = true
 
 -- the fixed words stand in their places, as far as there are words

@@ -2,6 +2,7 @@ pub mod Causes
 pub mod Words
 pub mod Numbers
 pub mod Names
+pub mod Shares
 pub mod Forms
 pub mod Fits
 pub mod Said

@@ -10,7 +10,7 @@ use Rattle.script_core.specs.declared.limits.TheConstants.{MAX_LINE, MAX_LINES}
 use Rattle.script_core.specs.declared.script.Header.{Header}
 use Rattle.script_core.specs.declared.steps.AskFault.TheVariants as fault
 use Rattle.script_core.specs.declared.steps.ClientStep.{ClientStep}
-use Rattle.script_core.specs.declared.steps.ClientStep.TheVariants.{Connect, Begin, Change, Read, Commit, Abort, Push, Flush, Refresh, Again, Arm}
+use Rattle.script_core.specs.declared.steps.ClientStep.TheVariants.{Connect, Begin, Change, Read, Grant, Give, Take, Rights, Commit, Abort, Push, Flush, Refresh, Again, Arm}
 use Rattle.script_core.specs.declared.steps.OperatorStep.{OperatorStep}
 use Rattle.script_core.specs.declared.steps.OperatorStep.TheVariants.{Down, Up, ShipOne, Ship, Relay, Tell, Prune, Link, Settle}
 use Rattle.script_core.specs.declared.steps.Step.TheVariants.{Client, Operator}
@@ -33,6 +33,10 @@ client_row said step = row.Does (Client said.client step)
 abbrev pub change_row : Said → ChangeOf → Row
 change_row said made = client_row said (Change said.object made)
 
+-- an addition to the object that is named for it
+abbrev pub inc_row : Said → Row
+inc_row said = client_row said (Change said.summand (change.Inc said.delta))
+
 -- a step of the operator
 abbrev pub operator_row : OperatorStep → Row
 operator_row step = row.Does (Operator step)
@@ -51,13 +55,17 @@ row_of form.Threads said = row.Threads said.count
 row_of form.Rounds said = row.Rounds said.count
 row_of form.Connect said = client_row said (Connect said.centre)
 row_of form.Begin said = client_row said Begin
-row_of form.Inc said = change_row said (change.Inc said.delta)
+row_of form.Inc said = inc_row said
 row_of form.Set said = change_row said (change.Write said.word)
 row_of form.Add said = change_row said (change.Add said.word)
 row_of form.Del said = change_row said (change.Remove said.word)
 row_of form.Put said = change_row said (change.Put said.key said.word)
 row_of form.Drop said = change_row said (change.Erase said.key)
 row_of form.Read said = client_row said (Read said.object)
+row_of form.Grant said = client_row said (Grant said.share said.amount)
+row_of form.Give said = client_row said (Give said.share said.to said.amount)
+row_of form.Take said = client_row said (Take said.share said.amount)
+row_of form.Rights said = client_row said (Rights said.share)
 row_of form.Commit said = client_row said Commit
 row_of form.Abort said = client_row said Abort
 row_of form.Push said = client_row said Push

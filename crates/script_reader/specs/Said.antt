@@ -1,21 +1,26 @@
 -- What the words of a line say, and why one is refused.
 use Rattle.std.specs.Prelude.{◌==◌, ◌||◌, ℕ, pos, List, [], ◌∷◌, drop, Option, Some, None, Result, Ok, Err, codes, if◌then◌else◌}
-use Rattle.ids_core.specs.declared.limits.TheConstants.{MOST_CENTRES, MOST_NUMBER}
+use Rattle.ids_core.specs.declared.limits.TheConstants.{MOST_CENTRES, MOST_DELTA, MOST_NUMBER}
 use Rattle.ids_core.specs.declared.object.ObjectId.{ObjectId}
 use Rattle.ids_core.specs.declared.object.Sort.TheVariants.{Counter}
+use Rattle.script_core.specs.Steps.{holders_of}
 use Rattle.script_core.specs.declared.script.Header.{Header}
+use Rattle.script_core.specs.declared.steps.Share.{Share}
 use Rattle.script_reader.specs.declared.fault.Cause.{Cause}
 use Rattle.script_reader.specs.declared.fault.Cause.TheVariants as cause
 use Rattle.script_reader.specs.declared.form.Part.{Part}
-use Rattle.script_reader.specs.declared.form.Part.TheVariants.{Fixed, Client, Centre, Other, Third, Centres, Stable, Count, Commit, Delta, Object, Key, Name}
+use Rattle.script_reader.specs.declared.form.Part.TheVariants.{Fixed, Client, Holder, OtherHolder, Centre, Other, Third, Centres, Stable, Count, Commit, Delta, Object, Summand, Bounded, Amount, Key, Name}
 use Rattle.script_reader.specs.declared.said.Said.{Said}
 use Rattle.script_reader.specs.Numbers.{number_in, delta_in, is_number}
 use Rattle.script_reader.specs.Names.{is_name, object_named}
+use Rattle.script_reader.specs.Shares.{bounded_in, summand_in}
 
 -- what stands in place of what no word says
 abbrev pub unsaid : Said
 unsaid = record {
   client = 1;
+  share = record { name = codes "a"; holder = 1; holders = 1 };
+  to = 0;
   centre = 1;
   other = 0;
   third = 0;
@@ -23,8 +28,10 @@ unsaid = record {
   k = 1;
   count = 1;
   number = 1;
+  amount = 1;
   delta = pos 0;
   object = record { sort = Counter; name = codes "a" };
+  summand = record { sort = Counter; name = codes "a" };
   key = codes "a";
   word = codes "a";
 }
@@ -48,6 +55,19 @@ abbrev pub with_object : (ObjectId → Said) → Option ObjectId → Result Said
 with_object put (Some object) = Ok (put object)
 with_object put None = Err cause.Name
 
+-- a client that is one of so many holders
+abbrev pub with_holder : Said → ℕ → ℕ → Said
+with_holder said holders holder = record said { client = holder; share = record said.share { holder = holder; holders = holders } }
+
+-- a bounded counter
+abbrev pub with_counter : Said → List ℕ → Said
+with_counter said name = record said { share = record said.share { name = name } }
+
+-- another holder than the one before
+abbrev pub to_said : Said → Result ℕ Cause → Result Said Cause
+to_said said (Ok to) = if to == said.share.holder then Err cause.Range else Ok (record said { to = to })
+to_said said (Err why) = Err why
+
 -- another centre than the one before
 abbrev pub other_said : Said → Result ℕ Cause → Result Said Cause
 other_said said (Ok centre) = if centre == said.centre then Err cause.Range else Ok (record said { other = centre })
@@ -62,6 +82,8 @@ third_said said (Err why) = Err why
 unfoldable pub said_word : Option Header → Part → List ℕ → Said → Result Said Cause
 said_word header (Fixed own) text said = Ok said
 said_word header Client text said = unless_early said header (drop 1 text) (λ h. with_said (λ client. record said { client = client }) (number_in 1 h.clients (drop 1 text)))
+said_word header Holder text said = unless_early said header (drop 1 text) (λ h. with_said (with_holder said (holders_of h.clients)) (number_in 1 (holders_of h.clients) (drop 1 text)))
+said_word header OtherHolder text said = unless_early said header text (λ h. to_said said (number_in 1 said.share.holders text))
 said_word header Centre text said = unless_early said header text (λ h. with_said (λ centre. record said { centre = centre }) (number_in 1 h.n text))
 said_word header Other text said = unless_early said header text (λ h. other_said said (number_in 1 h.n text))
 said_word header Third text said = unless_early said header text (λ h. third_said said (number_in 1 h.n text))
@@ -71,6 +93,9 @@ said_word header (Count least most) text said = with_said (λ count. record said
 said_word header Commit text said = with_said (λ number. record said { number = number }) (number_in 1 MOST_NUMBER text)
 said_word header Delta text said = with_said (λ delta. record said { delta = delta }) (delta_in text)
 said_word header Object text said = with_object (λ object. record said { object = object }) (object_named text)
+said_word header Summand text said = with_said (λ object. record said { summand = object }) (summand_in text)
+said_word header Bounded text said = with_said (with_counter said) (bounded_in text)
+said_word header Amount text said = with_said (λ amount. record said { amount = amount }) (number_in 1 MOST_DELTA text)
 said_word header Key text said = with_name (λ key. record said { key = key }) text
 said_word header Name text said = with_name (λ word. record said { word = word }) text
 

@@ -32,7 +32,7 @@ pub fn may_be(part: Part, text: &[u8]) -> bool
 {
     match part {
         Part::Fixed(own) => text == spelled(own),
-        Part::Client => is_client_word(text),
+        Part::Client | Part::Holder => is_client_word(text),
         _ => true,
     }
 }

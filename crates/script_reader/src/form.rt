@@ -27,6 +27,10 @@ pub enum Word {
     Put,
     Drop,
     Read,
+    Grant,
+    Give,
+    Take,
+    Rights,
     Commit,
     Abort,
     Push,
@@ -58,6 +62,10 @@ pub enum Part {
     Fixed(Word),
     /// A `c`, and the number of a client.
     Client,
+    /// A `c`, and the number of a client that is a holder of bounded counters.
+    Holder,
+    /// The number of another holder than the one before.
+    OtherHolder,
     /// The number of a centre.
     Centre,
     /// The number of another centre than the one before.
@@ -76,6 +84,12 @@ pub enum Part {
     Delta,
     /// An object.
     Object,
+    /// An object to which may be added: no counter that may be a cell of a bounded one.
+    Summand,
+    /// A bounded counter.
+    Bounded,
+    /// An amount, from 1 to 10^12.
+    Amount,
     /// A key, which is a name.
     Key,
     /// A word that is written, added or put, which is a name.
@@ -100,6 +114,10 @@ pub enum Form {
     Put,
     Drop,
     Read,
+    Grant,
+    Give,
+    Take,
+    Rights,
     Commit,
     Abort,
     Push,
@@ -126,7 +144,7 @@ pub enum Form {
 }
 
 /// All forms.
-pub const FORMS: [Form; 38] = [
+pub const FORMS: [Form; 42] = [
     Form::Centres,
     Form::Clients,
     Form::Cache,
@@ -142,6 +160,10 @@ pub const FORMS: [Form; 38] = [
     Form::Put,
     Form::Drop,
     Form::Read,
+    Form::Grant,
+    Form::Give,
+    Form::Take,
+    Form::Rights,
     Form::Commit,
     Form::Abort,
     Form::Push,
@@ -188,6 +210,10 @@ pub fn spelled(word: Word) -> &'static [u8]
         Word::Put => b"put",
         Word::Drop => b"drop",
         Word::Read => b"read",
+        Word::Grant => b"grant",
+        Word::Give => b"give",
+        Word::Take => b"take",
+        Word::Rights => b"rights",
         Word::Commit => b"commit",
         Word::Abort => b"abort",
         Word::Push => b"push",
@@ -264,7 +290,7 @@ pub fn parts(form: Form) -> &'static [Part]
         Form::Inc => &[
             Part::Client,
             Part::Fixed(Word::Inc),
-            Part::Object,
+            Part::Summand,
             Part::Delta,
         ],
         Form::Set => &[
@@ -299,6 +325,26 @@ pub fn parts(form: Form) -> &'static [Part]
             Part::Key,
         ],
         Form::Read => &[Part::Client, Part::Fixed(Word::Read), Part::Object],
+        Form::Grant => &[
+            Part::Holder,
+            Part::Fixed(Word::Grant),
+            Part::Bounded,
+            Part::Amount,
+        ],
+        Form::Give => &[
+            Part::Holder,
+            Part::Fixed(Word::Give),
+            Part::Bounded,
+            Part::OtherHolder,
+            Part::Amount,
+        ],
+        Form::Take => &[
+            Part::Holder,
+            Part::Fixed(Word::Take),
+            Part::Bounded,
+            Part::Amount,
+        ],
+        Form::Rights => &[Part::Holder, Part::Fixed(Word::Rights), Part::Bounded],
         Form::Commit => &[Part::Client, Part::Fixed(Word::Commit)],
         Form::Abort => &[Part::Client, Part::Fixed(Word::Abort)],
         Form::Push => &[Part::Client, Part::Fixed(Word::Push)],

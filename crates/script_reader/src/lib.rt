@@ -13,6 +13,7 @@ mod reading;
 mod row;
 mod said;
 mod scripts;
+mod shares;
 mod words;
 
 pub use fault::{Cause, ScriptFault};
@@ -25,4 +26,5 @@ pub use numbers::{are_digits, u8_in};
 pub use reading::{Group, LineFault, Reading};
 pub use said::{Said, said_word};
 pub use scripts::parse;
+pub use shares::holders_of;
 pub use words::{is_blank, is_plain, without_return};

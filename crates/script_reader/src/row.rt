@@ -1,6 +1,6 @@
 // What a line says that is not skipped.
 ghost use Rattle.std.specs.Prelude.{◌≡◌};
-ghost use Rattle.script_reader.specs.Rows.{change_row, client_row, is_of_its_kind, is_of_kind, link_row, operator_row, row_in, row_in_text, row_in_words, row_of};
+ghost use Rattle.script_reader.specs.Rows.{change_row, client_row, inc_row, is_of_its_kind, is_of_kind, link_row, operator_row, row_in, row_in_text, row_in_words, row_of};
 ghost use Rattle.script_reader.specs.Words.{words_of};
 
 use crate::fault::Cause;
@@ -57,6 +57,19 @@ fn change_row(said: &Said, change: Change) -> Row
     )
 }
 
+// An addition to the object that is named for it.
+fn inc_row(said: &Said) -> Row
+    ensures { result ≡ inc_row said.now }
+{
+    client_row(
+        said,
+        ClientStep::Change {
+            object: said.summand,
+            change: Change::Inc { delta: said.delta },
+        },
+    )
+}
+
 // A step of the operator.
 fn operator_row(step: OperatorStep) -> Row
     ensures { result ≡ operator_row step }
@@ -97,7 +110,7 @@ pub fn row_of(form: Form, said: &Said) -> Row
             },
         ),
         Form::Begin => client_row(said, ClientStep::Begin),
-        Form::Inc => change_row(said, Change::Inc { delta: said.delta }),
+        Form::Inc => inc_row(said),
         Form::Set => change_row(said, Change::Write { word: said.word }),
         Form::Add => change_row(said, Change::Add { word: said.word }),
         Form::Del => change_row(said, Change::Remove { word: said.word }),
@@ -115,6 +128,29 @@ pub fn row_of(form: Form, said: &Said) -> Row
                 object: said.object,
             },
         ),
+        Form::Grant => client_row(
+            said,
+            ClientStep::Grant {
+                share: said.share,
+                amount: said.amount,
+            },
+        ),
+        Form::Give => client_row(
+            said,
+            ClientStep::Give {
+                share: said.share,
+                to: said.to,
+                amount: said.amount,
+            },
+        ),
+        Form::Take => client_row(
+            said,
+            ClientStep::Take {
+                share: said.share,
+                amount: said.amount,
+            },
+        ),
+        Form::Rights => client_row(said, ClientStep::Rights { share: said.share }),
         Form::Commit => client_row(said, ClientStep::Commit),
         Form::Abort => client_row(said, ClientStep::Abort),
         Form::Push => client_row(said, ClientStep::Push),

@@ -1,21 +1,25 @@
 // What the words of a line say.
 ghost use Rattle.std.specs.Prelude.{◌≡◌, drop, codes, if◌then◌else◌};
+ghost use Rattle.obj_bounded.specs.CellNames.{counter_of};
 ghost use Rattle.script_reader.specs.Numbers.{is_number};
-ghost use Rattle.script_reader.specs.Said.{said_word, said_words, unsaid};
+ghost use Rattle.script_reader.specs.Said.{said_word, said_words, unsaid, with_counter, with_holder};
 ghost use Rattle.script_reader.specs.Words.{words_of};
 
 use crate::fault::Cause;
 use crate::form::Part;
 use crate::names::{name_said, object_named};
 use crate::numbers::{delta_in, is_number, number_in, u8_in, u32_in};
+use crate::shares::{bounded_in, holders_of, summand_in};
 use crate::words::first_word;
-use ids_core::{MOST_CENTRES, MOST_NUMBER, Name, ObjectId, Sort};
-use script_core::Header;
+use ids_core::{MOST_CENTRES, MOST_DELTA, MOST_NUMBER, Name, ObjectId, Sort};
+use script_core::{Header, Share};
 
 /// What the words of a line say, each in its place. What no word says stands as it does before a line.
 #[derive(Clone, Copy)]
 pub struct Said {
     pub client: u32,
+    pub share: Share,
+    pub to: u8,
     pub centre: u8,
     pub other: u8,
     pub third: u8,
@@ -23,8 +27,10 @@ pub struct Said {
     pub k: u8,
     pub count: u32,
     pub number: u64,
+    pub amount: u64,
     pub delta: i64,
     pub object: ObjectId,
+    pub summand: ObjectId,
     pub key: Name,
     pub word: Name,
 }
@@ -37,6 +43,12 @@ impl Said {
         let name = a_name();
         Said {
             client: 1,
+            share: Share {
+                name,
+                holder: 1,
+                holders: 1,
+            },
+            to: 0,
             centre: 1,
             other: 0,
             third: 0,
@@ -44,11 +56,10 @@ impl Said {
             k: 1,
             count: 1,
             number: 1,
+            amount: 1,
             delta: 0,
-            object: ObjectId {
-                sort: Sort::Counter,
-                name,
-            },
+            object: a_counter(),
+            summand: a_counter(),
             key: name,
             word: name,
         }
@@ -62,6 +73,16 @@ fn a_name() -> Name
     match Name::read(b"a") {
         Ok(name) => name,
         Err(_) => unreachable!(),
+    }
+}
+
+// A counter.
+fn a_counter() -> ObjectId
+    ensures { result ≡ counter_of (codes "a") }
+{
+    ObjectId {
+        sort: Sort::Counter,
+        name: a_name(),
     }
 }
 
@@ -84,6 +105,8 @@ pub fn said_word(header: Option<Header>, part: Part, text: &[u8], said: Said) ->
     match part {
         Part::Fixed(_) => Ok(said),
         Part::Client => client_said(header, text, said),
+        Part::Holder => holder_said(header, text, said),
+        Part::OtherHolder => to_said(header, text, said),
         Part::Centre => centre_said(header, text, said),
         Part::Other => other_said(header, text, said),
         Part::Third => third_said(header, text, said),
@@ -111,6 +134,18 @@ pub fn said_word(header: Option<Header>, part: Part, text: &[u8], said: Said) ->
             Some(object) => Ok(Said { object, ..said }),
             None => Err(Cause::Name),
         },
+        Part::Summand => match summand_in(text) {
+            Ok(summand) => Ok(Said { summand, ..said }),
+            Err(why) => Err(why),
+        },
+        Part::Bounded => match bounded_in(text) {
+            Ok(name) => Ok(with_counter(name, said)),
+            Err(why) => Err(why),
+        },
+        Part::Amount => match number_in(1, MOST_DELTA, text) {
+            Ok(amount) => Ok(Said { amount, ..said }),
+            Err(why) => Err(why),
+        },
         Part::Key => match name_said(text) {
             Ok(key) => Ok(Said { key, ..said }),
             Err(why) => Err(why),
@@ -135,6 +170,67 @@ fn client_said(header: Option<Header>, text: &[u8], said: Said) -> Result<Said, 
         },
         None => early(said, digits),
     }
+}
+
+// The client whose number stands behind the first letter, as a holder of bounded counters.
+#[tactic(auto, unfolding(crate::specs::Said::said_word))]
+fn holder_said(header: Option<Header>, text: &[u8], said: Said) -> Result<Said, Cause>
+    ensures { result ≡ said_word header Part.Holder text.now said }
+{
+    let number = behind_first(text);
+    match header {
+        Some(header) => {
+            let holders = holders_of(header.clients);
+            match u8_in(holders, number) {
+                Ok(holder) => Ok(with_holder(holders, holder, said)),
+                Err(why) => Err(why),
+            }
+        }
+        None => early(said, number),
+    }
+}
+
+// What is said with a client that is one of so many holders.
+fn with_holder(holders: u8, holder: u8, said: Said) -> Said
+    ensures { result ≡ with_holder said holders holder }
+{
+    Said {
+        client: u32::from(holder),
+        share: Share {
+            holder,
+            holders,
+            ..said.share
+        },
+        ..said
+    }
+}
+
+// The holder of a number, which is another one than the client.
+#[tactic(auto, unfolding(crate::specs::Said::said_word))]
+fn to_said(header: Option<Header>, text: &[u8], said: Said) -> Result<Said, Cause>
+    ensures { result ≡ said_word header Part.OtherHolder text.now said }
+{
+    match header {
+        Some(_) => match u8_in(said.share.holders, text) {
+            Ok(to) => {
+                if to == said.share.holder {
+                    Err(Cause::Range)
+                } else {
+                    Ok(Said { to, ..said })
+                }
+            }
+            Err(why) => Err(why),
+        },
+        None => early(said, text),
+    }
+}
+
+// What is said with a bounded counter.
+fn with_counter(name: Name, said: Said) -> Said
+    ensures { result ≡ with_counter said name }
+{
+    let share = Share { name, ..said.share };
+    Said { share, ..said }
 }
 
 // What stands behind the first byte.

@@ -1,6 +1,6 @@
 -- The asks of a client's step go to centres that there are, and so does the link of each client.
-use Rattle.std.proofs.Common.{◌≡◌, ℕ, ◌≤◌, Bool, true, false, cond, List, [], ◌∷◌, ◌++◌, take, Option, Some, None, refl, sym, subst}
-use Rattle.std.specs.Prelude.{All}
+use Rattle.std.proofs.Common.{◌≡◌, ℕ, ℤ, pos, ◌≤◌, Bool, true, false, cond, List, [], ◌∷◌, ◌++◌, take, Option, Some, None, refl, sym, subst}
+use Rattle.std.specs.Prelude.{All, int_lt}
 use Rattle.std.proofs.lemmas.List.Sums.{fold_push}
 use Rattle.std.proofs.lemmas.List.Elements.{All-nil, All-cons, All-append, All-head, All-tail}
 use Rattle.list_core.proofs.Moments.{by_steps}
@@ -21,20 +21,24 @@ use Rattle.dc_talk.specs.declared.log.Deed.TheVariants.{Did, Asked}
 use Rattle.dc_talk.specs.declared.log.Fate.{Fate}
 use Rattle.dc_talk.specs.declared.log.Fate.TheVariants.{Heard, Unheard}
 use Rattle.dc_talk.specs.declared.log.Note.{Note}
+use Rattle.dc_talk.specs.declared.line.StepWord.{StepWord}
+use Rattle.dc_talk.specs.declared.line.StepWord.TheVariants as step
 use Rattle.dc_talk.specs.declared.line.Line.{Line}
 use Rattle.dc_talk.specs.declared.line.Line.TheVariants as line
 use Rattle.dc_talk.specs.Clients.{Client, new_client}
 use Rattle.dc_talk.specs.Calls.{outcome_of, did}
 use Rattle.dc_talk.specs.Rule.{after, heard, takes, taken, sent_through, next_commit, hello_of, refresh_of, fetch_of, client_after}
 use Rattle.script_core.specs.declared.object_call.ObjectCall.{ObjectCall}
+use Rattle.script_core.specs.declared.steps.Share.{Share}
 use Rattle.script_core.specs.declared.steps.AskFault.{AskFault}
 use Rattle.script_core.specs.declared.steps.AskFault.TheVariants.{LoseAsk, LoseReply, Twice}
 use Rattle.script_core.specs.declared.steps.ClientStep.{ClientStep}
-use Rattle.script_core.specs.declared.steps.ClientStep.TheVariants.{Connect, Begin, Change, Read, Commit, Abort, Push, Flush, Refresh, Again, Arm}
+use Rattle.script_core.specs.declared.steps.ClientStep.TheVariants.{Connect, Begin, Change, Read, Grant, Give, Take, Rights, Commit, Abort, Push, Flush, Refresh, Again, Arm}
 use Rattle.script_core.specs.Steps.{IsStep}
-use Rattle.script_core.specs.Deeds.{Progress, StepDeeds, Asks, OrTells, OverNext, Pushes, PushesOn, FetchDeeds, CallDeeds, FlushDeeds, flush_ends, flush_goes, RefreshDeeds, AgainDeeds, after_all, after_fetch, calls, call_line, change_call, read_call, commit_sent, copies, fate_of, fetch_line, goes_on, hello_line, push_line, pushed, refresh_line, again_line, told, took}
+use Rattle.script_core.specs.Deeds.{Progress, StepDeeds, Asks, OrTells, OverNext, Pushes, PushesOn, FetchDeeds, CallDeeds, FlushDeeds, flush_ends, flush_goes, RefreshDeeds, AgainDeeds, CellsDeeds, AddsOwned, TakingDeeds, TellsRights, RightsDeeds, after_all, after_fetch, calls, calls_on, call_line, cell_inc, cell_read, cell_to, change_call, counter_of_share, line_on, read_call, rights_got, share_cells, commit_sent, copies, fate_of, fetch_line, goes_on, hello_line, push_line, pushed, refresh_line, again_line, told, took}
 use Rattle.run_book.specs.Setups.{Setup}
 use Rattle.run_book.specs.Happenings.{Happened, notes_by, GoesToOneOf, IsLinkWithin, AreTogether}
+use Rattle.run_book.proofs.CellReads.{cells_hold}
 use Rattle.run_book.proofs.Happenings.Places.{noted}
 
 -- ---- the link
@@ -129,16 +133,19 @@ module _ (n : ℕ) where
   calls_go : (s : Client) (call : Call) → AllGo (calls s call)
   calls_go s call = one_go (Did call (outcome_of s call)) (told (call_line s.client call (outcome_of s call))) tt (told_go (call_line s.client call (outcome_of s call)))
 
+  calls_on_go : (s : Client) (c : ObjectCall) → AllGo (calls_on s c)
+  calls_on_go s c = one_go (Did c.call (outcome_of s c.call)) (told (line_on s.client c (outcome_of s c.call))) tt (told_go (line_on s.client c (outcome_of s c.call)))
+
   fetch_go : (p : Progress) (c : ObjectCall) (deeds : List Deed) → IsLinkWithin n p.client.link → FetchDeeds p c deeds → AllGo deeds
   fetch_go p c deeds within fetch =
-      link_go p.client (line.Unconnected p.client.client c.word c.object) (λ link. Asks p.armed link.centre (fetch_of p.client c.object) (after_fetch p.client link.centre c)) deeds within
+      link_go p.client (line.Unconnected p.client.client c.word c.shown) (λ link. Asks p.armed link.centre (fetch_of p.client c.object) (after_fetch p.client link.centre c)) deeds within
       (λ link range asks. asks_go p.armed link.centre (fetch_of p.client c.object) (after_fetch p.client link.centre c) deeds range (λ fate.
       either_go (took p.client link.centre (fetch_of p.client c.object) fate) _ _
-      (calls_go (after p.client (Asked link.centre (fetch_of p.client c.object) fate)) c.call) (told_go (fetch_line p.client.client c fate))) asks) fetch
+      (calls_on_go (after p.client (Asked link.centre (fetch_of p.client c.object) fate)) c) (told_go (fetch_line p.client.client c fate))) asks) fetch
 
   call_go : (p : Progress) (c : ObjectCall) (out : Outcome) (deeds : List Deed) → IsLinkWithin n p.client.link → CallDeeds p c out deeds → AllGo deeds
   call_go p c (Refused (NeedsFetch o)) deeds within r = subst AllGo (sym r.whole) (one_go (Did c.call (outcome_of p.client c.call)) r.rest tt (fetch_go p c r.rest within r.fetch))
-  call_go p c _ deeds within are = subst AllGo (sym are) (calls_go p.client c.call)
+  call_go p c _ deeds within are = subst AllGo (sym are) (calls_on_go p.client c)
 
   pushes_go : (p : Progress) (deeds : List Deed) (link : Connection) (tx : Tx) → (1 ≤ link.centre) × (link.centre ≤ n) → Pushes p link tx deeds → AllGo deeds
   pushes_go p deeds link tx range push = asks_go p.armed link.centre (CommitAsk tx) (λ fate. told (push_line p.client.client tx.dot.number fate)) deeds range (λ fate. told_go (push_line p.client.client tx.dot.number fate)) push
@@ -165,6 +172,30 @@ module _ (n : ℕ) where
       let here : AllGo first = push_on_go p first within on in
       subst AllGo (sym parts) (All-append (GoesToOneOf n) first later here (flush_go (pushed p first) later (all_within p.client first here within) rest))
 
+  -- ---- bounded counters
+
+  -- reads of the cells of a share, and what follows them over a link that is still within
+  cells_go : (word : StepWord) (share : Share) (Follows : List ℤ → Progress → List Deed → Type 0) (p : Progress) (deeds : List Deed) → ((numbers : List ℤ) (q : Progress) (later : List Deed) → IsLinkWithin n q.client.link → Follows numbers q later → AllGo later) → IsLinkWithin n p.client.link → CellsDeeds word share Follows (share_cells share) [] p deeds → AllGo deeds
+  cells_go word share Follows p deeds each within reads =
+      cells_hold (λ q. IsLinkWithin n q.client.link) AllGo (All-nil (GoesToOneOf n)) (All-append (GoesToOneOf n)) word share Follows each (share_cells share)
+      (λ cell q first i link are.
+      let here : AllGo first = call_go q (cell_read word share cell) (outcome_of q.client (ReadCall cell)) first link are in
+      (here, all_within q.client first here link)) [] p deeds within reads
+
+  -- a step that takes an amount, or gives it
+  taking_go : (p : Progress) (word : StepWord) (share : Share) (to amount : ℕ) (deeds : List Deed) → IsLinkWithin n p.client.link → TakingDeeds p word share to amount deeds → AllGo deeds
+  taking_go p word share to amount deeds within taking =
+      cells_go word share (AddsOwned word share to amount) p deeds (λ numbers q later link adds. subst AllGo (sym adds)
+      (either_go (int_lt (rights_got share numbers) (pos amount)) _ _
+      (told_go (Some (line.Short q.client.client word (counter_of_share share) (rights_got share numbers))))
+      (calls_on_go q.client (cell_inc word share (cell_to share to) amount)))) within taking
+
+  -- a step that tells the rights
+  rights_go : (p : Progress) (share : Share) (deeds : List Deed) → IsLinkWithin n p.client.link → RightsDeeds p share deeds → AllGo deeds
+  rights_go p share deeds within rights =
+      cells_go step.Rights share (TellsRights share) p deeds (λ numbers q later link tells. subst AllGo (sym tells)
+      (told_go (Some (line.RightsValue q.client.client (counter_of_share share) (rights_got share numbers))))) within rights
+
   -- ---- a step
 
   again_go : (client centre number : ℕ) (tx : Tx) (deeds : List Deed) → (1 ≤ centre) × (centre ≤ n) → AgainDeeds client centre number tx deeds → AllGo deeds
@@ -176,6 +207,10 @@ module _ (n : ℕ) where
   step_go p Begin deeds is within are = subst AllGo (sym are) (calls_go p.client BeginCall)
   step_go p (Change o change) deeds is within are = call_go p (change_call o change) (outcome_of p.client (ChangeCall o change)) deeds within are
   step_go p (Read o) deeds is within are = call_go p (read_call o) (outcome_of p.client (ReadCall o)) deeds within are
+  step_go p (Grant share amount) deeds is within are = subst AllGo (sym are) (calls_on_go p.client (cell_inc step.Grant share (cell_to share share.holder) amount))
+  step_go p (Give share to amount) deeds is within taking = taking_go p step.Give share to amount deeds within taking
+  step_go p (Take share amount) deeds is within taking = taking_go p step.Take share 0 amount deeds within taking
+  step_go p (Rights share) deeds is within rights = rights_go p share deeds within rights
   step_go p Commit deeds is within are = subst AllGo (sym are) (calls_go p.client CommitCall)
   step_go p Abort deeds is within are = subst AllGo (sym are) (calls_go p.client AbortCall)
   step_go p Push deeds is within push = next_go p.client (line.PushNone p.client.client) (Pushes p) deeds within (λ link tx range push. pushes_go p deeds link tx range push) push

@@ -1,5 +1,4 @@
 use Rattle.std.proofs.Common.{◌++◌, ◌∷◌, [], cond, sym, ap, ◌∙◌}
-use Rattle.std.specs.Prelude.{is_some}
 use Rattle.run_book.specs.Graphs.{basis}
 use Rattle.run_book.specs.ReadBases.{in_order}
 use Rattle.run_book.proofs.ReadBases.{stamped_basis}
@@ -11,4 +10,4 @@ returns-in_ok-push c = λ setup s fit shows wide lists.
     let told = c.args.bases.now.items in
     c.in_ok-push.ensures.items
     ∙ ap (λ dots. told ++ dots ∷ []) (c.in_ok-ordered_basis.ensures ∙ ap in_order (stamped_basis b setup c.args.stamped.now c.args.replay.now s fit shows wide lists))
-    ∙ ap (λ some. told ++ cond some (in_order (basis b s) ∷ []) []) (sym c.if-is_some.true ∙ c.is_some.ensures ∙ ap is_some c.object_of.ensures)
+    ∙ ap (λ tells. told ++ cond tells (in_order (basis b s) ∷ []) []) (sym c.if-tells_value.true ∙ c.tells_value.ensures)
