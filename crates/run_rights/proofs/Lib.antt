@@ -1,5 +1,14 @@
 pub mod RightsRead
 pub mod Guarding
+pub mod FrontReads
 pub mod Steps
 pub mod Spared
+pub mod RightsLines
+pub mod ObjectCalls
+pub mod HolderCells
 pub mod CellReads
+pub mod ShareReads
+pub mod PlainSteps
+pub mod ScriptSteps
+pub mod ToldRights
+pub mod HeldRights

@@ -2,36 +2,33 @@
 use Rattle.std.proofs.Common.{◌≡◌, ℕ, zero, suc, ◌+◌, ◌-◌, ◌≤◌, ◌<◌, inl, inr, ⊎_elim, true, List, ◌∷◌, ◌++◌, length, Some, sym, ap, ◌∙◌, subst, arith}
 use Rattle.std.specs.Prelude.{slice_get, All, pos, ◌≤ℤ◌}
 use Rattle.std.proofs.lemmas.Bool.{cases_lt}
-use Rattle.std.proofs.lemmas.Option.{same_Some, slice_get_within}
+use Rattle.std.proofs.lemmas.Option.{same_Some}
 use Rattle.list_core.specs.Members.{In}
 use Rattle.list_core.proofs.Members.{In_left, In_right}
-use Rattle.list_core.proofs.Gets.{all_get, In_get, get_in_front}
+use Rattle.list_core.proofs.Gets.{all_get}
 use Rattle.ids_core.specs.declared.object.ObjectId.{ObjectId}
 use Rattle.ids_core.specs.Ids.{same_object}
-use Rattle.tx_core.specs.declared.state.Value.TheVariants.{Number as NumberValue}
 use Rattle.dc_talk.specs.declared.calls.Change.{Change}
 use Rattle.dc_talk.specs.declared.calls.Change.TheVariants.{Inc}
-use Rattle.dc_talk.specs.declared.calls.Call.TheVariants.{Change as ChangeCall, Read}
-use Rattle.dc_talk.specs.declared.calls.Outcome.TheVariants.{Fine, Got}
+use Rattle.dc_talk.specs.declared.calls.Call.TheVariants.{Change as ChangeCall}
+use Rattle.dc_talk.specs.declared.calls.Outcome.TheVariants.{Fine}
 use Rattle.dc_talk.specs.declared.log.Deed.{Deed}
 use Rattle.dc_talk.specs.declared.log.Deed.TheVariants.{Did}
-use Rattle.dc_talk.specs.declared.log.Note.{Note}
 use Rattle.run_book.specs.declared.book.Book.{Book}
 use Rattle.run_book.specs.Setups.{Setup}
 use Rattle.run_book.specs.Parts.{notes_of, IsClient}
+use Rattle.run_book.specs.Fit.{FitsWith}
 use Rattle.run_sections.specs.Orders.{deeds_of}
 use Rattle.run_steps.specs.Quiet.{IsQuiet}
 use Rattle.run_steps.proofs.Places.{get_behind, get_front_of, get_deed, InStep, in_step}
 use Rattle.graph_rights.specs.Rights.{amount_of, rights_by}
-use Rattle.graph_rights.proofs.Images.{get_unmap}
-use Rattle.run_rights.specs.Takings.{IsCellOf, ReadsNumber, HasEnough, Changes, ChecksTakings}
+use Rattle.run_rights.specs.Takings.{IsCellOf, HasReadCells, HasEnough, Changes, ChecksTakings}
 use Rattle.run_rights.specs.Steps.{ChangesNone, AddsOnce, TakesRights, StepIs, GoesBySteps}
+use Rattle.run_rights.proofs.FrontReads.{has_read}
+use Rattle.run_rights.proofs.RightsRead.{rights_fit}
+use Rattle.run_rights.proofs.Spared.{change_loud}
 
 -- ---- the one change of a step
-
--- a change is not quiet
-change_loud : (deed : Deed) (o : ObjectId) (change : Change) → deed ≡ Did (ChangeCall o change) Fine → IsQuiet deed → ⊥
-change_loud deed o change is quiet = subst IsQuiet is quiet
 
 record IsTheChange (deeds : List Deed) (adds : AddsOnce deeds) (k : ℕ) (o : ObjectId) (change : Change) : Type 0 where
   place : k ≡ length adds.first
@@ -63,7 +60,7 @@ the_change deeds adds k deed o change at is = ⊎_elim early (λ ge. late (k - l
 
 -- ---- the log of a client
 
-module _ (b : Book) (setup : Setup) (owner : ℕ) (gains losses : List ObjectId) (goes : GoesBySteps b setup owner gains losses) where
+module _ (b : Book) (setup : Setup) (fit : FitsWith b setup) (owner : ℕ) (gains losses : List ObjectId) (few : length gains + length losses ≤ 16) (goes : GoesBySteps b setup owner gains losses) where
   abbrev Step : ℕ → List Deed → Type 0
   Step a = StepIs (a - 1) owner gains losses
 
@@ -100,7 +97,7 @@ module _ (b : Book) (setup : Setup) (owner : ℕ) (gains losses : List ObjectId)
       go s (inr (inr takes)) = (s, takes)
 
   checked : (a p : ℕ) (change : Change) → IsClient setup a → Changes b a p losses change → HasEnough b a p gains losses (amount_of change)
-  checked a p change client c = record { value = takes.value; has_read = record { first = length s.before; few = omega (arith, s.upto); quiet = quiet; reads = reads }; enough = subst (λ change. amount_of change ≤ℤ rights_by gains losses takes.value) (sym the.change_is) takes.enough }
+  checked a p change client c = record { value = takes.value; has_read = read; enough = subst (λ change. amount_of change ≤ℤ rights_by gains losses takes.value) (sym the.change_is) enough }
     where
       found : (s : InStep (Step a) (notes_of b a) p c.note) × TakesRights (a - 1) owner gains losses (deeds_of s.mine)
       found = taking a p change client c
@@ -117,29 +114,11 @@ module _ (b : Book) (setup : Setup) (owner : ℕ) (gains losses : List ObjectId)
       rest : List Deed
       rest = Did (ChangeCall takes.adds.o (Inc takes.adds.delta)) takes.adds.outcome ∷ takes.adds.last
 
-      -- a note of the step stands in the log
-      in_log : (j : ℕ) (note : Note) → slice_get s.mine j ≡ Some note → slice_get (notes_of b a) (length s.before + j) ≡ Some note
-      in_log j note at = ap (λ l. slice_get l (length s.before + j)) s.whole ∙ (get_behind s.before (s.mine ++ s.later) j ∙ get_in_front s.mine s.later j note at)
+      read : HasReadCells b a p gains losses takes.value
+      read = has_read b a p c.note (Step a) s takes.adds.first rest takes.adds.whole the.place gains losses takes.value takes.adds.quiet takes.reads
 
-      quiet : (q : ℕ) (note : Note) → length s.before ≤ q → q < p → slice_get (notes_of b a) q ≡ Some note → IsQuiet note.deed
-      quiet q note low high at =
-          let j : ℕ = q - length s.before in
-          let e : length s.before + j ≡ q = omega (arith, low) in
-          let less : j < s.place = omega (arith, e, high, s.upto) in
-          let end = slice_get_within s.mine s.place c.note s.there in
-          let here : slice_get (s.mine ++ s.later) j ≡ Some note = sym (get_behind s.before (s.mine ++ s.later) j) ∙ (ap (λ l. slice_get l (length s.before + j)) (sym s.whole) ∙ (ap (slice_get (notes_of b a)) e ∙ at)) in
-          let mine = get_deed s.mine j note (get_front_of s.mine s.later j note (omega (arith, less, end)) here) in
-          let split : slice_get (takes.adds.first ++ rest) j ≡ Some note.deed = subst (λ l. slice_get l j ≡ Some note.deed) takes.adds.whole mine in
-          all_get IsQuiet takes.adds.first j note.deed takes.adds.quiet (get_front_of takes.adds.first rest j note.deed (omega (arith, less, the.place)) split)
-
-      reads : (o : ObjectId) → IsCellOf gains losses o → ReadsNumber b a (length s.before) p o (takes.value o)
-      reads o among =
-          let deed : Deed = Did (Read o) (Got (NumberValue (takes.value o))) in
-          let g = In_get takes.adds.first deed (takes.reads o among) in
-          let within = slice_get_within takes.adds.first g.0 deed g.1 in
-          let all : slice_get (deeds_of s.mine) g.0 ≡ Some deed = subst (λ l. slice_get l g.0 ≡ Some deed) (sym takes.adds.whole) (get_in_front takes.adds.first rest g.0 deed g.1) in
-          let n = get_unmap (λ (note : Note). note.deed) s.mine g.0 deed all in
-          record { at = length s.before + g.0; late = omega arith; early = omega (arith, within, the.place, s.upto); note = n.0; there = in_log g.0 n.0 n.1; deed_is = n.2 }
+      enough : takes.adds.delta ≤ℤ rights_by gains losses takes.value
+      enough = subst (λ z. takes.adds.delta ≤ℤ z) (rights_fit b setup fit gains losses goes.counters a p takes.value client read few) takes.enough
 
   -- so the log checks what it takes
   pub checks_takings : ChecksTakings b setup owner gains losses

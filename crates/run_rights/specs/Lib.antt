@@ -1,3 +1,3 @@
 pub mod Takings
 pub mod Steps
-pub mod CellReads
+pub mod Holders

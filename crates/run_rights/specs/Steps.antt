@@ -1,5 +1,6 @@
 -- Steps of a client by what their deeds are to the cells of a holder, and logs that are such steps one after another.
 use Rattle.std.specs.Prelude.{◌≡◌, ◌⊎◌, ◌-◌, ℕ, ℤ, pos, ◌≤ℤ◌, true, All, List, ◌∷◌, ◌++◌}
+use Rattle.std.specs.Int.{w128, int_wrap}
 use Rattle.list_core.specs.Members.{In}
 use Rattle.ids_core.specs.declared.object.ObjectId.{ObjectId}
 use Rattle.ids_core.specs.Ids.{same_object}
@@ -12,7 +13,8 @@ use Rattle.dc_talk.specs.declared.calls.Outcome.TheVariants.{Fine, Got}
 use Rattle.dc_talk.specs.declared.log.Deed.{Deed}
 use Rattle.dc_talk.specs.declared.log.Deed.TheVariants.{Did}
 use Rattle.script_core.specs.declared.steps.ClientStep.{ClientStep}
-use Rattle.script_core.specs.declared.steps.ClientStep.TheVariants.{Change as ChangeStep}
+use Rattle.script_core.specs.declared.steps.ClientStep.TheVariants.{Change as ChangeStep, Grant, Give, Take}
+use Rattle.script_core.specs.Deeds.{cell_to}
 use Rattle.run_book.specs.declared.book.Book.{Book}
 use Rattle.run_book.specs.Setups.{Setup}
 use Rattle.run_book.specs.Parts.{notes_of, IsClient}
@@ -27,9 +29,16 @@ use Rattle.run_rights.specs.Takings.{IsCellOf, AreCounters}
 abbrev pub ChangesNone : List ObjectId → Deed → Type 0
 ChangesNone cells deed = (o cell : ObjectId) (change : Change) → deed ≡ Did (ChangeCall o change) Fine → In cell cells → same_object o cell ≡ true → ⊥
 
+-- an object that is none of these cells
+abbrev pub IsNoneOf : List ObjectId → ObjectId → Type 0
+IsNoneOf cells o = (cell : ObjectId) → In cell cells → same_object o cell ≡ true → ⊥
+
 -- a step of a script that changes none of these cells
 abbrev pub Spares : List ObjectId → ClientStep → Type 0
-Spares cells (ChangeStep o change) = (cell : ObjectId) → In cell cells → same_object o cell ≡ true → ⊥
+Spares cells (ChangeStep o change) = IsNoneOf cells o
+Spares cells (Grant share amount) = IsNoneOf cells (cell_to share share.holder)
+Spares cells (Give share to amount) = IsNoneOf cells (cell_to share to)
+Spares cells (Take share amount) = IsNoneOf cells (cell_to share 0)
 Spares cells _ = Unit {0}
 
 -- deeds of which one is a change that adds no less than 0 to a counter, and the others are quiet
@@ -47,15 +56,16 @@ pub record AddsOnce (deeds : List Deed) : Type 0 where
 -- a grant, or what another holder gives: it hits no cell that counts against the holder
 pub record Pays (losses : List ObjectId) (deeds : List Deed) : Type 0 where
   pub adds : AddsOnce deeds
-  pub other : (cell : ObjectId) → In cell losses → same_object adds.o cell ≡ true → ⊥
+  pub other : IsNoneOf losses adds.o
 
--- a taking, or a giving away, of the holder's client: all cells are read before it, and by what was read there is as much
+-- a taking, or a giving away, of the holder's client: all cells are read before it, and by what was read there is as much,
+-- in a sum that wraps at the ends of 128 bits
 pub record TakesRights (client owner : ℕ) (gains losses : List ObjectId) (deeds : List Deed) : Type 0 where
   pub mine : client ≡ owner
   pub adds : AddsOnce deeds
   pub value : ObjectId → ℤ
   pub reads : (o : ObjectId) → IsCellOf gains losses o → In (Did (Read o) (Got (NumberValue (value o)))) adds.first
-  pub enough : adds.delta ≤ℤ rights_by gains losses value
+  pub enough : adds.delta ≤ℤ int_wrap w128 (rights_by gains losses value)
 
 -- what a step of a client may be to a holder's cells
 abbrev pub StepIs : ℕ → ℕ → List ObjectId → List ObjectId → List Deed → Type 0
