@@ -11,6 +11,8 @@ NOT_REFUSED, BAD_EDIT = "NOT-REFUSED", "BAD-EDIT"
 # The goals that the search did not prove, in the verdict on a function that has no file with answers.
 SEARCHED = re.compile(r"expected answers in .*?; `search` did not prove (.*)")
 REFUSALS = (FALSE_GOAL, OPEN_GOAL, WRITTEN_PROOF, LOST_NAME)
+# Those where only what is written of the proof refused the body.
+BY_WRITING = (WRITTEN_PROOF, LOST_NAME)
 
 
 class Result(NamedTuple):
@@ -28,7 +30,7 @@ class Result(NamedTuple):
     @property
     def is_by_writing(self):
         """Whether only what is written of the proof refused the body."""
-        return self.kind in (WRITTEN_PROOF, LOST_NAME)
+        return self.kind in BY_WRITING
 
 
 def verdicts_on(function, said):
