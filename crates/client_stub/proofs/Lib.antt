@@ -6,3 +6,6 @@ pub mod Stepping
 pub mod LateCopies
 pub mod Flushes
 pub mod Operating
+pub mod ShareCells
+pub mod CellReads
+pub mod BoundedSteps

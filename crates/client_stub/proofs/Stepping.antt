@@ -22,7 +22,7 @@ use Rattle.script_core.specs.declared.steps.AskFault.{AskFault}
 use Rattle.script_core.specs.declared.steps.AskFault.TheVariants.{LoseAsk, LoseReply, Twice}
 use Rattle.script_core.specs.declared.steps.ClientStep.{ClientStep}
 use Rattle.script_core.specs.declared.steps.ClientStep.TheVariants.{Arm, Connect, Push, Refresh}
-use Rattle.script_core.specs.Deeds.{Asks, OrTells, OverNext, Pushes, FetchDeeds, RefreshDeeds, StepDeeds, after_all, after_fetch, armed_after, calls, copies, fate_of, told, took}
+use Rattle.script_core.specs.Deeds.{Asks, OrTells, OverNext, Pushes, FetchDeeds, RefreshDeeds, StepDeeds, after_all, after_fetch, armed_after, calls_on, copies, fate_of, told, took}
 use Rattle.client_stub.specs.declared.purpose.Purpose.{Purpose}
 use Rattle.client_stub.specs.declared.purpose.Purpose.TheVariants as purpose
 use Rattle.client_stub.specs.declared.purpose.Errand.{Errand}
@@ -161,7 +161,7 @@ silent : (s : Client) (i : ℕ) (c : ObjectCall) (fate : Fate) → took s i (fet
 silent s i c fate t = rw t refl
 
 -- what follows it is the call
-fetched : (s : Client) (i : ℕ) (c : ObjectCall) (fate : Fate) → took s i (fetch_of s c.object) fate ≡ true → calls (after s (Asked i (fetch_of s c.object) fate)) c.call ≡ after_fetch s i c fate
+fetched : (s : Client) (i : ℕ) (c : ObjectCall) (fate : Fate) → took s i (fetch_of s c.object) fate ≡ true → calls_on (after s (Asked i (fetch_of s c.object) fate)) c ≡ after_fetch s i c fate
 fetched s i c fate t = rw t refl
 
 -- a second copy changes no client
@@ -173,7 +173,7 @@ after_copies s None i ask say = refl
 
 -- deeds over the link
 over_link : (p : Playing) (c : ObjectCall) (link : Connection) (ds : List Deed) → p.client.link ≡ Some link → Asks p.armed link.centre (fetch_of p.client c.object) (after_fetch p.client link.centre c) ds → FetchDeeds (progress p) c ds
-over_link p c link ds linked asks = over_some p.client.link link (line.Unconnected p.client.client c.word c.object) (λ link. Asks p.armed link.centre (fetch_of p.client c.object) (after_fetch p.client link.centre c)) ds linked asks
+over_link p c link ds linked asks = over_some p.client.link link (line.Unconnected p.client.client c.word c.shown) (λ link. Asks p.armed link.centre (fetch_of p.client c.object) (after_fetch p.client link.centre c)) ds linked asks
 
 -- the errand of a fetch
 at_link : (p q : Playing) (c : ObjectCall) (i : ℕ) (ask : Ask) (more : Bool) (a : FetchAsks p.client c.object i ask) → Runs (errand (purpose.Fetch c) i ask) p q more → Runs (errand (purpose.Fetch c) a.link.centre (fetch_of p.client c.object)) p q more
@@ -198,7 +198,7 @@ behind_fetch : (s : Client) (armed : Option AskFault) (i : ℕ) (c : ObjectCall)
 behind_fetch s armed i c say again ds t whole = whole ∙ ap (λ (l : Option Line). Asked i (fetch_of s c.object) (fate_of armed say) ∷ (copies armed i (fetch_of s c.object) again ++ told l)) (silent s i c (fate_of armed say) t)
 
 -- a fetch that gave a state, with the call behind it
-pub fetch_called : (p q r : Playing) (c : ObjectCall) (i : ℕ) (ask : Ask) (more needs : Bool) → fetch_ask p.client c.object ≡ Ok (i, ask) → more ≡ true → Runs (errand (purpose.Fetch c) i ask) p q more → MakesCall c.call q r needs → GrowsBy (FetchDeeds (progress p) c) p r
+pub fetch_called : (p q r : Playing) (c : ObjectCall) (i : ℕ) (ask : Ask) (more needs : Bool) → fetch_ask p.client c.object ≡ Ok (i, ask) → more ≡ true → Runs (errand (purpose.Fetch c) i ask) p q more → MakesCall c q r needs → GrowsBy (FetchDeeds (progress p) c) p r
 fetch_called p q r c i ask more needs asked state runs calling =
     let s = p.client in
     let a = fetch_asks s c.object i ask asked in
@@ -210,8 +210,8 @@ fetch_called p q r c i ask more needs asked state runs calling =
     let t : took s centre ask fate ≡ true = sym run.goes ∙ state in
     let whole : run.deeds ≡ Asked centre ask fate ∷ (cs ++ []) = behind_fetch s p.armed centre c run.asks.say run.asks.again run.deeds t run.asks.whole in
     let heard : q.client ≡ after s (Asked centre ask fate) = run.grows.client ∙ (ap (after_all s) whole ∙ after_copies (after s (Asked centre ask fate)) p.armed centre ask run.asks.again) in
-    let later : List Deed = calls (after s (Asked centre ask fate)) c.call in
-    let more : Grows q r later = subst (λ s. Grows q r (calls s c.call)) heard calling.grows in
+    let later : List Deed = calls_on (after s (Asked centre ask fate)) c in
+    let more : Grows q r later = subst (λ s. Grows q r (calls_on s c)) heard calling.grows in
     let all : run.deeds ++ later ≡ Asked centre ask fate ∷ (cs ++ later) = ap (λ ds. ds ++ later) whole ∙ ap (λ ds. Asked centre ask fate ∷ (ds ++ later)) (append-nil cs) in
     record {
       deeds = run.deeds ++ later;
@@ -225,7 +225,7 @@ fetch_called p q r c i ask more needs asked state runs calling =
     }
 
 -- a fetch without a link
-pub fetch_unlinked : (p : Playing) (later : Logged) (c : ObjectCall) (client : ℕ) (r : Refusal) → fetch_ask p.client c.object ≡ Err r → client ≡ p.client.client → later ≡ noted_all p.log (told (Some (line.Unconnected client c.word c.object))) → GrowsBy (FetchDeeds (progress p) c) p (record p { log = later })
+pub fetch_unlinked : (p : Playing) (later : Logged) (c : ObjectCall) (client : ℕ) (r : Refusal) → fetch_ask p.client c.object ≡ Err r → client ≡ p.client.client → later ≡ noted_all p.log (told (Some (line.Unconnected client c.word c.shown))) → GrowsBy (FetchDeeds (progress p) c) p (record p { log = later })
 fetch_unlinked p later c client r asked same is =
-    grows_line (FetchDeeds (progress p) c) p later (line.Unconnected client c.word c.object) (line.Unconnected p.client.client c.word c.object) is (ap (λ n. line.Unconnected n c.word c.object) same)
-    (over_none p.client.link (line.Unconnected p.client.client c.word c.object) (λ link. Asks p.armed link.centre (fetch_of p.client c.object) (after_fetch p.client link.centre c)) (fetch_refused p.client c.object r asked))
+    grows_line (FetchDeeds (progress p) c) p later (line.Unconnected client c.word c.shown) (line.Unconnected p.client.client c.word c.shown) is (ap (λ n. line.Unconnected n c.word c.shown) same)
+    (over_none p.client.link (line.Unconnected p.client.client c.word c.shown) (λ link. Asks p.armed link.centre (fetch_of p.client c.object) (after_fetch p.client link.centre c)) (fetch_refused p.client c.object r asked))

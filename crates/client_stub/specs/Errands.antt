@@ -4,7 +4,6 @@ use Rattle.std.specs.List.{list_any}
 use Rattle.dc_talk.specs.declared.ask.Ask.{Ask}
 use Rattle.dc_talk.specs.declared.ask.Ask.TheVariants.{Commit}
 use Rattle.dc_talk.specs.declared.say.Say.{Say}
-use Rattle.dc_talk.specs.declared.calls.Call.{Call}
 use Rattle.dc_talk.specs.declared.calls.Connection.{Connection}
 use Rattle.dc_talk.specs.declared.calls.Refusal.TheVariants.{NeedsFetch}
 use Rattle.dc_talk.specs.declared.calls.Outcome.{Outcome}
@@ -17,9 +16,10 @@ use Rattle.dc_talk.specs.declared.log.Deed.TheVariants.{Asked}
 use Rattle.dc_talk.specs.Clients.{Client}
 use Rattle.dc_talk.specs.Calls.{outcome_of}
 use Rattle.dc_talk.specs.Doors.{DoorView}
+use Rattle.script_core.specs.declared.object_call.ObjectCall.{ObjectCall}
 use Rattle.script_core.specs.declared.steps.AskFault.{AskFault}
 use Rattle.script_core.specs.declared.steps.AskFault.TheVariants.{Twice}
-use Rattle.script_core.specs.Deeds.{Asks, FlushEnds, PushesOn, calls, fate_of, is_ask, told, took}
+use Rattle.script_core.specs.Deeds.{Asks, FlushEnds, PushesOn, calls_on, fate_of, is_ask, told, took}
 use Rattle.client_stub.specs.declared.purpose.Errand.{Errand}
 use Rattle.dc_talk.specs.Acting.{Acting, Leaves}
 use Rattle.client_stub.specs.Playing.{Playing, Grows, progress}
@@ -43,11 +43,11 @@ abbrev pub needs_fetch : Outcome → Bool
 needs_fetch (Refused (NeedsFetch o)) = true
 needs_fetch _ = false
 
--- a call with its line, and whether it has to have its object fetched
-pub record MakesCall (call : Call) (old new : Playing) (needs : Bool) : Type 0 where
-  pub grows : Grows old new (calls old.client call)
+-- a call on an object with its line, and whether it has to have the object fetched
+pub record MakesCall (c : ObjectCall) (old new : Playing) (needs : Bool) : Type 0 where
+  pub grows : Grows old new (calls_on old.client c)
   pub armed : new.armed ≡ old.armed
-  pub needed : needs ≡ needs_fetch (outcome_of old.client call)
+  pub needed : needs ≡ needs_fetch (outcome_of old.client c.call)
 
 -- ---- asks
 

@@ -1,3 +1,4 @@
 pub mod Purposes
 pub mod Playing
 pub mod Errands
+pub mod BoundedSteps

@@ -63,12 +63,12 @@ impl Stub {
                     ask,
                 };
                 if self.send(door, errand, log)? {
-                    self.call(alloc, &on.call, log)?;
+                    self.call(alloc, on, log)?;
                 }
                 Ok(())
             }
             Err(_) => {
-                let (word, object) = (on.word, on.object);
+                let (word, object) = (on.word, on.shown);
                 let line = Line::Unconnected {
                     client,
                     word,

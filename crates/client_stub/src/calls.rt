@@ -7,34 +7,32 @@ ghost use Rattle.dc_talk.specs.Acting.{IsCutShort, acting};
 ghost use Rattle.client_stub.specs.Playing.{IsLinkBehind, beside, progress};
 ghost use Rattle.client_stub.specs.Errands.{GrowsBy, MakesCall, needs_fetch};
 
-use crate::lines::{call_line, word_of};
-use crate::notes::tell;
+use crate::lines::{call_line, line_on, word_of};
+use crate::notes::note_call;
 use crate::stub::Stub;
-use dc_talk::{Call, Change, Deed, Door, Log, Outcome, Refusal, StepWord};
+use dc_talk::{Call, Change, Door, Log, Outcome, Refusal, StepWord};
 use ids_core::{NoMemory, ObjectId};
 use script_core::ObjectCall;
 use std::alloc::Global;
 
 impl Stub {
-    // Makes a call of the session, notes how it ended, and tells its line. Answers whether it has to
-    // have its object fetched.
+    // Makes a call on an object, notes how it ended, and tells its line. Answers whether it has to have
+    // the object fetched.
     pub(crate) fn call(
         &mut self,
         alloc: Global,
-        call: &Call,
+        on: &ObjectCall,
         log: &mut Log,
     ) -> Result<bool, NoMemory>
-        ensures makes { IfOk result (λ needs. (door : DoorView) → MakesCall call.now (beside self.old door log.old) (beside self.new door log.new) needs) }
+        ensures makes { IfOk result (λ needs. (door : DoorView) → MakesCall on.now (beside self.old door log.old) (beside self.new door log.new) needs) }
         ensures linked { self.new.client.link ≡ self.old.client.link }
         ensures short { (door : DoorView) → OnErr result (IsCutShort (acting door log.old) (acting door log.new)) }
     {
         let client = self.session.client();
-        let outcome = self.session.call(alloc, call)?;
+        let outcome = self.session.call(alloc, &on.call)?;
         let needs = needs_fetch(&outcome);
-        let line = call_line(client, call, &outcome)?;
-        let call = *call;
-        log.push(Deed::Did { call, outcome })?;
-        tell(log, line)?;
+        let line = line_on(client, on, &outcome)?;
+        note_call(log, &on.call, outcome, line)?;
         Ok(needs)
     }
 
@@ -52,7 +50,10 @@ impl Stub {
         ensures linked { IsLinkBehind (D.shown door.new) self.new.client }
         ensures short { OnErr result (IsCutShort (acting (D.shown door.old) log.old) (acting (D.shown door.new) log.new)) }
     {
-        self.call(alloc, call, log)?;
+        let client = self.session.client();
+        let outcome = self.session.call(alloc, call)?;
+        let line = call_line(client, call, &outcome)?;
+        note_call(log, call, outcome, line)?;
         Ok(())
     }
 
@@ -71,7 +72,7 @@ impl Stub {
         ensures linked { IsLinkBehind (D.shown door.new) self.new.client }
         ensures short { OnErr result (IsCutShort (acting (D.shown door.old) log.old) (acting (D.shown door.new) log.new)) }
     {
-        if self.call(alloc, &on.call, log)? {
+        if self.call(alloc, on, log)? {
             self.fetch(alloc, door, on, log)?;
         }
         Ok(())
@@ -88,6 +89,7 @@ pub fn change_call(object: &ObjectId, change: &Change) -> ObjectCall
     };
     ObjectCall {
         word: word_of(change),
+        shown: *object,
         object: *object,
         call,
     }
@@ -100,6 +102,7 @@ pub fn read_call(object: &ObjectId) -> ObjectCall
     let call = Call::Read { object: *object };
     ObjectCall {
         word: StepWord::Read,
+        shown: *object,
         object: *object,
         call,
     }

@@ -3,7 +3,7 @@
 ghost use Rattle.std.specs.Prelude.{◌≡◌, IfOk};
 ghost use Rattle.dc_talk.specs.declared.calls.Call.TheVariants.{Begin as BeginCall, Change as ChangeCall, Read as ReadCall, Commit as CommitCall, Abort as AbortCall};
 ghost use Rattle.dc_talk.specs.declared.log.Fate.TheVariants.{Heard};
-ghost use Rattle.script_core.specs.Deeds.{lack, missed_by, miss_of, hello_line, word_of, call_line, fetch_line, answer_end, push_end, push_line, again_line, goes_on, refresh_line};
+ghost use Rattle.script_core.specs.Deeds.{lack, missed_by, miss_of, hello_line, word_of, call_line, is_of_rights, cell_line, line_on, fetch_line, answer_end, push_end, push_line, again_line, goes_on, refresh_line};
 
 use dc_talk::{Call, Change, Fate, Line, Miss, Outcome, PushEnd, Refusal, Say, StepWord};
 use ids_core::{NoMemory, ObjectId};
@@ -176,11 +176,52 @@ fn abort_line(client: u32, outcome: &Outcome) -> Option<Line>
     }
 }
 
+/// The line of a call on an object that ended so, where it has one. Only the value of a read takes memory.
+pub fn line_on(client: u32, on: &ObjectCall, outcome: &Outcome) -> Result<Option<Line>, NoMemory>
+    ensures { IfOk result (λ line. line ≡ line_on client on.now outcome.now) }
+{
+    if is_of_rights(on.word) {
+        Ok(cell_line(client, on, outcome))
+    } else {
+        call_line(client, &on.call, outcome)
+    }
+}
+
+// Whether the step with this word is one of a bounded counter.
+fn is_of_rights(word: StepWord) -> bool
+    ensures { result ≡ is_of_rights word }
+{
+    matches!(
+        word,
+        StepWord::Grant | StepWord::Give | StepWord::Take | StepWord::Rights
+    )
+}
+
+// The line of a call on a cell of a bounded counter: a value that was read has none.
+fn cell_line(client: u32, on: &ObjectCall, outcome: &Outcome) -> Option<Line>
+    ensures { result ≡ cell_line client on.now outcome.now }
+{
+    let (word, object) = (on.word, on.shown);
+    match outcome {
+        Outcome::Refused(Refusal::NotOpen) => Some(Line::Closed {
+            client,
+            word,
+            object,
+        }),
+        Outcome::Refused(Refusal::TooManyUpdates { .. }) => Some(Line::ManyUpdates {
+            client,
+            word,
+            object,
+        }),
+        _ => None,
+    }
+}
+
 /// The line of a fetch for a call, where it gave no state.
 pub fn fetch_line(client: u32, on: &ObjectCall, fate: &Fate) -> Option<Line>
     ensures { result ≡ fetch_line client on.now fate.now }
 {
-    let (word, object) = (on.word, on.object);
+    let (word, object) = (on.word, on.shown);
     match fate {
         Fate::Heard(say) => heard_fetch(client, on, say),
         _ => miss_of(fate).map(|miss| Line::FetchMissed {
@@ -196,7 +237,7 @@ pub fn fetch_line(client: u32, on: &ObjectCall, fate: &Fate) -> Option<Line>
 fn heard_fetch(client: u32, on: &ObjectCall, say: &Say) -> Option<Line>
     ensures { result ≡ fetch_line client on.now (Heard say.now) }
 {
-    let (word, object) = (on.word, on.object);
+    let (word, object) = (on.word, on.shown);
     match say {
         Say::Lacks { centre, need, have } => Some(Line::FetchLacks {
             client,

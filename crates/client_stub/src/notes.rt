@@ -1,9 +1,11 @@
-// The lines that are noted in a log.
-ghost use Rattle.std.specs.Prelude.{◌≡◌, OnOk, OnErr};
+// The calls and lines that are noted in a log.
+ghost use Rattle.std.specs.Prelude.{◌≡◌, ◌∷◌, OnOk, OnErr};
+ghost use Rattle.dc_talk.specs.declared.log.Deed.TheVariants.{Did};
+ghost use Rattle.dc_talk.specs.Acting.{IsCutShort, acting, noted_all};
+ghost use Rattle.dc_talk.specs.Doors.{DoorView};
 ghost use Rattle.script_core.specs.Deeds.{told};
-ghost use Rattle.dc_talk.specs.Acting.{noted_all};
 
-use dc_talk::{Deed, Line, Log};
+use dc_talk::{Call, Deed, Line, Log, Outcome};
 use ids_core::NoMemory;
 
 // Tells a line, where there is one. Nothing changes where memory is refused.
@@ -15,4 +17,20 @@ pub(crate) fn tell(log: &mut Log, line: Option<Line>) -> Result<(), NoMemory>
         Some(line) => log.push(Deed::Told(line)),
         None => Ok(()),
     }
+}
+
+// Notes a call of the session with how it ended, and tells its line, where it has one.
+pub(crate) fn note_call(
+    log: &mut Log,
+    call: &Call,
+    outcome: Outcome,
+    line: Option<Line>,
+) -> Result<(), NoMemory>
+    ensures ok { OnOk result (log.new ≡ noted_all log.old (Did call.now outcome ∷ told line)) }
+    ensures short { (door : DoorView) → OnErr result (IsCutShort (acting door log.old) (acting door log.new)) }
+{
+    let call = *call;
+    log.push(Deed::Did { call, outcome })?;
+    tell(log, line)?;
+    Ok(())
 }

@@ -72,6 +72,12 @@ impl Stub {
                 self.call_on(alloc, door, &change_call(object, change), log)
             }
             ClientStep::Read { object } => self.call_on(alloc, door, &read_call(object), log),
+            ClientStep::Grant { share, amount } => self.grant(alloc, door, share, *amount, log),
+            ClientStep::Give { share, to, amount } => {
+                self.give(alloc, door, share, *to, *amount, log)
+            }
+            ClientStep::Take { share, amount } => self.take(alloc, door, share, *amount, log),
+            ClientStep::Rights { share } => self.tell_rights(alloc, door, share, log),
             ClientStep::Commit => self.call_alone(alloc, door, &Call::Commit, log),
             ClientStep::Abort => self.call_alone(alloc, door, &Call::Abort, log),
             ClientStep::Push => self.push(door, log),

@@ -167,7 +167,8 @@ fn tell(
 
 // An object of that kind and name.
 fn object(sort: Sort, name: &str) -> Result<ObjectId, Fail>
-    ensures { IfOk result (λ object. (object.sort ≡ sort) × IsName object.name) }
+    ensures named { IfOk result (λ object. (object.sort ≡ sort) × (object.name ≡ name.now)) }
+    ensures name { IfOk result (λ object. IsName object.name) }
 {
     let name = Name::read(name.as_bytes())?;
     let _bytes = name.as_slice();

@@ -1,9 +1,9 @@
 use Rattle.std.proofs.Common.{◌≡◌, refl, ap, ◌∙◌, subst}
 use Rattle.dc_talk.specs.Calls.{Ends}
-use Rattle.script_core.specs.Deeds.{call_line}
+use Rattle.script_core.specs.Deeds.{line_on}
 use Rattle.client_stub.specs.Playing.{StubView, beside}
 use Rattle.dc_talk.proofs.Acting.{cut_none}
-use Rattle.client_stub.proofs.Growth.{on_err, cut_noted}
+use Rattle.client_stub.proofs.Growth.{on_err}
 use Rattle.client_stub.proofs.Calling.{link_ended, makes_call}
 use Rattle.client_stub.proofs.stub.Stub.call.Goals as goal
 
@@ -13,31 +13,21 @@ returns-in_err-outcome-clause-short c = λ door. on_err _ (cut_none _ _ _ refl)
 pub returns-in_err-line-clause-short : goal.returns-in_err-line-clause-short
 returns-in_err-line-clause-short c = λ door. on_err _ (cut_none _ _ _ refl)
 
-pub returns-in_err-push-clause-linked : goal.returns-in_err-push-clause-linked
-returns-in_err-push-clause-linked c = link_ended _ _ _ _ c.in_ok-outcome.ensures.ends ∙ ap (λ (s : StubView). s.client.link) c.self.view_is
-
-pub returns-in_err-push-clause-short : goal.returns-in_err-push-clause-short
-returns-in_err-push-clause-short c = λ door. on_err _ (cut_none _ _ _ c.in_err-push.ensures.err)
-
-pub returns-in_err-tell-clause-linked : goal.returns-in_err-tell-clause-linked
-returns-in_err-tell-clause-linked c = link_ended _ _ _ _ c.in_ok-outcome.ensures.ends ∙ ap (λ (s : StubView). s.client.link) c.self.view_is
-
-pub returns-in_err-tell-clause-short : goal.returns-in_err-tell-clause-short
-returns-in_err-tell-clause-short c = λ door. on_err _ (cut_noted _ _ _ _ _ c.in_ok-push.ensures.ok c.in_err-tell.ensures.err)
+pub returns-in_err-note_call-clause-linked : goal.returns-in_err-note_call-clause-linked
+returns-in_err-note_call-clause-linked c = link_ended _ _ _ _ c.in_ok-outcome.ensures.ends ∙ ap (λ (s : StubView). s.client.link) c.self.view_is
 
 pub returns-clause-makes : goal.returns-clause-makes
 returns-clause-makes c = λ door.
     let s : StubView = c.args.self.now in
-    let call = c.args.call.now in
+    let on = c.args.on.now in
     let out = c.in_ok-outcome.outcome in
     let client : c.client-client.result ≡ s.client.client = c.client-client.ensures ∙ ap (λ (s : StubView). s.client.client) c.self.view_is in
-    let ends : Ends s.client c.call.new.self call out = subst (λ (s : StubView). Ends s.client c.call.new.self call out) c.self.view_is c.in_ok-outcome.ensures.ends in
-    makes_call (beside s door c.args.log.now) (record { client = c.call.new.self; armed = c.self.inside.armed }) call out c.push.new.self c.tell.new.log c.in_ok-line.line c.needs_fetch-needs.result ends
+    let ends : Ends s.client c.call.new.self on.call out = subst (λ (s : StubView). Ends s.client c.call.new.self on.call out) c.self.view_is c.in_ok-outcome.ensures.ends in
+    makes_call (beside s door c.args.log.now) (record { client = c.call.new.self; armed = c.self.inside.armed }) on out c.note_call.new.log c.in_ok-line.line c.needs_fetch-needs.result ends
     (ap (λ (s : StubView). s.armed) c.self.view_is)
-    c.in_ok-push.ensures.ok
-    (c.in_ok-line.ensures ∙ ap (λ n. call_line n call out) client)
+    (c.in_ok-line.ensures ∙ ap (λ n. line_on n on out) client)
     c.needs_fetch-needs.ensures
-    c.in_ok-tell.ensures.ok
+    c.in_ok-note_call.ensures.ok
 
 pub returns-clause-linked : goal.returns-clause-linked
 returns-clause-linked c = link_ended _ _ _ _ c.in_ok-outcome.ensures.ends ∙ ap (λ (s : StubView). s.client.link) c.self.view_is
