@@ -60,8 +60,8 @@ sets_in_range header form.Threads said is counted = counted
 sets_in_range header form.Rounds said is counted = counted.1
 sets_in_range header _ said is counted = tt
 
--- where a form has two centres, the second is another one; where it has three, they differ; a share is the client's own; and where
--- a form has two holders, the second is another one
+-- where a form has two centres, the second is another one, and where it has three, they differ; a share is the client's
+-- own, and where a form has two holders, the second is another one
 abbrev FitsTogether : Header → Form → Said → Type 0
 FitsTogether h form.ShipOne said = IsOther h.n said
 FitsTogether h form.Ship said = IsOther h.n said

@@ -8,11 +8,10 @@ use Rattle.ids_core.specs.Name.{IsName}
 use Rattle.ids_core.specs.declared.limits.TheConstants.{MOST_CENTRES, MOST_NUMBER, MOST_DELTA}
 use Rattle.ids_core.specs.declared.object.ObjectId.{ObjectId}
 use Rattle.ids_core.specs.declared.object.Sort.{Sort}
-use Rattle.obj_bounded.specs.declared.cell_names.TheConstants.{MOST_BOUNDED_NAME, MOST_HOLDERS}
+use Rattle.obj_bounded.specs.declared.cell_names.TheConstants.{MOST_BOUNDED_NAME}
 use Rattle.obj_bounded.specs.CellNames.{IsHolder}
 use Rattle.script_core.specs.Steps.{IsAmount, IsCount, IsDelta, IsHeader, IsOtherHolder, IsShare, IsShareOf, holders_of}
 use Rattle.script_core.specs.declared.script.Header.{Header}
-use Rattle.script_core.specs.declared.steps.Share.{Share}
 use Rattle.script_reader.specs.declared.fault.Cause.{Cause}
 use Rattle.script_reader.specs.declared.fault.Cause.TheVariants as cause
 use Rattle.script_reader.specs.declared.form.Word.{Word}
@@ -114,7 +113,7 @@ summand_within text object named = go (object_named text) refl named
 holder_client : (clients n : ℕ) → IsCount (holders_of clients) n → IsCount clients n
 holder_client clients n is = (is.0, let high = is.1 in omega arith)
 
--- and there are few of them
+-- and one of the holders, of whom there are few
 holder_within : (clients n : ℕ) → IsCount (holders_of clients) n → IsHolder (holders_of clients) n
 holder_within clients n is = record { low = is.0; high = is.1; most = omega arith }
 
@@ -164,6 +163,7 @@ other_put said more most (Ok n) within e = go (n == said.centre) refl e
     go true is bad = absurd (cc)
     go false is put = (n, (let same : record said { other = n } ≡ more = cc in sym same), within n refl, λ e. eqb-false n said.centre is (sym e))
 
+-- another holder is one of those that there are
 to_put : (said more : Said) (r : Result ℕ Cause) → ((n : ℕ) → r ≡ Ok n → IsCount said.share.holders n) → to_said said r ≡ Ok more → (n : ℕ) × (more ≡ record said { to = n }) × IsOtherHolder said.share n
 to_put said more (Err why) within e = absurd (cc)
 to_put said more (Ok n) within e = go (n == said.share.holder) refl e
@@ -266,6 +266,7 @@ said_more header Name said more says is = subst (IsSaid header) (sym says.1) (re
 a_name : IsName (97 ∷ [])
 a_name = name_from_test (97 ∷ []) refl
 
+-- the share of a holder alone
 a_share : IsShare (record { name = 97 ∷ []; holder = 1; holders = 1 })
 a_share = record { named = a_name; short = omega arith; holder = record { low = omega arith; high = omega arith; most = omega arith } }
 

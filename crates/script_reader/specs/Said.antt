@@ -5,7 +5,6 @@ use Rattle.ids_core.specs.declared.object.ObjectId.{ObjectId}
 use Rattle.ids_core.specs.declared.object.Sort.TheVariants.{Counter}
 use Rattle.script_core.specs.Steps.{holders_of}
 use Rattle.script_core.specs.declared.script.Header.{Header}
-use Rattle.script_core.specs.declared.steps.Share.{Share}
 use Rattle.script_reader.specs.declared.fault.Cause.{Cause}
 use Rattle.script_reader.specs.declared.fault.Cause.TheVariants as cause
 use Rattle.script_reader.specs.declared.form.Part.{Part}
@@ -55,11 +54,11 @@ abbrev pub with_object : (ObjectId → Said) → Option ObjectId → Result Said
 with_object put (Some object) = Ok (put object)
 with_object put None = Err cause.Name
 
--- a client that is one of so many holders
+-- what is said with a client that is one of so many holders
 abbrev pub with_holder : Said → ℕ → ℕ → Said
 with_holder said holders holder = record said { client = holder; share = record said.share { holder = holder; holders = holders } }
 
--- a bounded counter
+-- what is said with a bounded counter
 abbrev pub with_counter : Said → List ℕ → Said
 with_counter said name = record said { share = record said.share { name = name } }
 
