@@ -1,6 +1,6 @@
 use Rattle.std.proofs.Common.{◌+◌, ◌∷◌, [], sym, subst}
 use Rattle.script_core.specs.Scripts.{header_of}
-use Rattle.script_core.specs.Steps.{IsCount, IsStep, IsStepOf}
+use Rattle.script_core.specs.Steps.{IsCount, IsStep, IsStepOf, IsOwn}
 use Rattle.dc_worker.proofs.Work.{on_turn}
 use Rattle.run_book.specs.Moves.{step_move}
 use Rattle.world_core.specs.Events.{TakesStep, TakesOrder}
@@ -13,7 +13,7 @@ returns-in-Client c =
     let client = c.in-Client.client in
     let step = c.in-Client.step in
     let old = c.args.world.now in
-    let is : IsCount old.script.clients client × IsStep old.script.n step = subst (IsStepOf (header_of old.script)) c.in-Client.is c.requires.step in
+    let is : IsCount old.script.clients client × IsStep old.script.n step × IsOwn old.script.clients client step = subst (IsStepOf (header_of old.script)) c.in-Client.is c.requires.step in
     on_turn c.take.result (TakesStep (record { actor = client + 1; section = c.args.number; step = 1 }) step old c.take.new.self) (MakesMoves (step_move c.args.number c.args.step.now ∷ []) old c.take.new.self)
     (λ takes. subst (λ it. MakesMoves (step_move c.args.number it ∷ []) old c.take.new.self) (sym c.in-Client.is) (client_makes c.args.number 1 client step old c.take.new.self is.0 takes))
     c.take.ensures.takes
