@@ -1,6 +1,6 @@
 -- Two runs of a script have one text of their trails.
 use Rattle.std.proofs.Common.{◌≡◌, ℕ, zero, suc, ◌+◌, ◌-◌, List, [], ◌++◌, map, length, take, refl, sym, ap, ◌∙◌}
-use Rattle.std.specs.Prelude.{filter, flat_map, is_some, slice_get, slice_index_or}
+use Rattle.std.specs.Prelude.{filter, flat_map, slice_get, slice_index_or}
 use Rattle.std.specs.List.{range_with_len}
 use Rattle.ids_core.specs.declared.ids.Dot.{Dot}
 use Rattle.vv_core.specs.Vectors.{at, centres}
@@ -14,8 +14,7 @@ use Rattle.script_core.specs.declared.script.Script.{Script}
 use Rattle.run_book.specs.declared.book.Book.{Book}
 use Rattle.run_book.specs.Graphs.{own_dots}
 use Rattle.run_book.specs.Parts.{notes_of, trail_of}
-use Rattle.run_book.specs.ReadBases.{in_order}
-use Rattle.run_book.specs.ReadValues.{read_of}
+use Rattle.run_book.specs.ReadBases.{in_order, note_tells}
 use Rattle.run_book.specs.Setups.{Setup, setup_of}
 use Rattle.trail_text.specs.Trails.{bases_text, entries_text, trail_text}
 use Rattle.run_forks.proofs.Books.{AreRuns, same_notes, same_trails}
@@ -24,11 +23,11 @@ use Rattle.run_forks.proofs.Books.{AreRuns, same_notes, same_trails}
 abbrev basis_by : ℕ → (ℕ → List Entry) → Client → List Dot
 basis_by n trail s = flat_map (λ e. map (λ r. r.tx.dot) (take (at s.vector e) (own e (applied n (trail e))))) (centres n) ++ own_dots s.client s.own
 
--- what the reads of an actor stand on, by the trails and its notes
+-- what the reads of an actor stand on whose values its notes tell, by the trails and these notes
 abbrev bases_by : ℕ → (ℕ → List Entry) → List Note → Setup → ℕ → List (List Dot)
 bases_by n trail notes setup a =
     map (λ m. in_order (basis_by n trail (client_after n (a - 1) setup.capacity (take m notes))))
-    (filter (λ m. is_some (read_of (slice_get notes m))) (range_with_len 0 (length notes)))
+    (filter (λ m. note_tells (slice_get notes m)) (range_with_len 0 (length notes)))
 
 -- the text of the trails, by the trails and the notes
 abbrev text_by : ℕ → (ℕ → List Entry) → (ℕ → List Note) → Setup → List ℕ
