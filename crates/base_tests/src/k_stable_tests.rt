@@ -5,7 +5,7 @@ use k_stable::Told;
 use vv_core::{Stamp, Vector};
 
 // The vector of these entries.
-fn three(first: u64, second: u64, third: u64) -> Vector
+fn three(first: u32, second: u32, third: u32) -> Vector
     ensures { length result ≡ 3 }
 {
     let first = Stamp {

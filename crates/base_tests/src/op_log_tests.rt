@@ -25,7 +25,7 @@ fn record(alloc: Global, number: u64, stamp: Stamp, object: &ObjectId) -> Result
     })
 }
 
-fn stamp(centre: u8, seq: u64) -> Stamp {
+fn stamp(centre: u8, seq: u32) -> Stamp {
     Stamp { centre, seq }
 }
 

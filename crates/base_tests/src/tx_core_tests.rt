@@ -152,7 +152,7 @@ fn fault_of(
     alloc: Global,
     client: u32,
     rank: u64,
-    seq: u64,
+    seq: u32,
     deltas: &[i64],
 ) -> Result<Option<TxFault>, Fail> {
     let number = 1 << 62;

@@ -42,17 +42,18 @@ fn after_commits(alloc: Global, count: u32) -> Result<i128, Fault> {
     for number in 1..u64::from(count) + 1 {
         commit(alloc, &mut centre, add_one(alloc, number, &object)?)?;
     }
-    Ok(fetched(alloc, &mut centre, &object, u64::from(count))?)
+    Ok(fetched(alloc, &mut centre, &object, count)?)
 }
 
 // The same at a centre that applied so many records of another one.
 fn after_deliveries(alloc: Global, count: u32) -> Result<i128, Fault> {
     let object = counter(b"total")?;
     let mut centre = Centre::new(alloc, 2, 2, 1, LIMIT)?;
-    for seq in 1..u64::from(count) + 1 {
-        deliver(alloc, &mut centre, seq, add_one(alloc, seq, &object)?)?;
+    for seq in 1..=count {
+        let tx = add_one(alloc, u64::from(seq), &object)?;
+        deliver(alloc, &mut centre, seq, tx)?;
     }
-    Ok(fetched(alloc, &mut centre, &object, u64::from(count))?)
+    Ok(fetched(alloc, &mut centre, &object, count)?)
 }
 
 // The value of the counter that is fetched with each of so many transactions of a hundred clients, each of
@@ -62,8 +63,8 @@ fn after_fetches(alloc: Global, count: u32) -> Result<i128, Fault> {
     let mut centre = Centre::new(alloc, 1, 2, 1, LIMIT)?;
     let mut value = 0;
     for turn in 0..count {
-        let seq = u64::from(turn) + 1;
-        let tx = add_one(alloc, seq, &object)?;
+        let seq = turn + 1;
+        let tx = add_one(alloc, u64::from(seq), &object)?;
         commit(alloc, &mut centre, in_turn(turn, tx))?;
         value = fetched(alloc, &mut centre, &object, seq)?;
     }
@@ -86,7 +87,7 @@ fn commit(alloc: Global, centre: &mut Centre, tx: Tx) -> Result<(), NoMemory> {
 }
 
 // Has a centre apply a transaction as the record of centre 1 with this number.
-fn deliver(alloc: Global, centre: &mut Centre, seq: u64, tx: Tx) -> Result<(), NoMemory> {
+fn deliver(alloc: Global, centre: &mut Centre, seq: u32, tx: Tx) -> Result<(), NoMemory> {
     let stamp = Stamp { centre: 1, seq };
     let deps = Vector::zero(2);
     let item = SharedRecord::new(alloc, Record { stamp, deps, tx })?;
@@ -116,7 +117,7 @@ fn fetched(
     alloc: Global,
     centre: &mut Centre,
     object: &ObjectId,
-    seq: u64,
+    seq: u32,
 ) -> Result<i128, NoMemory> {
     let ask = Ask::Fetch {
         object: *object,

@@ -54,7 +54,7 @@ fn counter_of(number: u32) -> Result<ObjectId, Fault> {
 }
 
 // The vector with so many records of centre 1.
-fn at(seq: u64) -> Vector
+fn at(seq: u32) -> Vector
     ensures { length result ≡ 2 }
 {
     Vector::zero(2).raise(&Stamp { centre: 1, seq })
@@ -62,7 +62,7 @@ fn at(seq: u64) -> Vector
 
 // Puts the transaction of a number in, which is above all others.
 #[tactic(auto, using(crate::proofs::Logs::fresh, crate::proofs::Logs::below_more))]
-fn append_one(alloc: Global, log: &mut Log, number: u64, object: &ObjectId) -> Result<(), NoMemory>
+fn append_one(alloc: Global, log: &mut Log, number: u32, object: &ObjectId) -> Result<(), NoMemory>
     requires { IsBelow number log.old.items }
     ensures { OnOk result (IsBelow (number + 1) log.new.items) }
 {
@@ -71,7 +71,7 @@ fn append_one(alloc: Global, log: &mut Log, number: u64, object: &ObjectId) -> R
         seq: number,
     };
     let deps = Vector::zero(2);
-    let tx = add_one(alloc, number, object)?;
+    let tx = add_one(alloc, u64::from(number), object)?;
     log.append(&Record { stamp, deps, tx })?;
     Ok(())
 }
@@ -83,7 +83,7 @@ fn log_of(alloc: Global, objects: u32, count: u32) -> Result<Log, Fault>
     let mut log = Log::new(alloc)?;
     for number in 0..count {
         let object = counter_of(number % objects)?;
-        append_one(alloc, &mut log, u64::from(number), &object)?;
+        append_one(alloc, &mut log, number, &object)?;
     }
     Ok(log)
 }
@@ -108,7 +108,7 @@ fn aliased(alloc: Global, objects: u32, count: u32) -> Result<i128, Fault>
 {
     let mut log = log_of(alloc, objects, count)?;
     let mut found: u64 = 0;
-    for turn in 0..u64::from(count) {
+    for turn in 0..count {
         if alias(&mut log, turn)? {
             found = found.saturating_add(1);
         }
@@ -117,8 +117,11 @@ fn aliased(alloc: Global, objects: u32, count: u32) -> Result<i128, Fault>
 }
 
 // Gives the transaction of a number one stamp more; whether it is there.
-fn alias(log: &mut Log, number: u64) -> Result<bool, NoMemory> {
-    let dot = Dot { client: 1, number };
+fn alias(log: &mut Log, number: u32) -> Result<bool, NoMemory> {
+    let dot = Dot {
+        client: 1,
+        number: u64::from(number),
+    };
     let stamp = Stamp {
         centre: 2,
         seq: number,
@@ -143,11 +146,11 @@ fn asked(alloc: Global, objects: u32, count: u32) -> Result<i128, Fault>
     requires objects { objects ≢ 0 }
 {
     let log = log_of(alloc, objects, count)?;
-    Ok(i128::from(asked_for(&log, u64::from(count))))
+    Ok(i128::from(asked_for(&log, count)))
 }
 
 // The same of a log, which is asked so many times.
-fn asked_for(log: &Log, count: u64) -> u64 {
+fn asked_for(log: &Log, count: u32) -> u64 {
     let here = at(count.saturating_sub(10));
     let mut last = 0;
     for _ in 0..count {
@@ -161,7 +164,7 @@ fn taken(alloc: Global, objects: u32, count: u32) -> Result<i128, Fault>
     requires { objects ≢ 0 }
 {
     let mut log = log_of(alloc, objects, count)?;
-    Ok(i128::from(log.take_within(&at(u64::from(count / 2)))))
+    Ok(i128::from(log.take_within(&at(count / 2))))
 }
 
 // How many transactions such a log had, copied and taken out in so many parts.
@@ -171,7 +174,7 @@ fn pruned(alloc: Global, objects: u32, count: u32) -> Result<i128, Fault>
     let mut log = log_of(alloc, objects, count)?;
     let mut gone: u64 = 0;
     for part in 1..PARTS + 1 {
-        let base = at(u64::from(count) * part / PARTS);
+        let base = at((u64::from(count) * part / PARTS) as u32);
         gone = gone.saturating_add(prune(&mut log, &base)?);
     }
     Ok(i128::from(gone))

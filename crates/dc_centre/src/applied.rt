@@ -200,7 +200,7 @@ fn is_counted(counts: &Vector, stamp: &Stamp) -> bool
     if stamp.centre < 1 || counts.width() < stamp.centre {
         return false;
     }
-    1 <= stamp.seq && stamp.seq <= counts.get(stamp.centre)
+    1 <= stamp.seq && counts.has(stamp)
 }
 
 // Notes the number of a new transaction.

@@ -100,7 +100,7 @@ impl Centre {
     {
         let stamp = Stamp {
             centre: self.settings.me,
-            seq: self.stamped() + 1,
+            seq: (self.stamped() + 1) as u32,
         };
         let record = Record {
             stamp,

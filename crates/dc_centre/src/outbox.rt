@@ -81,7 +81,7 @@ impl Outbox {
     }
 
     // Lets the first so many records of the origin at a place go.
-    fn trim_at(&mut self, place: usize, count: u64)
+    fn trim_at(&mut self, place: usize, count: u32)
         requires { place < MOST_CENTRES }
         ensures rows { self.new.rows ≡ slice_set self.old.rows place (drop count (slice_index_or self.old.rows place [])) }
         ensures many { length self.old.rows ≡ MOST_CENTRES }
@@ -90,7 +90,7 @@ impl Outbox {
     }
 
     // Lets the first records of each origin go, as many as its entry rises from one vector to the other.
-    pub(crate) fn trim(&mut self, low: &[u64], high: &[u64])
+    pub(crate) fn trim(&mut self, low: &[u32], high: &[u32])
         requires low { length low.now ≤ MOST_CENTRES }
         requires high { length high.now ≡ length low.now }
         ensures { HasTrimmed (length low.now) low.now high.now self.old.rows self.new.rows }
@@ -102,7 +102,7 @@ impl Outbox {
 }
 
 // Lets the first so many go.
-fn trim(records: &mut VecDeque<Sent>, count: u64)
+fn trim(records: &mut VecDeque<Sent>, count: u32)
     ensures { records.new.items ≡ drop count records.old.items }
 {
     for _ in 0..count {

@@ -69,10 +69,11 @@ impl Centre {
     {
         let record = item.as_record();
         let have = self.applied.count(record.stamp.centre);
-        if record.stamp.seq <= have {
+        let seq = u64::from(record.stamp.seq);
+        if seq <= have {
             return Ok((Say::Old { have }, Say::Old { have }));
         }
-        if record.stamp.seq - have > 1 || record.stamp.centre == self.settings.me {
+        if seq - have > 1 || record.stamp.centre == self.settings.me {
             return Ok((Say::Gap { have }, Say::Gap { have }));
         }
         if let Some(lack) = Vector::first_lack(&self.applied.vector(), &record.deps) {

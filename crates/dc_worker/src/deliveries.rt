@@ -63,7 +63,7 @@ fn deliver_next<D: Door>(
     ensures delivers { IfOk result (λ it. HasDelivered to item it (acting (D.shown door.old) log.old) (acting (D.shown door.new) log.new)) }
     ensures short { OnErr result (IsCutShort (acting (D.shown door.old) log.old) (acting (D.shown door.new) log.new)) }
 {
-    let seq = item.item.as_record().stamp.seq;
+    let seq = u64::from(item.item.as_record().stamp.seq);
     let say = deliver(door, to, item, log)?;
     Ok((delivery_end(to, seq, &say), is_there(&say)))
 }

@@ -16,7 +16,7 @@ pub const MOST_TAGS: u64 = 4_096;
 pub const MOST_PENDING: u64 = 1_024;
 
 /// How many records a centre has at most, and so the greatest number of a stamp.
-pub const MOST_RECORDS: u64 = 1_000_000;
+pub const MOST_RECORDS: u32 = 1_000_000;
 
 /// How far a delta is from 0 at most.
 pub const MOST_DELTA: u64 = 1_000_000_000_000;

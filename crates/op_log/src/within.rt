@@ -54,7 +54,7 @@ fn note_numbers(
     numbers: &mut Numbers,
     places: &Places,
     centre: u8,
-    seq: u64,
+    seq: u32,
 ) -> Result<(), NoMemory>
     requires { HasFitNumbers places.now.keys }
     ensures { OnOk result ((n : ℕ) → is_among numbers.new.keys n ≡ (is_among numbers.old.keys n || is_numbered (filter (is_reached centre seq) places.now.keys) n)) }

@@ -411,18 +411,18 @@ pub fn write_vector(text: &mut Vec<u8>, vector: &Vector) -> Result<(), NoMemory>
     ensures { OnOk result (text.new.items ≡ text.old.items ++ vector_text vector.now) }
 {
     if let [first, rest @ ..] = vector.as_slice() {
-        write_number(text, *first)?;
+        write_number(text, u64::from(*first))?;
         write_later(text, rest)?;
     }
     Ok(())
 }
 
 // Entries behind a first one.
-fn write_later(text: &mut Vec<u8>, entries: &[u64]) -> Result<(), NoMemory>
+fn write_later(text: &mut Vec<u8>, entries: &[u32]) -> Result<(), NoMemory>
     ensures { OnOk result (text.new.items ≡ text.old.items ++ later 44 (map decimal entries.now)) }
 {
     for entry in entries {
-        write_named(text, b",", *entry)?;
+        write_named(text, b",", u64::from(*entry))?;
     }
     Ok(())
 }
@@ -444,7 +444,7 @@ fn write_stamp(text: &mut Vec<u8>, stamp: &Stamp) -> Result<(), NoMemory>
     ensures { OnOk result (text.new.items ≡ text.old.items ++ (codes "stamp " ++ stamp_text stamp.now)) }
 {
     write_named(text, b"stamp ", u64::from(stamp.centre))?;
-    write_named(text, b":", stamp.seq)
+    write_named(text, b":", u64::from(stamp.seq))
 }
 
 fn write_lack(text: &mut Vec<u8>, lack: &Lack) -> Result<(), NoMemory>

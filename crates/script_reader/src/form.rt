@@ -6,7 +6,7 @@ use ids_core::{MOST_CACHED, MOST_CLIENTS, MOST_RECORDS};
 use script_core::{MOST_ROUNDS, MOST_THREADS};
 
 /// The most transactions of a centre, the greatest number of a record, and the rarest fault of a link.
-pub const MOST_COUNTED: u32 = MOST_RECORDS as u32;
+pub const MOST_COUNTED: u32 = MOST_RECORDS;
 
 /// A word that stands in lines as it is.
 #[derive(Clone, Copy)]

@@ -71,7 +71,7 @@ fn script_with(header: Header, reading: Reading) -> Script
         k: header.k,
         clients: header.clients,
         cache: reading.cache.unwrap_or(DEFAULT_CACHE),
-        limit: reading.limit.map_or(MOST_RECORDS, u64::from),
+        limit: reading.limit.map_or(u64::from(MOST_RECORDS), u64::from),
         threads: reading.threads.unwrap_or(DEFAULT_THREADS),
         rounds: reading.rounds.unwrap_or(DEFAULT_ROUNDS),
         sections: reading.sections,

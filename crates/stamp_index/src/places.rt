@@ -16,7 +16,7 @@ use vv_core::Stamp;
 #[derive(Clone, Copy, PartialEq, Eq, PartialOrd, Ord)]
 pub struct Place {
     pub centre: u8,
-    pub seq: u64,
+    pub seq: u32,
     pub number: u64,
 }
 
@@ -53,7 +53,7 @@ pub fn lift(places: &mut Places, number: u64, stamp: &Stamp)
 }
 
 /// The places of a centre up to a number of its stamps, in their order.
-pub fn reached(places: &Places, centre: u8, seq: u64) -> Range<'_, Place>
+pub fn reached(places: &Places, centre: u8, seq: u32) -> Range<'_, Place>
     requires { HasFitNumbers places.now.keys }
     ensures { result ≡ filter (is_reached centre seq) places.now.keys }
 {
@@ -71,7 +71,7 @@ pub fn reached(places: &Places, centre: u8, seq: u64) -> Range<'_, Place>
 }
 
 /// The first of the places of a centre up to a number of its stamps.
-pub fn first_reached(places: &Places, centre: u8, seq: u64) -> Option<Place>
+pub fn first_reached(places: &Places, centre: u8, seq: u32) -> Option<Place>
     requires { HasFitNumbers places.now.keys }
     ensures some { IfSome result (λ p. In p (filter (is_reached centre seq) places.now.keys)) }
     ensures none { IfNone result (filter (is_reached centre seq) places.now.keys ≡ []) }

@@ -25,12 +25,12 @@ fn has(at: &Vector, stamp: &Stamp) -> bool
 }
 
 /// The entry of a centre, 0 where the vector has none.
-pub fn entry(vector: &Vector, centre: u8) -> u64
+pub fn entry(vector: &Vector, centre: u8) -> u32
     ensures { result ≡ at vector.now centre }
 {
     if centre < 1 || vector.width() < centre {
         0
     } else {
-        vector.get(centre)
+        vector.as_slice()[usize::from(centre - 1)]
     }
 }

@@ -47,7 +47,7 @@ fn stamps(alloc: Global, centre: &mut Centre) -> Result<bool, Fail> {
 }
 
 // The delivery of a record of centre 1 with four hops: its number, and that of its transaction.
-fn delivery(alloc: Global, seq: u64, number: u64) -> Result<Ask, Fail> {
+fn delivery(alloc: Global, seq: u32, number: u64) -> Result<Ask, Fail> {
     let item = record(alloc, seq, number)?;
     Ok(Ask::Deliver { item, hops: 4 })
 }
@@ -56,7 +56,7 @@ fn delivery(alloc: Global, seq: u64, number: u64) -> Result<Ask, Fail> {
 fn applies(
     alloc: Global,
     centre: &mut Centre,
-    seq: u64,
+    seq: u32,
     number: u64,
     want: (&str, u64, u64),
 ) -> Result<bool, Fail> {
@@ -83,14 +83,14 @@ fn a_delivery_is_an_orphan_or_does_not_fit(rt: HostRuntime) -> Result<(), Fail> 
 }
 
 // Whether records have these numbers, each with these hops.
-fn are(list: &[Sent], want: &[(u64, u8)]) -> bool {
+fn are(list: &[Sent], want: &[(u32, u8)]) -> bool {
     list.len() == want.len()
         && list.iter().zip(want).all(|(sent, want)| sent.item.as_record().stamp.seq == want.0
             && sent.hops == want.1)
 }
 
 // Whether an answer hands these records on.
-fn is_handed(say: &Say, want: &[(u64, u8)]) -> bool {
+fn is_handed(say: &Say, want: &[(u32, u8)]) -> bool {
     match say {
         Say::Records { list } => are(list.as_slice(), want),
         _ => false,
@@ -102,7 +102,7 @@ fn hands(
     alloc: Global,
     centre: &mut Centre,
     origin: u8,
-    want: &[(u64, u8)],
+    want: &[(u32, u8)],
 ) -> Result<bool, NoMemory> {
     let (after, most) = (0, 64);
     let relay = Ask::Relay {

@@ -18,9 +18,9 @@ use std::test::Fail;
 #[derive(Clone, Copy)]
 enum Answer {
     // It has so many records of centre 1 and none of centre 2.
-    Has(u64),
+    Has(u32),
     // The record of centre 1 with this number, alone, with three hops.
-    Sent(u64),
+    Sent(u32),
     Orphan,
     Applied,
     Misfit,
@@ -96,7 +96,7 @@ fn number_of(centre: u8, ask: &Ask) -> (u8, u64, u64) {
             after,
             most,
         } => (centre, *after, u64::from(*most)),
-        Ask::Deliver { item, hops: 3 } => (centre, item.as_record().stamp.seq, 3),
+        Ask::Deliver { item, hops: 3 } => (centre, u64::from(item.as_record().stamp.seq), 3),
         _ => (0, 0, 0),
     }
 }

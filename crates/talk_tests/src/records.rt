@@ -15,20 +15,20 @@ pub fn tx_of(alloc: Global, number: u64) -> Result<Tx, Fail> {
 }
 
 /// The record of centre 1 with this number, by such a transaction.
-pub fn record(alloc: Global, seq: u64, number: u64) -> Result<SharedRecord, Fail> {
+pub fn record(alloc: Global, seq: u32, number: u64) -> Result<SharedRecord, Fail> {
     let tx = tx_of(alloc, number)?;
     let (stamp, deps) = (Stamp { centre: 1, seq }, pair(0, 0));
     Ok(SharedRecord::new(alloc, Record { stamp, deps, tx })?)
 }
 
 /// The record of centre 1 with this number and with so many hops, by the transaction with its number.
-pub fn sent_one(alloc: Global, seq: u64, hops: u8) -> Result<Sent, Fail> {
-    let item = record(alloc, seq, seq)?;
+pub fn sent_one(alloc: Global, seq: u32, hops: u8) -> Result<Sent, Fail> {
+    let item = record(alloc, seq, u64::from(seq))?;
     Ok(Sent { item, hops })
 }
 
 /// An answer with the records of centre 1 from one number to another, with so many hops.
-pub fn sent(alloc: Global, first: u64, last: u64, hops: u8) -> Result<Say, Fail> {
+pub fn sent(alloc: Global, first: u32, last: u32, hops: u8) -> Result<Say, Fail> {
     let mut list = Records::new(alloc);
     for seq in first..=last {
         list.push(sent_one(alloc, seq, hops)?)?;

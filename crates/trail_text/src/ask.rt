@@ -25,7 +25,7 @@ pub fn write_ask(text: &mut Vec<u8>, ask: &Ask) -> Result<(), NoMemory>
         Ask::Deliver { item, hops: _ } => {
             let stamp = item.as_record().stamp;
             write_named(text, b"deliver ", u64::from(stamp.centre))?;
-            write_named(text, b":", stamp.seq)
+            write_named(text, b":", u64::from(stamp.seq))
         }
         Ask::Relay {
             origin,

@@ -83,7 +83,7 @@ fn write_stamped(text: &mut Vec<u8>, stamp: Stamp) -> Result<(), NoMemory>
     ensures { OnOk result (text.new.items ≡ text.old.items ++ (codes "stamped " ++ stamp_text stamp)) }
 {
     write_named(text, b"stamped ", u64::from(stamp.centre))?;
-    write_named(text, b":", stamp.seq)
+    write_named(text, b":", u64::from(stamp.seq))
 }
 
 // Whether a record's transaction was new.

@@ -105,7 +105,7 @@ fn snap_fault(snap: &Vector) -> Option<TxFault>
 }
 
 // The first place with an entry above `MOST_RECORDS`.
-fn high_place(entries: &[u64]) -> Option<usize>
+fn high_place(entries: &[u32]) -> Option<usize>
     ensures place { result ≡ position (nat_lt MOST_RECORDS) entries.now }
     ensures inside { IfSome result (λ place. place < length entries.now) }
 {

@@ -7,7 +7,7 @@ use crate::vector::Vector;
 use ids_core::MOST_CENTRES;
 
 /// Whether no entry that is needed is greater than the one that is there.
-pub fn covers_entries(have: &[u64], need: &[u64]) -> bool
+pub fn covers_entries(have: &[u32], need: &[u32]) -> bool
     requires { length have.now ≡ length need.now }
     ensures { IsTrue result ↔ ((i : ℕ) → slice_index need.now i ≤ slice_index have.now i) }
 {
@@ -15,7 +15,7 @@ pub fn covers_entries(have: &[u64], need: &[u64]) -> bool
 }
 
 /// Writes the greater of each two entries.
-pub fn join_entries(into: &mut [u64], left: &[u64], right: &[u64])
+pub fn join_entries(into: &mut [u32], left: &[u32], right: &[u32])
     requires left { length into.old ≡ length left.now }
     requires right { length into.old ≡ length right.now }
     ensures { into.new ≡ join_of left.now right.now }
@@ -26,7 +26,7 @@ pub fn join_entries(into: &mut [u64], left: &[u64], right: &[u64])
 }
 
 /// Writes the least of each two entries.
-pub fn meet_entries(into: &mut [u64], left: &[u64], right: &[u64])
+pub fn meet_entries(into: &mut [u32], left: &[u32], right: &[u32])
     requires left { length into.old ≡ length left.now }
     requires right { length into.old ≡ length right.now }
     ensures { into.new ≡ meet_of left.now right.now }
@@ -37,7 +37,7 @@ pub fn meet_entries(into: &mut [u64], left: &[u64], right: &[u64])
 }
 
 /// Makes the entry of the stamp's centre at least its number.
-pub fn raise_entry(into: &mut [u64], stamp: &Stamp)
+pub fn raise_entry(into: &mut [u32], stamp: &Stamp)
     requires { (1 ≤ stamp.now.centre) × (stamp.now.centre ≤ length into.old) }
     ensures { into.new ≡ raised into.old stamp.now }
 {
@@ -46,7 +46,7 @@ pub fn raise_entry(into: &mut [u64], stamp: &Stamp)
 }
 
 /// Writes at each centre the greatest number that at least k rows reach.
-pub fn kth_entries(into: &mut [u64], rows: &[Vector], k: usize)
+pub fn kth_entries(into: &mut [u32], rows: &[Vector], k: usize)
     requires width { length into.old ≤ MOST_CENTRES }
     requires rows { All (λ row. length row ≡ length into.old) rows.now }
     ensures { into.new ≡ tabulate (length into.old) (λ e. kth_of k (column e rows.now)) }
@@ -57,14 +57,14 @@ pub fn kth_entries(into: &mut [u64], rows: &[Vector], k: usize)
 }
 
 // The greatest number that at least k rows reach at a centre.
-fn kth_entry(rows: &[Vector], centre: u8, k: usize) -> u64
+fn kth_entry(rows: &[Vector], centre: u8, k: usize) -> u32
     requires centre { 1 ≤ centre }
     requires rows { All (λ row. centre ≤ length row) rows.now }
     ensures { result ≡ kth_of k (column centre rows.now) }
 {
-    let mut best: u64 = 0;
+    let mut best: u32 = 0;
     for row in rows {
-        let x = row.get(centre);
+        let x = row.entry(centre);
         if k <= reach_at(rows, centre, x) {
             best = best.max(x);
         }
@@ -73,13 +73,13 @@ fn kth_entry(rows: &[Vector], centre: u8, k: usize) -> u64
 }
 
 // How many rows reach a number at a centre.
-fn reach_at(rows: &[Vector], centre: u8, x: u64) -> usize
+fn reach_at(rows: &[Vector], centre: u8, x: u32) -> usize
     requires centre { 1 ≤ centre }
     requires rows { All (λ row. centre ≤ length row) rows.now }
     ensures { result ≡ reach x (column centre rows.now) }
 {
     rows.iter()
-        .map(|row| row.get(centre))
+        .map(|row| row.entry(centre))
         .filter(|y| x <= *y)
         .count()
 }

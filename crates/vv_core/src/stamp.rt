@@ -4,7 +4,7 @@ pub struct Stamp {
     /// The centre, counted from 1.
     pub centre: u8,
     /// The place among the transactions that the centre took, counted from 1.
-    pub seq: u64,
+    pub seq: u32,
 }
 
 /// An entry by which one vector falls short of another.

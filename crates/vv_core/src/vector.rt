@@ -11,7 +11,7 @@ use std::marker::Model;
 /// so on. What lies behind them is 0. (Zawirski and others, Middleware 2015: version vectors.)
 #[derive(Clone, Copy)]
 pub struct Vector {
-    entries: [u64; MOST_CENTRES as usize],
+    entries: [u32; MOST_CENTRES as usize],
     width: u8,
 }
 
@@ -52,7 +52,7 @@ impl Vector {
     }
 
     /// The entries in the order of the centres.
-    pub fn as_slice(&self) -> &[u64]
+    pub fn as_slice(&self) -> &[u32]
         ensures value { result.now ≡ self.now }
         ensures range { (1 ≤ length result.now) × (length result.now ≤ MOST_CENTRES) }
     {
@@ -61,6 +61,14 @@ impl Vector {
 
     /// The entry of a centre, counted from 1.
     pub fn get(&self, centre: u8) -> u64
+        requires { (1 ≤ centre) × (centre ≤ length self.now) }
+        ensures { result ≡ at self.now centre }
+    {
+        u64::from(self.entry(centre))
+    }
+
+    // The entry of a centre as it is kept.
+    pub(crate) fn entry(&self, centre: u8) -> u32
         requires { (1 ≤ centre) × (centre ≤ length self.now) }
         ensures { result ≡ at self.now centre }
     {
@@ -73,7 +81,7 @@ impl Vector {
         ensures test { result ≡ within stamp.now self.now }
         ensures number { IsTrue result ↔ (stamp.now.seq ≤ at self.now stamp.now.centre) }
     {
-        stamp.seq <= self.get(stamp.centre)
+        stamp.seq <= self.entry(stamp.centre)
     }
 
     /// Whether no entry of the other is greater.

@@ -12,9 +12,9 @@ loop-row-preserved c =
     let row = c.row-item.result in
     let good = λ (x : ℕ). leb c.args.k (reach x (column e rows)) in
     let there : c.loop-row.row-index < length rows = omega arith in
-    let counted : c.reach_at.result ≡ reach (at row e) (column e rows) = c.reach_at.ensures ∙ ap (λ x. reach x (column e rows)) c.get-x.ensures in
+    let counted : c.reach_at.result ≡ reach (at row e) (column e rows) = c.reach_at.ensures ∙ ap (λ x. reach x (column e rows)) c.entry-x.ensures in
     most_next good e rows c.loop-row.row-index row c.loop-row.best c.if-k-reach_at.best there c.row-item.is
     (elim c.if-k-reach_at.branch [
-      | then-k-reach_at w ↦ inl (le-leb _ _ (omega (arith, counted, w.if-k-reach_at.true)), w.best-is ∙ (w.max-best.ensures ∙ ap (max c.loop-row.best) c.get-x.ensures))
+      | then-k-reach_at w ↦ inl (le-leb _ _ (omega (arith, counted, w.if-k-reach_at.true)), w.best-is ∙ (w.max-best.ensures ∙ ap (max c.loop-row.best) c.entry-x.ensures))
       | else-k-reach_at w ↦ inr (lt-leb _ _ (omega (arith, counted, w.if-k-reach_at.false)), w.best-is)
     ]) ∙ c.loop-row.invariant

@@ -16,8 +16,8 @@ take-requires c =
     let s = c.self.inside in
     let r : Record = c.as_record-record.result.now in
     let fit : is_fit_item s.settings.n r ≡ true = ap (λ (i : Record). is_fit_item s.settings.n i) c.as_record-record.ensures ∙ ap (λ (h : CentreView). is_fit_item h.settings.n c.args.item.now) c.self.view_is ∙ c.requires.fit in
-    let old = c.if-record-have.false in
-    let gap = c.if-record-have-gt1.false in
+    let old = c.if-seq-have.false in
+    let gap = c.if-seq-have-gt1.false in
     let orphan = c.if-saturating_sub-gt1.false in
     let sub = c.saturating_sub.ensures in
     delivered_next s.settings.n s.applied r c.count-have.result c.through-have.result c.self.invariant.width fit c.count-have.ensures c.through-have.ensures (omega (arith, old)) (omega (arith, old, gap)) (omega (arith, orphan, sub))
