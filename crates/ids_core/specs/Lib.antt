@@ -5,3 +5,4 @@ pub mod Name
 pub mod Orders
 pub mod Padded
 pub mod Same
+pub mod Tags

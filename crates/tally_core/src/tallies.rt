@@ -102,7 +102,7 @@ impl<P: Copy> Tallies<P> {
     {
         let empty = BTreeMap::new(alloc);
         match Tags::of(live_from(alloc, live_or(&self.cells, &empty), name)?) {
-            Ok(tags) => Ok(tags),
+            Ok(tags) => tags.share(),
             Err(_) => unreachable!(),
         }
     }
