@@ -9,7 +9,7 @@ ghost use Rattle.tx_core.specs.declared.op.Op.TheVariants.{Inc};
 use crate::counter::counter;
 use crate::fault::Fault;
 use dc_centre::Centre;
-use dc_talk::{Ask, Say, SharedRecord};
+use dc_talk::{Ask, Say, SharedRecord, SharedTx};
 use ids_core::{Dot, NoMemory, ObjectId};
 use std::alloc::Global;
 use tx_core::{Op, Record, State, Tx, Update, Updates, Value};
@@ -82,6 +82,7 @@ fn in_turn(turn: u32, tx: Tx) -> Tx {
 
 // Has a centre stamp a transaction.
 fn commit(alloc: Global, centre: &mut Centre, tx: Tx) -> Result<(), NoMemory> {
+    let tx = SharedTx::new(alloc, tx)?;
     centre.step(alloc, &Ask::Commit { tx })?;
     Ok(())
 }

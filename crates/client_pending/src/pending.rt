@@ -46,6 +46,11 @@ impl Pending {
         }
     }
 
+    /// The allocator.
+    pub fn allocator(&self) -> Global {
+        *self.txs.allocator()
+    }
+
     /// The commits in their order.
     pub fn as_slice(&self) -> &[Tx]
         ensures { result.now ≡ self.now }

@@ -5,7 +5,7 @@ ghost use Rattle.dc_talk.specs.Rule.{hello_of, Gives};
 ghost use Rattle.client_session.specs.SessionAnswers.{refresh_ask, fetch_ask, commit_ask};
 
 use crate::session::Session;
-use dc_talk::{Ask, Refusal};
+use dc_talk::{Ask, Refusal, SharedTx};
 use ids_core::ObjectId;
 
 impl Session {
@@ -76,7 +76,7 @@ impl Session {
                 match self.pending.as_slice().get((settled - self.mine) as usize) {
                     None => Ok(None),
                     Some(tx) => {
-                        let tx = tx.copy()?;
+                        let tx = SharedTx::new(self.pending.allocator(), tx.copy()?)?;
                         Ok(Some((link.centre, Ask::Commit { tx })))
                     }
                 }

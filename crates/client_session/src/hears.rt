@@ -47,11 +47,14 @@ impl Session {
                 Say::Object { state } => self.hear_object(object, at, state),
                 _ => Ok(Heard::Ignored),
             },
-            Ask::Commit { tx } => match say {
-                Say::Stamped { stamp: _ } => Ok(self.hear_sent(centre, &tx.dot, tx.dot.number)),
-                Say::Known { through } => Ok(self.hear_sent(centre, &tx.dot, *through)),
-                _ => Ok(Heard::Ignored),
-            },
+            Ask::Commit { tx } => {
+                let dot = tx.as_tx().dot;
+                match say {
+                    Say::Stamped { stamp: _ } => Ok(self.hear_sent(centre, &dot, dot.number)),
+                    Say::Known { through } => Ok(self.hear_sent(centre, &dot, *through)),
+                    _ => Ok(Heard::Ignored),
+                }
+            }
             _ => Ok(Heard::Ignored),
         }
     }

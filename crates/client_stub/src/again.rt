@@ -9,9 +9,8 @@ ghost use Rattle.client_stub.specs.Playing.{IsLinkBehind, Takes, beside};
 use crate::lines::again_line;
 use crate::notes::tell;
 use crate::stub::Stub;
-use dc_talk::{Ask, Deed, Door, Fate, Line, Log, Note};
+use dc_talk::{Ask, Deed, Door, Fate, Line, Log, Note, SharedTx};
 use ids_core::NoMemory;
-use tx_core::Tx;
 
 impl Stub {
     // The step `again`. It uses no fault.
@@ -53,7 +52,7 @@ impl Stub {
         door: &mut D,
         centre: u8,
         number: u64,
-        tx: Tx,
+        tx: SharedTx,
         log: &mut Log,
     ) -> Result<(), NoMemory>
         requires centre { IsBehind (D.shown door.old) centre }
@@ -74,7 +73,7 @@ impl Stub {
 }
 
 // The transaction of the first commit ask of this number among the notes.
-fn commit_sent(notes: &[Note], number: u64) -> Result<Option<Tx>, NoMemory>
+fn commit_sent(notes: &[Note], number: u64) -> Result<Option<SharedTx>, NoMemory>
     ensures { IfOk result (λ tx. tx ≡ commit_sent number notes.now) }
 {
     'asks: for note in notes {
@@ -87,7 +86,7 @@ fn commit_sent(notes: &[Note], number: u64) -> Result<Option<Tx>, NoMemory>
 }
 
 // The transaction of a deed, where it is a commit ask of this number.
-fn commit_asked(deed: &Deed, number: u64) -> Result<Option<Tx>, NoMemory>
+fn commit_asked(deed: &Deed, number: u64) -> Result<Option<SharedTx>, NoMemory>
     ensures { IfOk result (λ tx. tx ≡ commit_asked number deed.now) }
 {
     match deed {
@@ -96,7 +95,7 @@ fn commit_asked(deed: &Deed, number: u64) -> Result<Option<Tx>, NoMemory>
             ask: Ask::Commit { tx },
             fate: _,
         } => {
-            if tx.dot.number == number {
+            if tx.as_tx().dot.number == number {
                 Ok(Some(tx.copy()?))
             } else {
                 Ok(None)

@@ -161,7 +161,7 @@ pub(crate) fn number_in(ask: &Ask) -> u64
     ensures { result ≡ number_in ask.now }
 {
     match ask {
-        Ask::Commit { tx } => tx.dot.number,
+        Ask::Commit { tx } => tx.as_tx().dot.number,
         _ => 0,
     }
 }

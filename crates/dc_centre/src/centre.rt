@@ -117,7 +117,7 @@ impl Centre {
             Ask::Hello { client, need } => Ok(self.welcome(*client, need)),
             Ask::Refresh { client, at } => Ok(self.snap(*client, at)),
             Ask::Fetch { object, at } => self.object(alloc, object, at),
-            Ask::Commit { tx } => self.commit(tx),
+            Ask::Commit { tx } => self.commit(tx.as_tx()),
             Ask::Send { after, most } => self.send(alloc, *after, *most),
             Ask::Deliver { item, hops } => self.deliver(item, *hops),
             Ask::Relay {

@@ -4,10 +4,10 @@ ghost use Rattle.ids_core.specs.declared.limits.TheConstants.{MOST_CENTRES};
 ghost use Rattle.tx_core.specs.Checks.{is_within};
 ghost use Rattle.dc_talk.specs.Answers.{are_modest, is_fit_item};
 
-use crate::sent::SharedRecord;
+use crate::sent::{SharedRecord, SharedTx};
 use ids_core::{MOST_CLIENTS, MOST_RECORDS, NoMemory, ObjectId};
 use std::alloc::AllocError;
-use tx_core::{Record, Tx};
+use tx_core::Record;
 use vv_core::Vector;
 
 /// How many records a send asks for at most.
@@ -26,7 +26,7 @@ pub enum Ask {
     /// The state of an object at the snapshot `at`.
     Fetch { object: ObjectId, at: Vector },
     /// A transaction that a client has committed.
-    Commit { tx: Tx },
+    Commit { tx: SharedTx },
     /// The centre's own records, at most so many, from the one after the first `after`.
     Send { after: u64, most: u32 },
     /// A record that another centre stamped, with the hops that it has at the centre that handed it on.
@@ -114,7 +114,7 @@ impl Ask {
             Ask::Hello { client, need } => is_client(*client) && need.width() == n,
             Ask::Refresh { client, at } => is_client(*client) && at.width() == n,
             Ask::Fetch { object: _, at } => at.width() == n,
-            Ask::Commit { tx } => tx.check(n).is_ok(),
+            Ask::Commit { tx } => tx.as_tx().check(n).is_ok(),
             Ask::Send { after: _, most } => (1..=MOST_SENT).contains(most),
             Ask::Deliver { item, hops } => is_fit_item(item.as_record(), n) && *hops <= MOST_HOPS,
             Ask::Relay {

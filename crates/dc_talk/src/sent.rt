@@ -1,11 +1,11 @@
-// What one centre hands on to another.
+// What clients and centres send, as values that copies share.
 ghost use Rattle.std.specs.Prelude.{◌≡◌, IfOk};
 
 use ids_core::NoMemory;
 use std::alloc::{AllocError, Global};
 use std::marker::Model;
 use std::sync::Arc;
-use tx_core::Record;
+use tx_core::{Record, Tx};
 
 /// A record that copies share, seen as the record. Nothing changes it.
 #[derive(Drop)]
@@ -53,6 +53,56 @@ impl Clone for SharedRecord {
     ghost is_clone = { λ old new. new ≡ old };
 
     fn clone(&self) -> Result<SharedRecord, AllocError> {
+        self.copy()
+    }
+}
+
+/// A transaction that copies share, seen as the transaction. Nothing changes it.
+#[derive(Drop)]
+pub struct SharedTx {
+    tx: Arc<Tx>,
+}
+
+impl Model for SharedTx {
+    ghost use Rattle.std.specs.Arc.{arc_value};
+    ghost use Rattle.tx_core.specs.declared.tx.Tx.{Tx};
+
+    ghost Value = { Tx };
+
+    ghost view = { λ t. arc_value t.tx };
+}
+
+impl SharedTx {
+    /// Has copies share a transaction.
+    pub fn new(alloc: Global, tx: Tx) -> Result<SharedTx, NoMemory>
+        ensures { IfOk result (λ shared. shared ≡ tx) }
+    {
+        Ok(SharedTx {
+            tx: Arc::new(alloc, tx)?,
+        })
+    }
+
+    /// The transaction.
+    pub fn as_tx(&self) -> &Tx
+        ensures { result.now ≡ self.now }
+    {
+        &self.tx
+    }
+
+    /// The same transaction again. It takes no memory.
+    pub fn copy(&self) -> Result<SharedTx, AllocError>
+        ensures { IfOk result (λ copy. copy ≡ self.now) }
+    {
+        Ok(SharedTx {
+            tx: Arc::try_clone(&self.tx)?,
+        })
+    }
+}
+
+impl Clone for SharedTx {
+    ghost is_clone = { λ old new. new ≡ old };
+
+    fn clone(&self) -> Result<SharedTx, AllocError> {
         self.copy()
     }
 }

@@ -120,7 +120,7 @@ pub fn stamped_dot(entry: &Entry) -> Option<Dot>
 {
     match &entry.ask {
         Ask::Commit { tx } => match &entry.say {
-            Say::Stamped { stamp: _ } => Some(tx.dot),
+            Say::Stamped { stamp: _ } => Some(tx.as_tx().dot),
             _ => None,
         },
         _ => None,

@@ -49,7 +49,7 @@ fn reads_5(alloc: Global, session: &mut Session) -> Result<bool, Fail> {
 // Whether an ask sends the first commit, under the rank 1.
 fn is_first(ask: &Ask) -> bool {
     match ask {
-        Ask::Commit { tx } => tx.rank == 1 && tx.dot.number == 1,
+        Ask::Commit { tx } => tx.as_tx().rank == 1 && tx.as_tx().dot.number == 1,
         _ => false,
     }
 }

@@ -1,7 +1,7 @@
 // What a centre answers to deliveries, and what it hands on of them.
 use crate::records::{record, tx_of};
 use dc_centre::Centre;
-use dc_talk::{Ask, Say, Sent};
+use dc_talk::{Ask, Say, Sent, SharedTx};
 use ids_core::NoMemory;
 use std::alloc::Global;
 use std::process::Abort;
@@ -40,7 +40,7 @@ fn is_stamp(say: &Say) -> bool {
 
 // Whether a centre stamps the first commit of client 1 as its first record.
 fn stamps(alloc: Global, centre: &mut Centre) -> Result<bool, Fail> {
-    let tx = tx_of(alloc, 1)?;
+    let tx = SharedTx::new(alloc, tx_of(alloc, 1)?)?;
     let ask = Ask::Commit { tx };
     let says = centre.step(alloc, &ask)?;
     Ok(is_stamp(&says.0))

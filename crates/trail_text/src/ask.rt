@@ -19,7 +19,7 @@ pub fn write_ask(text: &mut Vec<u8>, ask: &Ask) -> Result<(), NoMemory>
         }
         Ask::Commit { tx } => {
             write_words(text, b"commit ")?;
-            write_dot(text, tx.dot)
+            write_dot(text, tx.as_tx().dot)
         }
         Ask::Send { after, most: _ } => write_named(text, b"send ", *after),
         Ask::Deliver { item, hops: _ } => {
