@@ -1,8 +1,7 @@
 -- Late copies: the first commit ask of a number among the notes, and what the step leaves.
-use Rattle.std.proofs.Common.{◌≡◌, ◌<◌, ℕ, zero, suc, ◌+◌, Bool, true, false, inl, inr, length, get_or, drop, List, [], ◌∷◌, Option, Some, None, refl, sym, ap, ◌∙◌, subst}
-use Rattle.std.specs.Prelude.{◌==◌, is_some, slice_get}
+use Rattle.std.proofs.Common.{◌≡◌, ℕ, zero, suc, Bool, true, false, inl, inr, List, [], ◌∷◌, Option, Some, None, refl, sym, ap, ◌∙◌, subst}
+use Rattle.std.specs.Prelude.{◌==◌, slice_get}
 use Rattle.std.specs.Option.{option_or}
-use Rattle.std.proofs.lemmas.List.{at_drop_more}
 use Rattle.list_core.specs.Choices.{when}
 use Rattle.tx_core.specs.declared.tx.Tx.{Tx}
 use Rattle.dc_talk.specs.declared.ask.Ask.TheVariants.{Commit as CommitAsk}
@@ -14,40 +13,16 @@ use Rattle.dc_talk.specs.declared.log.Deed.TheVariants.{Asked}
 use Rattle.dc_talk.specs.declared.log.Note.{Note}
 use Rattle.dc_talk.specs.declared.line.Line.{Line}
 use Rattle.dc_talk.specs.declared.line.Line.TheVariants as line
-use Rattle.dc_talk.specs.Logs.{Logged, entry_for, noted}
+use Rattle.dc_talk.specs.Logs.{Logged, commit_asked, commit_sent, entry_for, noted}
 use Rattle.dc_talk.specs.Doors.{DoorView, IsBehind, HasAsked}
 use Rattle.dc_talk.specs.Rule.{IsLate}
 use Rattle.script_core.specs.declared.steps.ClientStep.TheVariants.{Again}
-use Rattle.script_core.specs.Deeds.{AgainDeeds, StepDeeds, again_line, commit_asked, commit_sent, told}
+use Rattle.script_core.specs.Deeds.{AgainDeeds, StepDeeds, again_line, told}
 use Rattle.dc_talk.specs.Acting.{acting, noted_all}
 use Rattle.client_stub.specs.Playing.{Playing, Grows, Takes, progress}
 use Rattle.dc_talk.proofs.Acting.{leaves_ask}
 use Rattle.client_stub.proofs.Growth.{grows_leaves, grows_then, grows_told}
 use Rattle.client_stub.proofs.Stepping.{grows_line, over_some, over_none}
-
--- ---- the first commit ask of a number
-
--- what is left to look through, one note on
-sent_more : (number : ℕ) (notes : List Note) (i : ℕ) (note : Note) → i < length notes → note ≡ get_or notes i note → commit_sent number (drop i notes) ≡ option_or (commit_asked number note.deed) (commit_sent number (drop (i + 1) notes))
-sent_more number notes i note within is = at_drop_more (commit_sent number) notes i note within ∙ ap (λ (n : Note). option_or (commit_asked number n.deed) (commit_sent number (drop (i + 1) notes))) (sym is)
-
--- what is there is the first
-some_first : (o p : Option Tx) → is_some o ≡ true → option_or o p ≡ o
-some_first None p some = cc
-some_first (Some tx) p some = refl
-
--- and what is none leaves it to the rest
-none_first : (o p : Option Tx) → is_some o ≡ false → option_or o p ≡ p
-none_first None p none = refl
-none_first (Some tx) p none = cc
-
--- a note that is a commit ask of the number is the first one
-pub sent_found : (number : ℕ) (notes : List Note) (i : ℕ) (note : Note) (tx : Option Tx) → i < length notes → note ≡ get_or notes i note → tx ≡ commit_asked number note.deed → is_some tx ≡ true → commit_sent number (drop i notes) ≡ tx
-sent_found number notes i note tx within is asked some = sent_more number notes i note within is ∙ (ap (λ o. option_or o (commit_sent number (drop (i + 1) notes))) (sym asked) ∙ some_first tx (commit_sent number (drop (i + 1) notes)) some)
-
--- another note is passed
-pub sent_passed : (number : ℕ) (notes : List Note) (i : ℕ) (note : Note) (tx : Option Tx) → i < length notes → note ≡ get_or notes i note → tx ≡ commit_asked number note.deed → is_some tx ≡ false → commit_sent number (drop i notes) ≡ commit_sent number (drop (i + 1) notes)
-sent_passed number notes i note tx within is asked none = sent_more number notes i note within is ∙ (ap (λ o. option_or o (commit_sent number (drop (i + 1) notes))) (sym asked) ∙ none_first tx (commit_sent number (drop (i + 1) notes)) none)
 
 -- ---- it is late
 
@@ -106,9 +81,8 @@ again_takes p door i number tx say between later client said sent behind asked n
     }
 
 -- no commit ask has the number
-pub again_none : (p : Playing) (later : Logged) (i number client : ℕ) (notes : List Note) (sent : Option Tx) → notes ≡ p.log.notes → sent ≡ commit_sent number notes → sent ≡ None → client ≡ p.client.client → later ≡ noted_all p.log (told (Some (line.AgainNone client i number))) → Takes (Again i number) p (record p { log = later })
-again_none p later i number client notes sent old first none same is =
+pub again_none : (p : Playing) (later : Logged) (i number client : ℕ) → commit_sent number p.log.notes ≡ None → client ≡ p.client.client → later ≡ noted_all p.log (told (Some (line.AgainNone client i number))) → Takes (Again i number) p (record p { log = later })
+again_none p later i number client lacks same is =
     let s = p.client in
-    let lacks : commit_sent number p.log.notes ≡ None = ap (commit_sent number) (sym old) ∙ (sym first ∙ none) in
     let by = grows_line (StepDeeds (progress p) (Again i number)) p later (line.AgainNone client i number) (line.AgainNone s.client i number) is (ap (λ n. line.AgainNone n i number) same) (over_none (commit_sent number p.log.notes) (line.AgainNone s.client i number) (AgainDeeds s.client i number) lacks) in
     record { deeds = by.deeds; such = by.such; grows = by.grows; armed = refl }

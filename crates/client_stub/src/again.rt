@@ -1,15 +1,15 @@
 // Late copies of commits.
-ghost use Rattle.std.specs.Prelude.{◌≡◌, Some, IfOk, OnOk, OnErr};
+ghost use Rattle.std.specs.Prelude.{◌≡◌, Some, OnOk, OnErr};
 ghost use Rattle.dc_talk.specs.Doors.{IsBehind};
+ghost use Rattle.dc_talk.specs.Logs.{commit_sent};
 ghost use Rattle.script_core.specs.declared.steps.ClientStep.TheVariants.{Again};
-ghost use Rattle.script_core.specs.Deeds.{commit_asked, commit_sent};
 ghost use Rattle.dc_talk.specs.Acting.{IsCutShort, acting};
 ghost use Rattle.client_stub.specs.Playing.{IsLinkBehind, Takes, beside};
 
 use crate::lines::again_line;
 use crate::notes::tell;
 use crate::stub::Stub;
-use dc_talk::{Ask, Deed, Door, Fate, Line, Log, Note, SharedTx};
+use dc_talk::{Ask, Deed, Door, Fate, Line, Log, SharedTx};
 use ids_core::NoMemory;
 
 impl Stub {
@@ -28,8 +28,9 @@ impl Stub {
         ensures linked { IsLinkBehind (D.shown door.new) self.new.client }
         ensures short { OnErr result (IsCutShort (acting (D.shown door.old) log.old) (acting (D.shown door.new) log.new)) }
     {
-        match commit_sent(log.as_slice(), number)? {
+        match log.commit_sent(number) {
             Some(tx) => {
+                let tx = tx.copy()?;
                 self.copy_late(door, centre, number, tx, log)?;
                 Ok(())
             }
@@ -69,38 +70,5 @@ impl Stub {
         log.push(Deed::Asked { centre, ask, fate })?;
         tell(log, line)?;
         Ok(())
-    }
-}
-
-// The transaction of the first commit ask of this number among the notes.
-fn commit_sent(notes: &[Note], number: u64) -> Result<Option<SharedTx>, NoMemory>
-    ensures { IfOk result (λ tx. tx ≡ commit_sent number notes.now) }
-{
-    'asks: for note in notes {
-        let tx = commit_asked(&note.deed, number)?;
-        if tx.is_some() {
-            return Ok(tx);
-        }
-    }
-    Ok(None)
-}
-
-// The transaction of a deed, where it is a commit ask of this number.
-fn commit_asked(deed: &Deed, number: u64) -> Result<Option<SharedTx>, NoMemory>
-    ensures { IfOk result (λ tx. tx ≡ commit_asked number deed.now) }
-{
-    match deed {
-        Deed::Asked {
-            centre: _,
-            ask: Ask::Commit { tx },
-            fate: _,
-        } => {
-            if tx.as_tx().dot.number == number {
-                Ok(Some(tx.copy()?))
-            } else {
-                Ok(None)
-            }
-        }
-        _ => Ok(None),
     }
 }

@@ -14,3 +14,4 @@ pub mod Places
 pub mod Growth
 pub mod Doors
 pub mod Acting
+pub mod CommitPlaces

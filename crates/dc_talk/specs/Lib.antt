@@ -6,6 +6,7 @@ pub mod Entries
 pub mod Trails
 pub mod Answers
 pub mod Logs
+pub mod CommitPlaces
 pub mod Doors
 pub mod Acting
 pub mod ListDoors

@@ -1,8 +1,11 @@
 -- What a log is seen as, and what its deeds made in the trails of the centres.
 use Rattle.std.specs.Prelude.{◌≤◌, ℕ, ◌==◌, cond, List, [], ◌∷◌, ◌++◌, Option, Some, None}
-use Rattle.std.specs.Option.{option_map}
+use Rattle.std.specs.Option.{option_map, option_and_then, option_or}
 use Rattle.std.specs.List.{filter_map}
+use Rattle.list_core.specs.Choices.{when}
+use Rattle.tx_core.specs.declared.tx.Tx.{Tx}
 use Rattle.dc_talk.specs.declared.ask.Ask.{Ask}
+use Rattle.dc_talk.specs.declared.ask.Ask.TheVariants.{Commit}
 use Rattle.dc_talk.specs.declared.say.Say.{Say}
 use Rattle.dc_talk.specs.declared.log.Fate.{Fate}
 use Rattle.dc_talk.specs.declared.log.Fate.TheVariants.{AskLost, ReplyLost, Heard, Unheard}
@@ -54,3 +57,17 @@ entry_made actor i deed = option_map (entry_for actor) (exchanged_in i deed)
 -- the entries that deeds of an actor made in the trail of centre i, in order
 abbrev pub entries_made : ℕ → ℕ → List Deed → List Entry
 entries_made actor i deeds = filter_map (entry_made actor i) deeds
+
+-- the transaction of a commit ask
+abbrev pub commit_of : Deed → Option Tx
+commit_of (Asked i (Commit tx) fate) = Some tx
+commit_of _ = None
+
+-- the same, where it has this number
+abbrev pub commit_asked : ℕ → Deed → Option Tx
+commit_asked number deed = option_and_then (λ tx. when (tx.dot.number == number) tx) (commit_of deed)
+
+-- the transaction of the first commit ask with this number among the notes, whatever became of it
+abbrev pub commit_sent : ℕ → List Note → Option Tx
+commit_sent number [] = None
+commit_sent number (note ∷ notes) = option_or (commit_asked number note.deed) (commit_sent number notes)

@@ -4,6 +4,7 @@
 
 mod ask;
 mod calls;
+mod commit_places;
 mod door;
 mod entry;
 mod fold;

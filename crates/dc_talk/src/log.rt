@@ -3,10 +3,13 @@ ghost use Rattle.std.specs.Prelude.{◌≡◌, ◌≤◌, [], ◌∷◌, ◌++�
 
 use crate::ask::Ask;
 use crate::calls::{Call, Outcome};
+use crate::commit_places::{CommitPlaces, commit_sent, keep_place};
 use crate::line::Line;
 use crate::say::Say;
+use crate::sent::SharedTx;
 use ids_core::NoMemory;
 use std::alloc::Global;
+use std::collections::BTreeMap;
 use std::marker::Model;
 
 /// What became of an ask.
@@ -49,11 +52,13 @@ pub struct Log {
     section: u32,
     step: u32,
     notes: Vec<Note>,
+    commits: CommitPlaces,
 }
 
 impl Model for Log {
     ghost use Rattle.std.specs.Prelude.{◌-◌, vec_len, vec_capacity};
     ghost use Rattle.dc_talk.specs.Logs.{Logged};
+    ghost use Rattle.dc_talk.specs.CommitPlaces.{LeadToFirsts};
     ghost use Rattle.tx_core.specs.States.{state_codes};
 
     ghost Value = { Logged };
@@ -61,10 +66,13 @@ impl Model for Log {
     ghost coded = { Prim.hlevel state_codes };
 
     ghost view = { λ l. record { actor = l.actor; section = l.section; step = l.step; notes = l.notes.items } };
+
+    ghost invariant = { λ l. LeadToFirsts l.commits.entries l.notes.items };
 }
 
 impl Log {
-    ghost use Rattle.dc_talk.specs.Logs.{noted};
+    ghost use Rattle.std.specs.Option.{option_copied};
+    ghost use Rattle.dc_talk.specs.Logs.{noted, commit_sent};
 
     /// The empty log of an actor.
     pub fn new(alloc: Global, actor: u32) -> Self
@@ -75,6 +83,7 @@ impl Log {
             section: 0,
             step: 0,
             notes: Vec::new(alloc),
+            commits: BTreeMap::new(alloc),
         }
     }
 
@@ -92,6 +101,7 @@ impl Log {
         ensures ok { OnOk result (self.new ≡ noted self.old deed) }
         ensures err { OnErr result (self.new ≡ self.old) }
     {
+        keep_place(&mut self.commits, self.notes.as_slice(), &deed)?;
         self.notes.push(Note {
             section: self.section,
             step: self.step,
@@ -112,5 +122,13 @@ impl Log {
         ensures { result.now ≡ self.now.notes }
     {
         self.notes.as_slice()
+    }
+
+    /// The transaction of the first commit ask of this number, whatever became of it. Time: logarithmic in
+    /// how many numbers have one.
+    pub fn commit_sent(&self, number: u64) -> Option<&SharedTx>
+        ensures { option_copied result ≡ commit_sent number self.now.notes }
+    {
+        commit_sent(&self.commits, self.notes.as_slice(), number)
     }
 }

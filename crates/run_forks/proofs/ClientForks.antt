@@ -20,6 +20,7 @@ use Rattle.dc_talk.specs.declared.line.StepWord.{StepWord}
 use Rattle.dc_talk.specs.declared.line.StepWord.TheVariants as step
 use Rattle.dc_talk.specs.declared.line.Line.{Line}
 use Rattle.dc_talk.specs.declared.line.Line.TheVariants as line
+use Rattle.dc_talk.specs.Logs.{commit_sent}
 use Rattle.dc_talk.specs.Clients.{Client}
 use Rattle.dc_talk.specs.Calls.{outcome_of}
 use Rattle.dc_talk.specs.Rule.{hello_of, refresh_of, fetch_of, next_commit}
@@ -29,7 +30,7 @@ use Rattle.script_core.specs.declared.steps.AskFault.{AskFault}
 use Rattle.script_core.specs.declared.steps.AskFault.TheVariants.{LoseAsk, LoseReply, Twice}
 use Rattle.script_core.specs.declared.steps.ClientStep.{ClientStep}
 use Rattle.script_core.specs.declared.steps.ClientStep.TheVariants.{Connect, Begin, Change, Read, Grant, Give, Take, Rights, Commit, Abort, Push, Flush, Refresh, Again, Arm}
-use Rattle.script_core.specs.Deeds.{Progress, fate_of, copies, took, told, Asks, OrTells, calls, calls_on, after_fetch, CallDeeds, change_call, read_call, cell_to, cell_read, cell_inc, share_cells, last_number, behind, FollowsRead, ReadsCell, CellsDeeds, AddsOwned, TakingDeeds, TellsRights, RightsDeeds, Pushes, OverNext, goes_on, PushesOn, FlushEnds, pushed, FlushDeeds, flush_ends, flush_goes, commit_sent, again_line, push_line, hello_line, refresh_line, AgainDeeds, RefreshDeeds, StepDeeds}
+use Rattle.script_core.specs.Deeds.{Progress, fate_of, copies, took, told, Asks, OrTells, calls, calls_on, after_fetch, CallDeeds, change_call, read_call, cell_to, cell_read, cell_inc, share_cells, last_number, behind, FollowsRead, ReadsCell, CellsDeeds, AddsOwned, TakingDeeds, TellsRights, RightsDeeds, Pushes, OverNext, goes_on, PushesOn, FlushEnds, pushed, FlushDeeds, flush_ends, flush_goes, again_line, push_line, hello_line, refresh_line, AgainDeeds, RefreshDeeds, StepDeeds}
 use Rattle.run_forks.specs.Forks.{AreRivals, AreOneOrFork}
 use Rattle.run_forks.proofs.Forks.{Same, fork_head, fork_as, with_as, with_then, with_cons, with_same, one_or_fork, both_are, fates, by_fate, by_unheard}
 

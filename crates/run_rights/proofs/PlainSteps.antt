@@ -19,6 +19,7 @@ use Rattle.dc_talk.specs.declared.line.Line.{Line}
 use Rattle.dc_talk.specs.declared.line.Line.TheVariants as line
 use Rattle.dc_talk.specs.declared.line.StepWord.{StepWord}
 use Rattle.dc_talk.specs.declared.line.StepWord.TheVariants as step
+use Rattle.dc_talk.specs.Logs.{commit_sent}
 use Rattle.dc_talk.specs.Clients.{Client}
 use Rattle.dc_talk.specs.Calls.{outcome_of}
 use Rattle.dc_talk.specs.Rule.{next_commit, hello_of, refresh_of}
@@ -28,7 +29,7 @@ use Rattle.script_core.specs.declared.steps.AskFault.TheVariants.{LoseAsk, LoseR
 use Rattle.script_core.specs.declared.steps.ClientStep.{ClientStep}
 use Rattle.script_core.specs.declared.steps.ClientStep.TheVariants.{Connect, Begin, Change, Read, Grant, Give, Take, Rights, Commit, Abort, Push, Flush, Refresh, Again, Arm}
 use Rattle.script_core.specs.declared.steps.Share.{Share}
-use Rattle.script_core.specs.Deeds.{Progress, StepDeeds, Asks, OrTells, OverNext, Pushes, PushesOn, CallDeeds, FlushDeeds, flush_ends, flush_goes, RefreshDeeds, AgainDeeds, TakingDeeds, calls, calls_on, call_line, cell_inc, cell_to, change_call, read_call, commit_sent, copies, fate_of, goes_on, hello_line, push_line, pushed, refresh_line, again_line, told, took}
+use Rattle.script_core.specs.Deeds.{Progress, StepDeeds, Asks, OrTells, OverNext, Pushes, PushesOn, CallDeeds, FlushDeeds, flush_ends, flush_goes, RefreshDeeds, AgainDeeds, TakingDeeds, calls, calls_on, call_line, cell_inc, cell_to, change_call, read_call, copies, fate_of, goes_on, hello_line, push_line, pushed, refresh_line, again_line, told, took}
 use Rattle.script_core.specs.Steps.{IsOwn, IsShare, IsShareOf, IsStep}
 use Rattle.run_rights.proofs.ObjectCalls.{object_each, on_each, told_each}
 use Rattle.run_rights.proofs.RightsLines.{IsPlainOr, TellsNone, plain_again, plain_call, plain_hello, plain_push, plain_refresh}

@@ -23,6 +23,7 @@ use Rattle.dc_talk.specs.declared.line.StepWord.{StepWord}
 use Rattle.dc_talk.specs.declared.line.StepWord.TheVariants as step
 use Rattle.dc_talk.specs.declared.line.Line.{Line}
 use Rattle.dc_talk.specs.declared.line.Line.TheVariants as line
+use Rattle.dc_talk.specs.Logs.{commit_sent}
 use Rattle.dc_talk.specs.Clients.{Client}
 use Rattle.dc_talk.specs.Calls.{outcome_of}
 use Rattle.dc_talk.specs.Rule.{after, next_commit, hello_of, refresh_of, fetch_of}
@@ -32,7 +33,7 @@ use Rattle.script_core.specs.declared.steps.AskFault.{AskFault}
 use Rattle.script_core.specs.declared.steps.AskFault.TheVariants.{LoseAsk, LoseReply, Twice}
 use Rattle.script_core.specs.declared.steps.ClientStep.{ClientStep}
 use Rattle.script_core.specs.declared.steps.ClientStep.TheVariants.{Connect, Begin, Change, Read, Grant, Give, Take, Rights, Commit, Abort, Push, Flush, Refresh, Again, Arm}
-use Rattle.script_core.specs.Deeds.{Progress, StepDeeds, Asks, OrTells, OverNext, Pushes, PushesOn, FetchDeeds, CallDeeds, FlushDeeds, flush_ends, flush_goes, RefreshDeeds, AgainDeeds, CellsDeeds, AddsOwned, TakingDeeds, TellsRights, RightsDeeds, after_fetch, calls, calls_on, call_line, cell_inc, cell_read, cell_to, change_call, counter_of_share, line_on, read_call, rights_got, share_cells, commit_sent, copies, fate_of, fetch_line, goes_on, hello_line, push_line, pushed, refresh_line, again_line, told, took}
+use Rattle.script_core.specs.Deeds.{Progress, StepDeeds, Asks, OrTells, OverNext, Pushes, PushesOn, FetchDeeds, CallDeeds, FlushDeeds, flush_ends, flush_goes, RefreshDeeds, AgainDeeds, CellsDeeds, AddsOwned, TakingDeeds, TellsRights, RightsDeeds, after_fetch, calls, calls_on, call_line, cell_inc, cell_read, cell_to, change_call, counter_of_share, line_on, read_call, rights_got, share_cells, copies, fate_of, fetch_line, goes_on, hello_line, push_line, pushed, refresh_line, again_line, told, took}
 use Rattle.run_book.proofs.CellReads.{cells_hold}
 use Rattle.run_steps.specs.Calls.{IsCallOf, adds_to}
 

@@ -1,10 +1,9 @@
 -- What a step leaves in a log: the calls of the session with how they ended, the asks with what became of them,
 -- and the line of the step. All but the answers of the centres is fixed.
 use Rattle.std.specs.Prelude.{◌≡◌, ℕ, ℤ, pos, int_lt, Bool, true, false, ◌==◌, cond, fold, map, List, [], ◌∷◌, ◌++◌, Option, Some, None}
-use Rattle.std.specs.Option.{option_map, option_or}
+use Rattle.std.specs.Option.{option_map}
 use Rattle.std.specs.List.{list_any}
 use Rattle.std.specs.Int.{w128, int_wrap}
-use Rattle.list_core.specs.Choices.{when}
 use Rattle.vv_core.specs.declared.stamp.Lack.{Lack}
 use Rattle.tx_core.specs.declared.tx.Tx.{Tx}
 use Rattle.tx_core.specs.declared.tx.Update.{Update}
@@ -37,6 +36,7 @@ use Rattle.dc_talk.specs.declared.line.PushEnd.{PushEnd}
 use Rattle.dc_talk.specs.declared.line.PushEnd.TheVariants as ended
 use Rattle.dc_talk.specs.declared.line.Line.{Line}
 use Rattle.dc_talk.specs.declared.line.Line.TheVariants as line
+use Rattle.dc_talk.specs.Logs.{commit_sent}
 use Rattle.dc_talk.specs.Clients.{Client}
 use Rattle.dc_talk.specs.Calls.{outcome_of}
 use Rattle.dc_talk.specs.Rule.{after, takes, hello_of, refresh_of, fetch_of, next_commit}
@@ -371,16 +371,6 @@ pub data FlushDeeds : Progress → List Deed → Type 0 where
   flush_goes : {p : Progress} {deeds : List Deed} (first later : List Deed) → deeds ≡ first ++ later → PushesOn p first → FlushDeeds (pushed p first) later → FlushDeeds p deeds
 
 -- ---- late copies
-
--- the transaction of a commit ask with this number
-abbrev pub commit_asked : ℕ → Deed → Option Tx
-commit_asked number (Asked i (CommitAsk tx) fate) = when (tx.dot.number == number) tx
-commit_asked number _ = None
-
--- the transaction of the first commit ask with this number among the notes, whatever became of it
-abbrev pub commit_sent : ℕ → List Note → Option Tx
-commit_sent number [] = None
-commit_sent number (note ∷ notes) = option_or (commit_asked number note.deed) (commit_sent number notes)
 
 -- a late copy of a commit ask, unheard
 abbrev pub AgainDeeds : ℕ → ℕ → ℕ → Tx → List Deed → Type 0
