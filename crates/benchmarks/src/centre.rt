@@ -131,7 +131,7 @@ fn fetched(
 // The number of the state that an answer has; -1 where it has none.
 fn number_in(alloc: Global, say: &Say) -> Result<i128, NoMemory> {
     match say {
-        Say::Object { state } => number_of(alloc, state),
+        Say::Object { state } => number_of(alloc, state.as_state()),
         _ => Ok(-1),
     }
 }

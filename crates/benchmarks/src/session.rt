@@ -7,7 +7,7 @@ ghost use Rattle.dc_talk.specs.Calls.{Ends};
 use crate::counter::counter;
 use crate::fault::Fault;
 use client_session::Session;
-use dc_talk::{Ask, Call, Change, Outcome, Refusal, Say};
+use dc_talk::{Ask, Call, Change, Outcome, Refusal, Say, SharedState};
 use ids_core::{NoMemory, ObjectId};
 use std::alloc::Global;
 use tx_core::{State, Value};
@@ -20,7 +20,7 @@ fn session_with(alloc: Global, object: &ObjectId) -> Result<Session, NoMemory> {
         object: *object,
         at: Vector::zero(1),
     };
-    let state = State::empty(alloc, object.sort)?;
+    let state = SharedState::new(alloc, State::empty(alloc, object.sort)?)?;
     session.hear(1, &ask, &Say::Object { state })?;
     Ok(session)
 }

@@ -44,7 +44,7 @@ impl Session {
                 _ => Ok(Heard::Ignored),
             },
             Ask::Fetch { object, at } => match say {
-                Say::Object { state } => self.hear_object(object, at, state),
+                Say::Object { state } => self.hear_object(object, at, state.as_state()),
                 _ => Ok(Heard::Ignored),
             },
             Ask::Commit { tx } => {

@@ -8,7 +8,7 @@ ghost use Rattle.tx_core.specs.Checks.{IsFit};
 ghost use Rattle.dc_centre.specs.Centre.{Goes, row_over, stable_over};
 
 use crate::centre::Centre;
-use dc_talk::{Say, Sent, SharedRecord};
+use dc_talk::{Say, Sent, SharedRecord, SharedState};
 use ids_core::{NoMemory, ObjectId};
 use std::alloc::Global;
 use tx_core::{Record, Tx};
@@ -76,7 +76,7 @@ impl Centre {
         if let Some(lack) = Vector::first_lack(at, &self.applied.base()) {
             return Ok((pruned(lack), pruned(lack)));
         }
-        let state = self.applied.state(alloc, object, at)?;
+        let state = SharedState::new(alloc, self.applied.state(alloc, object, at)?)?;
         let copy = state.copy()?;
         Ok((Say::Object { state: copy }, Say::Object { state }))
     }

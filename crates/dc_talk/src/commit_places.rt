@@ -73,13 +73,16 @@ pub(crate) fn keep_place(
     ensures behind { OnOk result ((section step : ℕ) → LeadToFirsts places.new.entries (notes.now ++ marked section step deed.now ∷ [])) }
 {
     match commit_of(deed) {
-        Some(tx) => match commit_sent(places, notes, tx.as_tx().dot.number) {
-            Some(_) => Ok(()),
-            None => {
-                places.insert(tx.as_tx().dot.number, notes.len())?;
-                Ok(())
+        Some(shared) => {
+            let tx = shared.as_tx();
+            match commit_sent(places, notes, tx.dot.number) {
+                Some(_) => Ok(()),
+                None => {
+                    places.insert(tx.dot.number, notes.len())?;
+                    Ok(())
+                }
             }
-        },
+        }
         None => Ok(()),
     }
 }

@@ -30,5 +30,5 @@ pub use list_door::ListDoor;
 pub use log::{Deed, Fate, Log, Note};
 pub use replies::belongs;
 pub use say::{Records, Say};
-pub use sent::{Sent, SharedRecord, SharedTx};
+pub use sent::{Sent, SharedRecord, SharedState, SharedTx};
 pub use settings::Settings;

@@ -1,11 +1,10 @@
 // What a centre answers.
 ghost use Rattle.std.specs.Prelude.{◌≡◌, IfOk};
 
-use crate::sent::Sent;
+use crate::sent::{Sent, SharedState};
 use ids_core::NoMemory;
 use list_core::List;
 use std::alloc::AllocError;
-use tx_core::State;
 use vv_core::{Stamp, Vector};
 
 /// Records with their hops in their order, seen as their list.
@@ -44,7 +43,7 @@ pub enum Say {
     },
     /// To a fetch: the state of the object at the snapshot.
     Object {
-        state: State,
+        state: SharedState,
     },
     /// The transaction was here before: the greatest number of its client that is here.
     Known {

@@ -5,7 +5,7 @@ use ids_core::NoMemory;
 use std::alloc::{AllocError, Global};
 use std::marker::Model;
 use std::sync::Arc;
-use tx_core::{Record, Tx};
+use tx_core::{Record, State, Tx};
 
 /// A record that copies share, seen as the record. Nothing changes it.
 #[derive(Drop)]
@@ -103,6 +103,59 @@ impl Clone for SharedTx {
     ghost is_clone = { λ old new. new ≡ old };
 
     fn clone(&self) -> Result<SharedTx, AllocError> {
+        self.copy()
+    }
+}
+
+/// A state that copies share, seen as the state. Nothing changes it.
+#[derive(Drop)]
+pub struct SharedState {
+    state: Arc<State>,
+}
+
+impl Model for SharedState {
+    ghost use Rattle.std.specs.Arc.{arc_value};
+    ghost use Rattle.tx_core.specs.States.{state_codes};
+    ghost use Rattle.tx_core.specs.declared.state.State.{State};
+
+    ghost Value = { State };
+
+    ghost coded = { Prim.hlevel state_codes };
+
+    ghost view = { λ s. arc_value s.state };
+}
+
+impl SharedState {
+    /// Has copies share a state.
+    pub fn new(alloc: Global, state: State) -> Result<SharedState, NoMemory>
+        ensures { IfOk result (λ shared. shared ≡ state) }
+    {
+        Ok(SharedState {
+            state: Arc::new(alloc, state)?,
+        })
+    }
+
+    /// The state.
+    pub fn as_state(&self) -> &State
+        ensures { result.now ≡ self.now }
+    {
+        &self.state
+    }
+
+    /// The same state again. It takes no memory.
+    pub fn copy(&self) -> Result<SharedState, AllocError>
+        ensures { IfOk result (λ copy. copy ≡ self.now) }
+    {
+        Ok(SharedState {
+            state: Arc::try_clone(&self.state)?,
+        })
+    }
+}
+
+impl Clone for SharedState {
+    ghost is_clone = { λ old new. new ≡ old };
+
+    fn clone(&self) -> Result<SharedState, AllocError> {
         self.copy()
     }
 }

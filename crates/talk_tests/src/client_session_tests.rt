@@ -1,7 +1,7 @@
 // A session: how a commit goes out and comes back, with answers that no centre of a run gives. What the steps of a script
 // show of a session is among the examples.
 use client_session::{Heard, Session};
-use dc_talk::{Ask, Change, Refusal, Say};
+use dc_talk::{Ask, Change, Refusal, Say, SharedState};
 use ids_core::{NoMemory, ObjectId, Sort};
 use samples::{counter, single};
 use std::alloc::Global;
@@ -23,8 +23,14 @@ fn takes(session: &mut Session, centre: u8, ask: &Ask, say: &Say) -> Result<bool
 }
 
 // Lets a session have this state of an object; whether it asked centre 1, and took it.
-fn fetch(session: &mut Session, object: &ObjectId, state: State) -> Result<bool, Fail> {
+fn fetch(
+    alloc: Global,
+    session: &mut Session,
+    object: &ObjectId,
+    state: State,
+) -> Result<bool, Fail> {
     let (centre, ask) = session.ask_fetch(object)?;
+    let state = SharedState::new(alloc, state)?;
     let took = takes(session, centre, &ask, &Say::Object { state })?;
     Ok(centre == 1 && took)
 }
@@ -42,7 +48,7 @@ fn commit(alloc: Global, session: &mut Session) -> Result<Option<u64>, Fail> {
 // Lets a session have the empty counter, and whether it then reads its own commit.
 fn reads_5(alloc: Global, session: &mut Session) -> Result<bool, Fail> {
     let object = counter("a")?;
-    let took = fetch(session, &object, State::empty(alloc, Sort::Counter)?)?;
+    let took = fetch(alloc, session, &object, State::empty(alloc, Sort::Counter)?)?;
     Ok(took && matches!(session.read(alloc, &object)?, Value::Number(5)))
 }
 

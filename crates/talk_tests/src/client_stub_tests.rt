@@ -10,7 +10,7 @@ use crate::printed::tells;
 use crate::records::door_of;
 use client_session::Session;
 use client_stub::Stub;
-use dc_talk::{Change, ListDoor, Log, Say};
+use dc_talk::{Change, ListDoor, Log, Say, SharedState};
 use ids_core::{Name, NoMemory, ObjectId, Sort};
 use samples::{pair, single};
 use script_core::ClientStep;
@@ -109,7 +109,7 @@ enum Answer {
 
 // The state of an empty set, as an answer.
 fn empty(alloc: Global) -> Result<Say, NoMemory> {
-    let state = State::empty(alloc, Sort::Set)?;
+    let state = SharedState::new(alloc, State::empty(alloc, Sort::Set)?)?;
     Ok(Say::Object { state })
 }
 

@@ -95,14 +95,21 @@ impl<P: Copy> Tallies<P> {
 }
 
 impl<P: Copy> Tallies<P> {
-    /// The live identifiers of a name. Time: a look-up among the live tallies, and a step for each of the
-    /// name.
+    /// The live identifiers of a name, which copies share. Time: a look-up among the live tallies, and a step for each
+    /// of the name.
     pub fn live(&self, alloc: Global, name: &Name) -> Result<Tags, NoMemory>
+        ensures { IfOk result (λ tags. tags ≡ live_ids self.now name.now) }
+    {
+        self.own_live(alloc, name)?.share()
+    }
+
+    // The same in a list of their own.
+    fn own_live(&self, alloc: Global, name: &Name) -> Result<Tags, NoMemory>
         ensures { IfOk result (λ tags. tags ≡ live_ids self.now name.now) }
     {
         let empty = BTreeMap::new(alloc);
         match Tags::of(live_from(alloc, live_or(&self.cells, &empty), name)?) {
-            Ok(tags) => tags.share(),
+            Ok(tags) => Ok(tags),
             Err(_) => unreachable!(),
         }
     }

@@ -8,7 +8,7 @@ use Rattle.tally_core.specs.Shared.{owed_of}
 use Rattle.tally_core.specs.Parted.{AreApart}
 use Rattle.tally_core.proofs.Listed.{live_ascends}
 use Rattle.tally_core.proofs.Shown.{live_seen}
-use Rattle.tally_core.proofs.tallies.Tallies.live.Goals as goal
+use Rattle.tally_core.proofs.tallies.Tallies.own_live.Goals as goal
 
 pub unreachable-requires : goal.unreachable-requires
 unreachable-requires g c = false≢true (c.in-Err.ensures.exact.1 (ap ascends c.in_ok-live_from.ensures.list ∙ live_ascends _ _ c.in_ok-live_from.ensures.ordered))
