@@ -2,7 +2,7 @@
 ghost use Rattle.std.specs.Prelude.{◌≡◌, drop, codes, if◌then◌else◌};
 ghost use Rattle.obj_bounded.specs.CellNames.{counter_of};
 ghost use Rattle.script_reader.specs.Numbers.{is_number};
-ghost use Rattle.script_reader.specs.Said.{said_word, said_words, unsaid, with_counter, with_holder};
+ghost use Rattle.script_reader.specs.Said.{said_behind, said_word, said_words, unsaid};
 ghost use Rattle.script_reader.specs.Words.{words_of};
 
 use crate::fault::Cause;
@@ -87,150 +87,109 @@ fn a_counter() -> ObjectId
 }
 
 // A word that has to be a number, before a header that gives its range.
-fn early(said: Said, text: &[u8]) -> Result<Said, Cause>
-    ensures { result ≡ (if is_number text.now then Ok said else Err Cause.Number) }
+fn early(text: &[u8]) -> Result<(), Cause>
+    ensures { result ≡ (if is_number text.now then Ok tt else Err Cause.Number) }
 {
     if is_number(text) {
-        Ok(said)
+        Ok(())
     } else {
         Err(Cause::Number)
     }
 }
 
 /// What is said when a word stands in the place of a part, behind the words before it; or why it may not.
-#[tactic(auto, unfolding(crate::specs::Said::said_word))]
 pub fn said_word(header: Option<Header>, part: Part, text: &[u8], said: Said) -> Result<Said, Cause>
     ensures { result ≡ said_word header part text.now said }
 {
-    match part {
-        Part::Fixed(_) => Ok(said),
-        Part::Client => client_said(header, text, said),
-        Part::Holder => holder_said(header, text, said),
-        Part::OtherHolder => to_said(header, text, said),
-        Part::Centre => centre_said(header, text, said),
-        Part::Other => other_said(header, text, said),
-        Part::Third => third_said(header, text, said),
-        Part::Centres => match u8_in(MOST_CENTRES, text) {
-            Ok(n) => Ok(Said { n, k: 1, ..said }),
-            Err(why) => Err(why),
-        },
-        Part::Stable => match u8_in(said.n, text) {
-            Ok(k) => Ok(Said { k, ..said }),
-            Err(why) => Err(why),
-        },
-        Part::Count { least, most } => match u32_in(least, most, text) {
-            Ok(count) => Ok(Said { count, ..said }),
-            Err(why) => Err(why),
-        },
-        Part::Commit => match number_in(1, MOST_NUMBER, text) {
-            Ok(number) => Ok(Said { number, ..said }),
-            Err(why) => Err(why),
-        },
-        Part::Delta => match delta_in(text) {
-            Ok(delta) => Ok(Said { delta, ..said }),
-            Err(why) => Err(why),
-        },
-        Part::Object => match object_named(text) {
-            Some(object) => Ok(Said { object, ..said }),
-            None => Err(Cause::Name),
-        },
-        Part::Summand => match summand_in(text) {
-            Ok(summand) => Ok(Said { summand, ..said }),
-            Err(why) => Err(why),
-        },
-        Part::Bounded => match bounded_in(text) {
-            Ok(name) => Ok(with_counter(name, said)),
-            Err(why) => Err(why),
-        },
-        Part::Amount => match number_in(1, MOST_DELTA, text) {
-            Ok(amount) => Ok(Said { amount, ..said }),
-            Err(why) => Err(why),
-        },
-        Part::Key => match name_said(text) {
-            Ok(key) => Ok(Said { key, ..said }),
-            Err(why) => Err(why),
-        },
-        Part::Name => match name_said(text) {
-            Ok(word) => Ok(Said { word, ..said }),
-            Err(why) => Err(why),
-        },
+    let mut said = said;
+    match say(header, part, text, &mut said) {
+        Ok(()) => Ok(said),
+        Err(why) => Err(why),
     }
 }
 
-// The client whose number stands behind the first letter.
+// Takes what a word says in the place of a part.
 #[tactic(auto, unfolding(crate::specs::Said::said_word))]
-fn client_said(header: Option<Header>, text: &[u8], said: Said) -> Result<Said, Cause>
-    ensures { result ≡ said_word header Part.Client text.now said }
+fn say(header: Option<Header>, part: Part, text: &[u8], said: &mut Said) -> Result<(), Cause>
+    ensures { said_behind result said.new ≡ said_word header part text.now said.old }
+{
+    match part {
+        Part::Fixed(_) => {}
+        Part::Client => say_client(header, text, said)?,
+        Part::Holder => say_holder(header, text, said)?,
+        Part::OtherHolder => say_to(header, text, said)?,
+        Part::Centre => say_centre(header, text, said)?,
+        Part::Other => say_other(header, text, said)?,
+        Part::Third => say_third(header, text, said)?,
+        Part::Centres => {
+            said.n = u8_in(MOST_CENTRES, text)?;
+            said.k = 1;
+        }
+        Part::Stable => said.k = u8_in(said.n, text)?,
+        Part::Count { least, most } => said.count = u32_in(least, most, text)?,
+        Part::Commit => said.number = number_in(1, MOST_NUMBER, text)?,
+        Part::Delta => said.delta = delta_in(text)?,
+        Part::Object => match object_named(text) {
+            Some(object) => said.object = object,
+            None => return Err(Cause::Name),
+        },
+        Part::Summand => said.summand = summand_in(text)?,
+        Part::Bounded => said.share.name = bounded_in(text)?,
+        Part::Amount => said.amount = number_in(1, MOST_DELTA, text)?,
+        Part::Key => said.key = name_said(text)?,
+        Part::Name => said.word = name_said(text)?,
+    }
+    Ok(())
+}
+
+// Takes the client whose number stands behind the first letter.
+#[tactic(auto, unfolding(crate::specs::Said::said_word))]
+fn say_client(header: Option<Header>, text: &[u8], said: &mut Said) -> Result<(), Cause>
+    ensures { said_behind result said.new ≡ said_word header Part.Client text.now said.old }
 {
     let digits = behind_first(text);
     match header {
-        Some(header) => match u32_in(1, header.clients, digits) {
-            Ok(client) => Ok(Said { client, ..said }),
-            Err(why) => Err(why),
-        },
-        None => early(said, digits),
+        Some(header) => said.client = u32_in(1, header.clients, digits)?,
+        None => early(digits)?,
     }
+    Ok(())
 }
 
-// The client whose number stands behind the first letter, as a holder of bounded counters.
+// Takes the client whose number stands behind the first letter, as a holder of bounded counters.
 #[tactic(auto, unfolding(crate::specs::Said::said_word))]
-fn holder_said(header: Option<Header>, text: &[u8], said: Said) -> Result<Said, Cause>
-    ensures { result ≡ said_word header Part.Holder text.now said }
+fn say_holder(header: Option<Header>, text: &[u8], said: &mut Said) -> Result<(), Cause>
+    ensures { said_behind result said.new ≡ said_word header Part.Holder text.now said.old }
 {
-    let number = behind_first(text);
+    let digits = behind_first(text);
     match header {
         Some(header) => {
             let holders = holders_of(header.clients);
-            match u8_in(holders, number) {
-                Ok(holder) => Ok(with_holder(holders, holder, said)),
-                Err(why) => Err(why),
-            }
+            let holder = u8_in(holders, digits)?;
+            said.client = u32::from(holder);
+            said.share.holder = holder;
+            said.share.holders = holders;
         }
-        None => early(said, number),
+        None => early(digits)?,
     }
+    Ok(())
 }
 
-// What is said with a client that is one of so many holders.
-fn with_holder(holders: u8, holder: u8, said: Said) -> Said
-    ensures { result ≡ with_holder said holders holder }
-{
-    Said {
-        client: u32::from(holder),
-        share: Share {
-            holder,
-            holders,
-            ..said.share
-        },
-        ..said
-    }
-}
-
-// The holder of a number, which is another one than the client.
+// Takes the holder of a number, which is another one than the client.
 #[tactic(auto, unfolding(crate::specs::Said::said_word))]
-fn to_said(header: Option<Header>, text: &[u8], said: Said) -> Result<Said, Cause>
-    ensures { result ≡ said_word header Part.OtherHolder text.now said }
+fn say_to(header: Option<Header>, text: &[u8], said: &mut Said) -> Result<(), Cause>
+    ensures { said_behind result said.new ≡ said_word header Part.OtherHolder text.now said.old }
 {
     match header {
-        Some(_) => match u8_in(said.share.holders, text) {
-            Ok(to) => {
-                if to == said.share.holder {
-                    Err(Cause::Range)
-                } else {
-                    Ok(Said { to, ..said })
-                }
+        Some(_) => {
+            let to = u8_in(said.share.holders, text)?;
+            if to == said.share.holder {
+                return Err(Cause::Range);
             }
-            Err(why) => Err(why),
-        },
-        None => early(said, text),
+            said.to = to;
+        }
+        None => early(text)?,
     }
-}
-
-// What is said with a bounded counter.
-fn with_counter(name: Name, said: Said) -> Said
-    ensures { result ≡ with_counter said name }
-{
-    let share = Share { name, ..said.share };
-    Said { share, ..said }
+    Ok(())
 }
 
 // What stands behind the first byte.
@@ -245,58 +204,52 @@ fn behind_first(text: &[u8]) -> &[u8]
     }
 }
 
-// The centre of a number.
+// Takes the centre of a number.
 #[tactic(auto, unfolding(crate::specs::Said::said_word))]
-fn centre_said(header: Option<Header>, text: &[u8], said: Said) -> Result<Said, Cause>
-    ensures { result ≡ said_word header Part.Centre text.now said }
+fn say_centre(header: Option<Header>, text: &[u8], said: &mut Said) -> Result<(), Cause>
+    ensures { said_behind result said.new ≡ said_word header Part.Centre text.now said.old }
 {
     match header {
-        Some(header) => match u8_in(header.n, text) {
-            Ok(centre) => Ok(Said { centre, ..said }),
-            Err(why) => Err(why),
-        },
-        None => early(said, text),
+        Some(header) => said.centre = u8_in(header.n, text)?,
+        None => early(text)?,
     }
+    Ok(())
 }
 
-// The centre of a number, which is another one than the centre before.
+// Takes the centre of a number, which is another one than the centre before.
 #[tactic(auto, unfolding(crate::specs::Said::said_word))]
-fn other_said(header: Option<Header>, text: &[u8], said: Said) -> Result<Said, Cause>
-    ensures { result ≡ said_word header Part.Other text.now said }
+fn say_other(header: Option<Header>, text: &[u8], said: &mut Said) -> Result<(), Cause>
+    ensures { said_behind result said.new ≡ said_word header Part.Other text.now said.old }
 {
     match header {
-        Some(header) => match u8_in(header.n, text) {
-            Ok(other) => {
-                if other == said.centre {
-                    Err(Cause::Range)
-                } else {
-                    Ok(Said { other, ..said })
-                }
+        Some(header) => {
+            let other = u8_in(header.n, text)?;
+            if other == said.centre {
+                return Err(Cause::Range);
             }
-            Err(why) => Err(why),
-        },
-        None => early(said, text),
+            said.other = other;
+        }
+        None => early(text)?,
     }
+    Ok(())
 }
 
-// The centre of a number, which is another one than the two centres before.
+// Takes the centre of a number, which is another one than the two centres before.
 #[tactic(auto, unfolding(crate::specs::Said::said_word))]
-fn third_said(header: Option<Header>, text: &[u8], said: Said) -> Result<Said, Cause>
-    ensures { result ≡ said_word header Part.Third text.now said }
+fn say_third(header: Option<Header>, text: &[u8], said: &mut Said) -> Result<(), Cause>
+    ensures { said_behind result said.new ≡ said_word header Part.Third text.now said.old }
 {
     match header {
-        Some(header) => match u8_in(header.n, text) {
-            Ok(third) => {
-                if third == said.centre || third == said.other {
-                    Err(Cause::Range)
-                } else {
-                    Ok(Said { third, ..said })
-                }
+        Some(header) => {
+            let third = u8_in(header.n, text)?;
+            if third == said.centre || third == said.other {
+                return Err(Cause::Range);
             }
-            Err(why) => Err(why),
-        },
-        None => early(said, text),
+            said.third = third;
+        }
+        None => early(text)?,
     }
+    Ok(())
 }
 
 /// What the words of a text say in the places of these parts; or why the first of them may not that is at fault.
@@ -309,7 +262,7 @@ pub fn said_words(header: Option<Header>, parts: &[Part], text: &[u8]) -> Result
     for part in parts {
         match first_word(rest) {
             Some((word, more)) => {
-                said = said_word(header, *part, word, said)?;
+                say(header, *part, word, &mut said)?;
                 rest = more;
             }
             None => return Ok(said),
