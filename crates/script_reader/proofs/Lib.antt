@@ -4,6 +4,7 @@ pub mod Digits
 pub mod NameTests
 pub mod CellTests
 pub mod Fitting
+pub mod Sieving
 pub mod Saying
 pub mod Onward
 pub mod CutOff

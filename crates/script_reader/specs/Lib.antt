@@ -5,6 +5,7 @@ pub mod Names
 pub mod Shares
 pub mod Forms
 pub mod Fits
+pub mod Leads
 pub mod Said
 pub mod Rows
 pub mod Readings

@@ -6,6 +6,7 @@ ghost use Rattle.script_reader.specs.Words.{words_of};
 
 use crate::fault::Cause;
 use crate::form::{FORMS, Form, Part, parts, spelled};
+use crate::leads::{client_forms, first_letter, forms_from};
 use crate::numbers::are_digits;
 use crate::words::first_word;
 
@@ -93,13 +94,26 @@ fn form_among(forms: &[Form], first: &[u8], more: &[u8]) -> Result<Form, Cause>
     Err(why)
 }
 
+// The forms that words may have, of which the first was cut off: no other form has its fixed words in their places.
+fn near_forms(first: &[u8], more: &[u8]) -> &'static [Form]
+    ensures { form_among result.now (first.now ∷ words_of more.now) ≡ form_of (first.now ∷ words_of more.now) }
+{
+    if !is_client_word(first) {
+        return forms_from(first_letter(first));
+    }
+    match first_word(more) {
+        Some((verb, _)) => client_forms(first_letter(verb)),
+        None => &FORMS,
+    }
+}
+
 /// The form of the words of a text; or why they have none.
 #[tactic(auto, unfolding(crate::specs::Forms::form_among))]
 pub fn form_of(text: &[u8]) -> Result<Form, Cause>
     ensures { result ≡ form_of (words_of text.now) }
 {
     match first_word(text) {
-        Some((first, more)) => form_among(&FORMS, first, more),
+        Some((first, more)) => form_among(near_forms(first, more), first, more),
         None => Err(Cause::Count),
     }
 }

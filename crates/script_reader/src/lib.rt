@@ -6,6 +6,7 @@ mod fault;
 mod fit;
 mod form;
 mod laws;
+mod leads;
 mod lines;
 mod names;
 mod numbers;

@@ -1,0 +1,59 @@
+// The forms that words may have, by the letter that their first fixed word begins with.
+ghost use Rattle.std.specs.Prelude.{◌≡◌, slice_index};
+ghost use Rattle.script_reader.specs.Leads.{client_forms, forms_from};
+
+use crate::form::Form;
+
+/// The first letter of a word, or 0 where it has none.
+pub fn first_letter(word: &[u8]) -> u8
+    ensures { result ≡ slice_index word.now 0 }
+{
+    if word.is_empty() { 0 } else { word[0] }
+}
+
+/// The forms whose first word is a fixed one that begins with this letter.
+#[tactic(auto, unfolding(crate::specs::Leads::forms_from))]
+pub fn forms_from(letter: u8) -> &'static [Form]
+    ensures { result.now ≡ forms_from letter }
+{
+    match letter {
+        b'c' => &[Form::Centres, Form::Clients, Form::Cache],
+        b'd' => &[Form::Down],
+        b'e' => &[Form::End],
+        b'l' => &[
+            Form::Limit,
+            Form::LinkDrop,
+            Form::LinkTwice,
+            Form::LinkHold,
+            Form::LinkClean,
+        ],
+        b'p' => &[Form::Prune, Form::Phase],
+        b'r' => &[Form::Rounds, Form::Relay],
+        b's' => &[Form::ShipOne, Form::Ship, Form::Settle],
+        b't' => &[Form::Threads, Form::Tell],
+        b'u' => &[Form::Up],
+        _ => &[],
+    }
+}
+
+/// The forms of a client's steps whose second word, the fixed one, begins with this letter.
+#[tactic(auto, unfolding(crate::specs::Leads::client_forms))]
+pub fn client_forms(letter: u8) -> &'static [Form]
+    ensures { result.now ≡ client_forms letter }
+{
+    match letter {
+        b'a' => &[Form::Add, Form::Abort, Form::Again],
+        b'b' => &[Form::Begin],
+        b'c' => &[Form::Connect, Form::Commit],
+        b'd' => &[Form::Del, Form::Drop],
+        b'f' => &[Form::Flush],
+        b'g' => &[Form::Grant, Form::Give],
+        b'i' => &[Form::Inc],
+        b'l' => &[Form::LoseAsk, Form::LoseReply],
+        b'p' => &[Form::Put, Form::Push],
+        b'r' => &[Form::Read, Form::Rights, Form::Refresh],
+        b's' => &[Form::Set],
+        b't' => &[Form::Take, Form::AskTwice],
+        _ => &[],
+    }
+}
