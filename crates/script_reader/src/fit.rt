@@ -107,13 +107,20 @@ fn near_forms(first: &[u8], more: &[u8]) -> &'static [Form]
     }
 }
 
+/// The form of words, of which the first was cut off; or why they have none.
+pub fn form_behind(first: &[u8], more: &[u8]) -> Result<Form, Cause>
+    ensures { result ≡ form_of (first.now ∷ words_of more.now) }
+{
+    form_among(near_forms(first, more), first, more)
+}
+
 /// The form of the words of a text; or why they have none.
 #[tactic(auto, unfolding(crate::specs::Forms::form_among))]
 pub fn form_of(text: &[u8]) -> Result<Form, Cause>
     ensures { result ≡ form_of (words_of text.now) }
 {
     match first_word(text) {
-        Some((first, more)) => form_among(near_forms(first, more), first, more),
+        Some((first, more)) => form_behind(first, more),
         None => Err(Cause::Count),
     }
 }

@@ -1,13 +1,14 @@
 // What a line says that is not skipped.
-ghost use Rattle.std.specs.Prelude.{◌≡◌};
+ghost use Rattle.std.specs.Prelude.{◌≡◌, ◌∷◌};
 ghost use Rattle.script_reader.specs.Rows.{change_row, client_row, inc_row, is_of_its_kind, is_of_kind, link_row, operator_row, row_in, row_in_text, row_in_words, row_of};
 ghost use Rattle.script_reader.specs.Words.{words_of};
 
 use crate::fault::Cause;
-use crate::fit::form_of;
+use crate::fit::form_behind;
 use crate::form::{Form, parts};
-use crate::said::{Said, said_words};
-use crate::words::{is_plain_text, is_skipped, without_return};
+use crate::leads::first_letter;
+use crate::said::{Said, say_all};
+use crate::words::{first_word, is_plain_text, without_return};
 use dc_talk::{Change, LinkFault};
 use script_core::{AskFault, ClientStep, Header, MAX_LINE, MAX_LINES, OperatorStep, Step};
 
@@ -253,23 +254,18 @@ fn is_of_its_kind(row: &Row) -> bool
     }
 }
 
-// What the words of a text say behind this header, or before one.
-fn row_in_words(header: Option<Header>, text: &[u8]) -> Result<Option<Row>, Cause>
-    ensures { result ≡ row_in_words header (words_of text.now) }
+// What words, of which the first was cut off, say behind this header, or before one.
+fn row_in_words(header: Option<Header>, first: &[u8], more: &[u8]) -> Result<Option<Row>, Cause>
+    ensures { result ≡ row_in_words header (first.now ∷ words_of more.now) }
 {
-    match form_of(text) {
-        Ok(form) => match said_words(header, parts(form), text) {
-            Ok(said) => {
-                let row = row_of(form, &said);
-                if is_of_its_kind(&row) {
-                    Ok(Some(row))
-                } else {
-                    Err(Cause::Kind)
-                }
-            }
-            Err(why) => Err(why),
-        },
-        Err(why) => Err(why),
+    let form = form_behind(first, more)?;
+    let mut said = Said::nothing();
+    say_all(header, parts(form), first, more, &mut said)?;
+    let row = row_of(form, &said);
+    if is_of_its_kind(&row) {
+        Ok(Some(row))
+    } else {
+        Err(Cause::Kind)
     }
 }
 
@@ -278,13 +274,18 @@ fn row_in_words(header: Option<Header>, text: &[u8]) -> Result<Option<Row>, Caus
 fn row_in_text(header: Option<Header>, text: &[u8]) -> Result<Option<Row>, Cause>
     ensures { result ≡ row_in_text header text.now }
 {
-    if is_skipped(text) {
-        return Ok(None);
+    match first_word(text) {
+        Some((first, more)) => {
+            if first_letter(first) == b'#' {
+                return Ok(None);
+            }
+            if !is_plain_text(text) {
+                return Err(Cause::Byte);
+            }
+            row_in_words(header, first, more)
+        }
+        None => Ok(None),
     }
-    if !is_plain_text(text) {
-        return Err(Cause::Byte);
-    }
-    row_in_words(header, text)
 }
 
 /// What the line of this number says, behind this header, or before one; nothing where it is skipped; or why it is

@@ -1,5 +1,5 @@
 // What the words of a line say.
-ghost use Rattle.std.specs.Prelude.{◌≡◌, drop, codes, if◌then◌else◌};
+ghost use Rattle.std.specs.Prelude.{◌≡◌, ◌∷◌, drop, codes, if◌then◌else◌};
 ghost use Rattle.obj_bounded.specs.CellNames.{counter_of};
 ghost use Rattle.script_reader.specs.Numbers.{is_number};
 ghost use Rattle.script_reader.specs.Said.{said_behind, said_word, said_words, unsaid};
@@ -160,16 +160,16 @@ fn say_client(header: Option<Header>, text: &[u8], said: &mut Said) -> Result<()
 fn say_holder(header: Option<Header>, text: &[u8], said: &mut Said) -> Result<(), Cause>
     ensures { said_behind result said.new ≡ said_word header Part.Holder text.now said.old }
 {
-    let digits = behind_first(text);
+    let number = behind_first(text);
     match header {
         Some(header) => {
             let holders = holders_of(header.clients);
-            let holder = u8_in(holders, digits)?;
+            let holder = u8_in(holders, number)?;
             said.client = u32::from(holder);
             said.share.holder = holder;
             said.share.holders = holders;
         }
-        None => early(digits)?,
+        None => early(number)?,
     }
     Ok(())
 }
@@ -252,21 +252,44 @@ fn say_third(header: Option<Header>, text: &[u8], said: &mut Said) -> Result<(),
     Ok(())
 }
 
-/// What the words of a text say in the places of these parts; or why the first of them may not that is at fault.
+// Takes what the words of a text say in the places of these parts, up to the first that may not.
 #[tactic(auto, using(crate::proofs::Saying::said_none))]
-pub fn said_words(header: Option<Header>, parts: &[Part], text: &[u8]) -> Result<Said, Cause>
-    ensures { result ≡ said_words header parts.now (words_of text.now) unsaid }
+fn say_words(
+    header: Option<Header>,
+    parts: &[Part],
+    text: &[u8],
+    said: &mut Said,
+) -> Result<(), Cause>
+    ensures { said_behind result said.new ≡ said_words header parts.now (words_of text.now) said.old }
 {
-    let mut said = Said::nothing();
     let mut rest = text;
     for part in parts {
         match first_word(rest) {
             Some((word, more)) => {
-                say(header, *part, word, &mut said)?;
+                say(header, *part, word, said)?;
                 rest = more;
             }
-            None => return Ok(said),
+            None => return Ok(()),
         }
     }
-    Ok(said)
+    Ok(())
+}
+
+/// Takes what words, of which the first was cut off, say in the places of these parts, up to the first that may not.
+pub fn say_all(
+    header: Option<Header>,
+    parts: &[Part],
+    first: &[u8],
+    more: &[u8],
+    said: &mut Said,
+) -> Result<(), Cause>
+    ensures { said_behind result said.new ≡ said_words header parts.now (first.now ∷ words_of more.now) said.old }
+{
+    match parts {
+        [part, others @ ..] => {
+            say(header, *part, first, said)?;
+            say_words(header, others, more, said)
+        }
+        [] => Ok(()),
+    }
 }

@@ -1,6 +1,6 @@
 // The words of a line.
 ghost use Rattle.std.specs.Prelude.{◌≡◌, [], ◌∷◌, ◌++◌, ℕ, All, true, false, IfSome, IfNone};
-ghost use Rattle.script_reader.specs.Words.{is_blank, is_comment, is_plain, is_plain_text, without_return, words_of};
+ghost use Rattle.script_reader.specs.Words.{is_blank, is_plain, is_plain_text, without_return, words_of};
 
 /// A space or a tab.
 pub fn is_blank(byte: u8) -> bool
@@ -62,14 +62,4 @@ pub fn is_plain_text(text: &[u8]) -> bool
     ensures { result ≡ is_plain_text text.now }
 {
     text.iter().all(|byte| is_plain(*byte))
-}
-
-/// Whether a line is skipped: it has no words, or the first one begins with `#`.
-pub fn is_skipped(text: &[u8]) -> bool
-    ensures { result ≡ is_comment (words_of text.now) }
-{
-    match first_word(text) {
-        Some((word, _)) => !word.is_empty() && word[0] == b'#',
-        None => true,
-    }
 }
