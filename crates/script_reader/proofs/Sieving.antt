@@ -1,5 +1,5 @@
 -- The form of words, found among some of all forms: none of the others has its fixed words in their places.
-use Rattle.std.proofs.Common.{◌≡◌, ℕ, Bool, true, false, List, [], ◌∷◌, refl, ap, sym, ◌∙◌, get_or}
+use Rattle.std.proofs.Common.{◌≡◌, ℕ, Bool, true, false, List, [], ◌∷◌, refl, ap, sym, ◌∙◌}
 use Rattle.std.specs.Prelude.{◌&&◌, ◌||◌, ◌==◌, not, cond, find, filter, slice_index, Some, None, bytes_eq}
 use Rattle.std.specs.List.{list_any, list_all}
 use Rattle.std.proofs.lemmas.Bool.{false≢true, eq-eqb}
@@ -7,8 +7,8 @@ use Rattle.std.proofs.lemmas.Slice.Eq.{bytes_eq-Decides}
 use Rattle.script_reader.specs.declared.form.Part.{Part}
 use Rattle.script_reader.specs.declared.form.Part.TheVariants.{Fixed, Client, Holder}
 use Rattle.script_reader.specs.declared.form.Form.{Form}
-use Rattle.script_reader.specs.Forms.{agrees, fits, found, form_among, form_of, forms, is_client_word, may_be, parts_of, word_text}
-use Rattle.script_reader.specs.Leads.{client_forms, first_fixed, forms_from, lead, names_client}
+use Rattle.script_reader.specs.Forms.{agrees, fits, found, form_among, form_of, forms, is_client_word, parts_of, word_text}
+use Rattle.script_reader.specs.Leads.{client_forms, forms_from, lead, names_client}
 
 -- what a test keeps is all that another one passes of elements of a sort
 record Keeps {X : Type 0} (sort keeps passes : X → Bool) : Type 0 where

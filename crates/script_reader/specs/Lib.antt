@@ -7,6 +7,7 @@ pub mod Forms
 pub mod Fits
 pub mod Leads
 pub mod Said
+pub mod Saying
 pub mod Rows
 pub mod Readings
 pub mod Lines

@@ -98,11 +98,6 @@ said_word header Amount text said = with_said (λ amount. record said { amount =
 said_word header Key text said = with_name (λ key. record said { key = key }) text
 said_word header Name text said = with_name (λ word. record said { word = word }) text
 
--- what is said behind a word that was taken, or why it was not
-abbrev pub said_behind : {U : Type 0} → Result U Cause → Said → Result Said Cause
-said_behind (Ok u) said = Ok said
-said_behind (Err why) said = Err why
-
 -- from left to right: the first word that is refused decides
 abbrev pub said_words : Option Header → List Part → List (List ℕ) → Said → Result Said Cause
 said_words header [] texts said = Ok said

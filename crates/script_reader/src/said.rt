@@ -2,7 +2,8 @@
 ghost use Rattle.std.specs.Prelude.{◌≡◌, ◌∷◌, drop, codes, if◌then◌else◌};
 ghost use Rattle.obj_bounded.specs.CellNames.{counter_of};
 ghost use Rattle.script_reader.specs.Numbers.{is_number};
-ghost use Rattle.script_reader.specs.Said.{said_behind, said_word, said_words, unsaid};
+ghost use Rattle.script_reader.specs.Said.{said_word, said_words, unsaid};
+ghost use Rattle.script_reader.specs.Saying.{said_behind};
 ghost use Rattle.script_reader.specs.Words.{words_of};
 
 use crate::fault::Cause;
