@@ -1,0 +1,135 @@
+#!/bin/sh
+# Counts the instructions that `swift_sim serial` takes for a line of a script, and for an ask of `settle` among eight
+# centres that have nothing to ship, to relay or to tell, with the built program, and prints the rows of the table in
+# docs/benchmarks.md. The counts are those of valgrind's callgrind, which do not vary. Each row is the difference of two
+# runs of one kind of script over that of their lines, or of their asks, so that the start and the end of a run drop
+# out. The bounds are those of a program that is compiled without its proof. The status is 1 where a row has more than
+# its bound, or the program gives a wrong end.
+#   bench/instructions.sh                counts crates/swift_sim/out/swift_sim
+#   bench/instructions.sh KIND..         counts these rows alone: aborts, blocks, mixed, settle
+#   SWIFT_SIM=FILE bench/instructions.sh         counts another program
+set -u
+root=$(cd "$(dirname "$0")/.." && pwd) || exit 1
+program=${SWIFT_SIM:-$root/crates/swift_sim/out/swift_sim}
+. "$root/bench/timing.sh"
+
+# aborts COUNT: a script of so many transactions of one change that are given up.
+aborts() {
+    awk -v count="$1" 'BEGIN {
+        print "centres 1 k 1\nclients 1"
+        for (number = 1; number <= count; number++) print "c1 begin\nc1 inc c.total 1\nc1 abort"
+        print "c1 read r.end"
+    }'
+}
+
+# blocks COUNT: a script of so many transactions that read, and that are sent before a new snapshot.
+blocks() {
+    awk -v count="$1" 'BEGIN {
+        print "centres 1 k 1\nclients 1\nc1 connect 1"
+        for (number = 1; number <= count; number++)
+            print "c1 begin\nc1 inc c.total 1\nc1 read c.total\nc1 commit\nc1 push\nc1 refresh"
+        print "c1 read r.end"
+    }'
+}
+
+# mixed COUNT: a script of two centres and two clients with so many lines in no order: changes and reads of objects of
+# all kinds, steps of sessions, lost asks, centres that stop, shipments, tells, prunes, comments and lines without words.
+mixed() {
+    awk -v count="$1" '
+        # A number from 1 to MOST, the next of a fixed row of them.
+        function any(most) {
+            seed = (seed * 16807) % 2147483647
+            return int(seed / 2147483647 * most) + 1
+        }
+        function one_of(words, list) {
+            return list[any(split(words, list, ","))]
+        }
+        function change() {
+            return one_of("inc c.,set r.,add s.,del s.,put m.,drop m.") one_of("a,b,c")
+        }
+        function completed(line) {
+            if (line ~ /^inc/) return line " " one_of("1,-1,7,1000000000000")
+            if (line ~ /^put/) return line " k" any(3) " w" any(4)
+            if (line ~ /^drop/) return line " k" any(3)
+            return line " w" any(4)
+        }
+        # A step of a client.
+        function step(at) {
+            at = any(150)
+            if (at <= 39) return completed(change())
+            if (at <= 77) return "read " one_of("c.,r.,s.,m.") one_of("a,b,c")
+            if (at <= 92) return "begin"
+            if (at <= 107) return "commit"
+            if (at <= 125) return one_of("push,push,push,flush")
+            if (at <= 136) return "refresh"
+            if (at <= 140) return "connect " any(2)
+            if (at <= 147) return one_of("lose ask,lose reply,twice")
+            return one_of("abort,again " any(2) " " any(9))
+        }
+        # A step of the operator.
+        function operated(from, at) {
+            from = any(2)
+            at = any(205)
+            if (at <= 97) return "ship " from " " 3 - from (at <= 40 ? " " any(9) : "")
+            if (at <= 168) return "tell " from " " 3 - from
+            if (at <= 185) return "prune " from
+            return (at <= 188 ? "down " : "up ") from
+        }
+        BEGIN {
+            seed = 7
+            print "centres 2 k 2\nclients 2\nc1 connect 1\nc2 connect 2"
+            for (number = 1; number <= count; number++)
+                print any(50) == 1 ? one_of("# a comment,,  # another,\t") : any(2) == 1 ? "c" any(2) " " step() : operated()
+            print "up 1\nup 2\nc1 abort\nc1 connect 1\nsettle\nc1 refresh\nc1 read r.end"
+        }'
+}
+
+# settle COUNT: a script of eight centres that stamp 100 records each, which the first of COUNT passes of `settle`
+# carries to all, while the others have nothing to do.
+settle() {
+    awk -v count="$1" 'BEGIN {
+        print "centres 8 k 1\nclients 8"
+        for (i = 1; i <= 8; i++) print "c" i " connect " i
+        for (number = 1; number <= 100; number++)
+            for (i = 1; i <= 8; i++) print "c" i " begin\nc" i " inc c.total 1\nc" i " commit\nc" i " push"
+        for (number = 1; number <= count; number++) print "settle"
+        print "c1 read r.end"
+    }'
+}
+
+# counted KIND COUNT: plays the script and gives the instructions. Its last line has to read what nobody wrote, or of
+# `aborts`, whose client is at no centre, nothing.
+counted() {
+    "$1" "$2" >"$room/script"
+    valgrind --tool=callgrind --callgrind-out-file=/dev/null "$program" serial <"$room/script" >"$room/out" 2>"$room/said" || return 1
+    case $(tail -n 1 "$room/out") in
+    'c1 read r.end -' | 'c1 read r.end unconnected') sed -n 's/^==[0-9]*== Collected : //p' "$room/said" ;;
+    *) return 1 ;;
+    esac
+}
+
+# instructions KIND FEW MANY UNITS BOUND: prints the row of scripts of FEW and of MANY of their kind, of which each one
+# more is so many units. The status of the script is 1 where a unit takes more instructions than the bound.
+instructions() {
+    few=$(counted "$1" "$2") || wrong "$1" "$2"
+    many=$(counted "$1" "$3") || wrong "$1" "$3"
+    awk -v kind="$1" -v took=$((many - few)) -v units=$((($3 - $2) * $4)) -v bound="$5" 'BEGIN {
+        printf "| %s | %d | %.0f | %d |\n", kind, units, took / units, bound
+        exit took > bound * units
+    }' || status=1
+}
+
+head_of kind 'lines or asks' 'instructions of one' 'at most'
+for kind in ${*:-aborts blocks mixed settle}; do
+    case $kind in
+    aborts) instructions aborts 1000 2000 3 4700 ;;
+    blocks) instructions blocks 1000 2000 6 11200 ;;
+    mixed) instructions mixed 4000 8000 1 8900 ;;
+    settle) instructions settle 1 11 224 6700 ;;
+    *)
+        echo "$kind is no kind of row" >&2
+        exit 1
+        ;;
+    esac
+done
+exit "$status"
