@@ -48,30 +48,6 @@ run() {
     timed "$1" <"$room/script" && [ "$(tail -n 1 "$room/out")" = "c1 read c.total 1" ]
 }
 
-# processor: the least processor time of three plays of the script by `run`, in microseconds.
-processor() {
-    python3 - "$program" "$room/script" <<'END'
-import resource
-import subprocess
-import sys
-
-
-def used():
-    usage = resource.getrusage(resource.RUSAGE_CHILDREN)
-    return usage.ru_utime + usage.ru_stime
-
-
-def play():
-    before = used()
-    with open(sys.argv[2], "rb") as script:
-        subprocess.run([sys.argv[1], "run"], stdin=script, stdout=subprocess.DEVNULL, check=True)
-    return used() - before
-
-
-print(round(min(play() for _ in range(3)) * 1_000_000))
-END
-}
-
 # table KIND: the rows of one script.
 table() {
     head_of "$1: form" lines seconds 'ratio to serial'
@@ -92,9 +68,9 @@ one_operator "$count" >"$room/script"
 table 'lines of the operator'
 phases=100
 no_lines 0 >"$room/script"
-none=$(processor) || wrong no phase
+none=$(processor 3 run) || wrong no phase
 no_lines "$phases" >"$room/script"
-all=$(processor) || wrong "$phases" phases
+all=$(processor 3 run) || wrong "$phases" phases
 head_of 'phases without a line' 'milliseconds of processor for each'
 awk -v phases="$phases" -v all="$all" -v none="$none" 'BEGIN {
     each = (all - none) / phases

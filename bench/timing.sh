@@ -33,6 +33,33 @@ least() {
     echo "$best"
 }
 
+# processor RUNS WORD..: the least processor time of so many runs by these words over the file 'script', in
+# microseconds. What a run prints is in the file 'out'.
+processor() {
+    python3 - "$room" "$program" "$@" <<'END'
+import resource
+import subprocess
+import sys
+
+room, program, runs, *words = sys.argv[1:]
+
+
+def used():
+    usage = resource.getrusage(resource.RUSAGE_CHILDREN)
+    return usage.ru_utime + usage.ru_stime
+
+
+def play():
+    before = used()
+    with open(room + "/script", "rb") as script, open(room + "/out", "wb") as out:
+        subprocess.run([program, *words], stdin=script, stdout=out, check=True)
+    return used() - before
+
+
+print(round(min(play() for _ in range(int(runs))) * 1_000_000))
+END
+}
+
 # head_of COLUMN..: the first two lines of a table.
 head_of() {
     printf '|'
