@@ -8,7 +8,7 @@ mod source;
 mod std_streams;
 mod steady;
 
-pub use gate::{FreeGate, Gate};
+pub use gate::{Call, CallToken, FreeGate, Gate};
 pub use memory::{MemorySink, MemorySource};
 pub use sink::{Sink, WriteFault};
 pub use source::{Failed, Source};
