@@ -1,5 +1,5 @@
 // A machine that threads share under a lock, each caller with a pass.
-ghost use Rattle.std.specs.Prelude.{◌≡◌, ℕ, ◌<◌, ◌≤◌, ◌++◌, ◌∷◌, [], length, List, Some, true, Ok, IfOk, OnOk, OnErr};
+ghost use Rattle.std.specs.Prelude.{◌≡◌, ℕ, ◌<◌, ◌≤◌, ◌-◌, ◌^◌, ◌++◌, ◌∷◌, [], length, min, List, Some, true, Ok, IfOk, OnOk, OnErr};
 ghost use Rattle.machine_trail.specs.History.{IsKept};
 ghost use Rattle.host_lock.specs.Law.{maker};
 ghost use Rattle.host_lock.specs.Steps.{IsLockTable};
@@ -22,17 +22,27 @@ use std::sync::Wait;
 pub struct Pass<M: Machine> {
     seat: LockSeat<M>,
     number: u32,
+    calls: u64,
 }
 
 impl<M: Machine> Model for Pass<M> {
-    ghost use Rattle.std.specs.Prelude.{◌≡◌, []};
+    ghost use Rattle.std.specs.Prelude.{◌≡◌, ◌-◌, ◌^◌, [], length, min};
     ghost use Rattle.host_lock.specs.Hosts.{PassView, pass_view, IsIdle};
 
     ghost Value = { PassView M.Ask M.Say M.Settings };
 
     ghost view = { λ p. pass_view p.seat.table_id p.seat.me.0 };
 
-    ghost invariant = { λ p. IsIdle p.seat.me.0 × (p.number ≡ p.seat.me.0.number) × (p.seat.me.1 ≡ []) };
+    ghost invariant = { λ p. IsIdle p.seat.me.0 × (p.number ≡ p.seat.me.0.number) × (p.seat.me.1 ≡ []) × (p.calls ≡ min (length p.seat.me.0.mine) (2 ^ 64 - 1)) };
+}
+
+impl<M: Machine> Pass<M> {
+    /// How many calls were made with it, counted to 2^64 - 1.
+    pub fn calls(&self) -> u64
+        ensures { result ≡ min (length self.now.mine) (2 ^ 64 - 1) }
+    {
+        self.calls
+    }
 }
 
 /// A machine with its trail under a lock. The trail is the history of what the machine was asked: it begins with
@@ -91,6 +101,7 @@ fn deal<M: Machine>(
         let pass = Pass {
             seat,
             number: i + 1,
+            calls: 0,
         };
         add(&mut passes, pass)?;
     }
@@ -180,7 +191,9 @@ impl<M: Machine> Host<M> {
         ensures none { OnErr result ((found : List ℕ) × (pass.new ≡ record pass.old { found = pass.old.found ++ found })) }
     {
         wait_turn(rt, &self.table.shared, &mut pass.seat, pass.number);
-        call_at_turn(&self.table.shared, &mut pass.seat, pass.number, ask)
+        let say = call_at_turn(&self.table.shared, &mut pass.seat, pass.number, ask)?;
+        pass.calls = pass.calls.saturating_add(1);
+        Ok(say)
     }
 
     /// Tries for the turn once, and where it was free has the machine answer as `call` does. `Busy` comes only where
@@ -195,6 +208,7 @@ impl<M: Machine> Host<M> {
         let found = try_turn(&self.table.shared, &mut pass.seat, pass.number);
         if found == 0 {
             let say = call_at_turn(&self.table.shared, &mut pass.seat, pass.number, ask)?;
+            pass.calls = pass.calls.saturating_add(1);
             Ok(Tried::Done(say))
         } else {
             Ok(Tried::Busy {
@@ -219,11 +233,13 @@ impl<M: Machine> Host<M> {
         let Pass {
             mut seat,
             number: _,
+            calls: _,
         } = last;
         while let Some(pass) = passes.pop() {
             let Pass {
                 seat: spent,
                 number: _,
+                calls: _,
             } = pass;
             table.shared.join_seat::<JoinPass>(&mut seat, spent);
         }
