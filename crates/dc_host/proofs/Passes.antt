@@ -1,6 +1,6 @@
 -- The passes of a door, where a call is made with one of them.
-use Rattle.std.proofs.Common.{◌≡◌, ◌≢◌, ◌≤◌, ◌<◌, ℕ, zero, suc, ◌+◌, ◌^◌, ◌==◌, Bool, true, false, true≢false, List, [], ◌∷◌, ◌++◌, map, length, take, get_or, set, Option, Some, Result, Ok, Err, refl, sym, ap, ◌∙◌, subst, arith, append_assoc, length-append, length-set}
-use Rattle.std.specs.Prelude.{IfOk, OnErr, All, slice_get}
+use Rattle.std.proofs.Common.{◌≡◌, ◌≢◌, ◌≤◌, ◌<◌, ℕ, zero, suc, ◌+◌, ◌^◌, ◌==◌, Bool, true, true≢false, List, [], ◌∷◌, ◌++◌, map, length, take, get_or, set, Option, Some, Result, Ok, Err, refl, sym, ap, ◌∙◌, subst, arith, append_assoc, length-append, length-set}
+use Rattle.std.specs.Prelude.{IfOk, OnErr, slice_get}
 use Rattle.std.specs.List.{AllZip}
 use Rattle.std.proofs.Math.Seq.{map-set_same}
 use Rattle.std.proofs.lemmas.List.Elements.{All-set}
@@ -19,11 +19,7 @@ use Rattle.dc_talk.specs.Entries.{Entry}
 use Rattle.dc_talk.specs.Answers.{IsAnswer}
 use Rattle.dc_talk.specs.Doors.{belongs, HasAsked, HasNotAsked}
 use Rattle.dc_talk.proofs.Belonging.{answer_belongs}
-use Rattle.dc_host.specs.HostDoors.{CentreHost, CentrePass, HostDoorView, pass_at, made_with, seen_with, shown_over, bare, ArePasses, HasCalledAt, HasNotCalledAt}
-
--- the door of this actor with these passes
-abbrev pub door_of : ℕ → List CentrePass → HostDoorView
-door_of actor passes = record { actor = actor; passes = passes }
+use Rattle.dc_host.specs.HostDoors.{CentreHost, CentrePass, pass_at, made_with, seen_with, shown_by, bare, calls_with, counted, ArePasses, HasCalledAt, HasNotCalledAt}
 
 -- ---- passes beside their hosts
 
@@ -87,6 +83,26 @@ module _ (old new : List CentrePass) (place : ℕ) (p q : CentrePass) (there : s
     bares_stay : map bare new ≡ map bare old
     bares_stay = ap (map bare) after ∙ map-set_same bare old place q p (same ∙ ap bare (sym (get_or_from_slice_get old place p p there)))
 
+-- ---- how many calls were made
+
+-- the number behind a number, as it is counted
+pub counted_next : (n : ℕ) → counted (counted n + 1) ≡ counted (n + 1)
+counted_next n = omega arith
+
+-- the number of one call more
+pub counted_more : (step calls old new : ℕ) → step ≡ counted (calls + 1) → calls ≡ counted old → new ≡ old + 1 → step ≡ counted new
+counted_more step calls old new next was more = next ∙ (ap (λ n. counted (n + 1)) was ∙ (counted_next old ∙ ap counted (sym more)))
+
+-- a sum of numbers as they are counted
+pub counted_sum : (m n : ℕ) → counted (counted m + counted n) ≡ counted (m + n)
+counted_sum m n = omega arith
+
+-- where a pass takes the place of one with so many calls less, as many more were made
+calls_set : (ps : List CentrePass) (place : ℕ) (p q : CentrePass) (more : ℕ) → slice_get ps place ≡ Some p → length q.mine ≡ length p.mine + more → calls_with (set ps place q) ≡ calls_with ps + more
+calls_set [] place p q more there long = absurd (omega (arith, slice_get_within [] place p there))
+calls_set (x ∷ ps) zero p q more there long = let same : length x.mine ≡ length p.mine = ap (λ (y : CentrePass). length y.mine) (same_Some x p there) in omega (arith, same, long)
+calls_set (x ∷ ps) (suc k) p q more there long = let rest : calls_with (set ps k q) ≡ calls_with ps + more = calls_set ps k p q more there long in omega (arith, rest)
+
 -- ---- one call
 
 -- no caller has more calls than there are entries
@@ -108,15 +124,19 @@ module _ (old new : List CentrePass) (place : ℕ) (ask : Ask) (say : Say) (has 
   same_pass = ap bare has.called.2
 
   -- the answer is one to the ask
-  call_belongs : belongs ask say ≡ true
+  pub call_belongs : belongs ask say ≡ true
   call_belongs =
       let p = has.pass in let h = has.called.3.1 in
       let all : p.opening ++ (p.since ++ rest) ≡ ((p.opening ++ p.since) ++ has.called.0) ++ own ∷ [] = sym (append_assoc p.opening p.since rest) ∙ sym (append_assoc (p.opening ++ p.since) has.called.0 (own ∷ [])) in
       last_belongs h.0 ((p.opening ++ p.since) ++ has.called.0) own (subst (IsHistory (IsAnswer h.0)) all h.2)
 
+  -- one call more was made
+  pub called_more : calls_with new ≡ calls_with old + 1
+  called_more = ap calls_with has.after ∙ calls_set old place has.pass has.now 1 has.there (ap (λ (x : CentrePass). length x.mine) has.called.2 ∙ length-append has.pass.mine (own ∷ []))
+
   -- the door has been asked
-  called_asked : (actor : ℕ) → has.pass.number ≡ actor → HasAsked (shown_over (door_of actor old)) (shown_over (door_of actor new)) (suc place) (entry actor ask say)
-  called_asked actor number = subst (λ n. HasAsked (shown_over (door_of actor old)) (shown_over (door_of actor new)) (suc place) (entry n ask say)) number
+  called_asked : (actor : ℕ) → has.pass.number ≡ actor → HasAsked (shown_by actor old) (shown_by actor new) (suc place) (entry actor ask say)
+  called_asked actor number = subst (λ n. HasAsked (shown_by actor old) (shown_by actor new) (suc place) (entry n ask say)) number
       (
       let p = has.pass in let q = has.now in let is = has.called.2 in let grows = has.called.3 in
       let here : pass_at new (suc place) ≡ Some q = pass_here old new place p q has.there has.after in
@@ -139,8 +159,16 @@ module _ (old new : List CentrePass) (place : ℕ) (ask : Ask) (say : Say) (has 
       }
       )
 
+-- where no call was made, no more were
+pub none_more : (old new : List CentrePass) (place : ℕ) → HasNotCalledAt old new place → calls_with new ≡ calls_with old
+none_more old new place has =
+    let p = has.pass in
+    let same : length p.mine ≡ length p.mine + 0 = omega arith in
+    let set_it = calls_set old place p (record p { found = p.found ++ has.found }) 0 has.there same in
+    ap calls_with has.after ∙ omega (arith, set_it)
+
 -- where no call was made, nothing was asked
-none_asked : (old new : List CentrePass) (place actor : ℕ) → HasNotCalledAt old new place → HasNotAsked (shown_over (door_of actor old)) (shown_over (door_of actor new))
+pub none_asked : (old new : List CentrePass) (place actor : ℕ) → HasNotCalledAt old new place → HasNotAsked (shown_by actor old) (shown_by actor new)
 none_asked old new place actor has =
     let p = has.pass in let q : CentrePass = record p { found = p.found ++ has.found } in record {
       same = record { actor = refl; centres = number_stays old new place p q has.there has.after; alone = refl };
@@ -182,26 +210,11 @@ module _ {E : Type 0} (hs : List CentreHost) (old new : List CentrePass) (place 
       go (Ok say) has none = bares_stay old new place has.pass has.now has.there has.after (same_pass old new place ask say has)
       go (Err e) has none = bares_stay old new place none.pass (record none.pass { found = none.pass.found ++ none.found }) none.there none.after refl
 
-  -- the answer belongs to the ask
-  pub host_says_its_row : IfOk r (λ say. HasCalledAt old new place ask say) → IfOk r (λ say. belongs ask say ≡ true)
-  host_says_its_row = go r
-    where
-      go : (r : Result Say E) → IfOk r (λ say. HasCalledAt old new place ask say) → IfOk r (λ say. belongs ask say ≡ true)
-      go (Ok say) has = call_belongs old new place ask say has
-      go (Err e) has = tt
+-- the door of these passes has been asked
+pub host_asked : (hs : List CentreHost) (old new : List CentrePass) (place actor : ℕ) (ask : Ask) (say : Say) (i : ℕ) → i ≡ suc place → ArePasses hs actor old → HasCalledAt old new place ask say → HasAsked (shown_by actor old) (shown_by actor new) i (entry actor ask say)
+host_asked hs old new place actor ask say i is are has = subst (λ k. HasAsked (shown_by actor old) (shown_by actor new) k (entry actor ask say)) (sym is) (called_asked old new place ask say has actor (all_get (λ (x : CentrePass). x.number ≡ actor) old place has.pass are.numbered has.there))
 
-  -- the door has been asked
-  pub host_asked : (i : ℕ) → i ≡ suc place → ArePasses hs actor old → IfOk r (λ say. HasCalledAt old new place ask say) → IfOk r (λ say. HasAsked (shown_over (door_of actor old)) (shown_over (door_of actor new)) i (entry actor ask say))
-  host_asked i is are = go r
-    where
-      go : (r : Result Say E) → IfOk r (λ say. HasCalledAt old new place ask say) → IfOk r (λ say. HasAsked (shown_over (door_of actor old)) (shown_over (door_of actor new)) i (entry actor ask say))
-      go (Ok say) has = subst (λ k. HasAsked (shown_over (door_of actor old)) (shown_over (door_of actor new)) k (entry actor ask say)) (sym is) (called_asked old new place ask say has actor (all_get (λ (x : CentrePass). x.number ≡ actor) old place has.pass are.numbered has.there))
-      go (Err e) has = tt
-
-  -- or nothing was asked
-  pub host_not_asked : OnErr r (HasNotCalledAt old new place) → OnErr r (HasNotAsked (shown_over (door_of actor old)) (shown_over (door_of actor new)))
-  host_not_asked = go r
-    where
-      go : (r : Result Say E) → OnErr r (HasNotCalledAt old new place) → OnErr r (HasNotAsked (shown_over (door_of actor old)) (shown_over (door_of actor new)))
-      go (Ok say) none = tt
-      go (Err e) none = none_asked old new place actor none
+-- what holds is what an error says
+pub on_err : {A E P : Type 0} (r : Result A E) → P → OnErr r P
+on_err (Ok x) p = tt
+on_err (Err e) p = p
