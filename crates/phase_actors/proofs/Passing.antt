@@ -10,7 +10,7 @@ use Rattle.host_lock.specs.Hosts.{IsOf}
 use Rattle.dc_talk.specs.Logs.{Logged}
 use Rattle.dc_talk.specs.Acting.{acting}
 use Rattle.dc_host.specs.declared.host_door.HostPlace.{HostPlace}
-use Rattle.dc_host.specs.HostDoors.{CentreHost, CentrePass, HostDoorView, shown_over, place_over, bare}
+use Rattle.dc_host.specs.HostDoors.{CentreHost, CentrePass, HostDoorView, shown_by, shown_over, place_over, bare}
 use Rattle.script_core.specs.declared.limits.TheConstants.{MAX_LINES}
 use Rattle.script_core.specs.declared.script.Header.{Header}
 use Rattle.script_core.specs.declared.steps.OperatorStep.{OperatorStep}
@@ -31,7 +31,7 @@ door_width hosts caller n passes is count same = ap length same ∙ (AllZip-long
 
 -- what is seen of it is what is seen of the door beside its log
 pub seen_before : (caller : Caller) (door : HostDoorView) → door.actor ≡ caller.log.actor → door.passes ≡ caller.row.items → acting (shown_over door) caller.log ≡ seen_by caller
-seen_before caller door actor passes = λ j. acting (shown_over (record { actor = actor j; passes = passes j })) caller.log
+seen_before caller door actor passes = λ j. acting (shown_by (actor j) (passes j)) caller.log
 
 -- ---- behind it
 
@@ -48,7 +48,7 @@ module _ (old : Caller) (row : Vec CentrePass) (log : Logged) (first last : Host
   pub seen_behind : acting (shown_over last) log ≡ seen_by back
   seen_behind =
       let number : last.actor ≡ log.actor = ap (λ (p : HostPlace). p.actor) place ∙ (actor ∙ sym same_log) in
-      λ j. acting (shown_over (record { actor = number j; passes = sym rows j })) log
+      λ j. acting (shown_by (number j) (sym rows j)) log
 
 -- ---- the passes of a caller
 

@@ -5,7 +5,7 @@ use Rattle.std.specs.List.{AllZip, range_with_len}
 use Rattle.std.proofs.lemmas.List.{length-map}
 use Rattle.std.proofs.lemmas.Option.{none-some, same_Some}
 use Rattle.std.proofs.lemmas.List.Elements.{All-nil, All-cons, All-head, All-tail}
-use Rattle.dc_host.specs.HostDoors.{CentrePass, bare, shown_over, place_over}
+use Rattle.dc_host.specs.HostDoors.{CentrePass, bare, shown_over, place_over, new_door}
 use Rattle.dc_host.specs.declared.host_door.HostPlace.{HostPlace}
 use Rattle.client_stub.specs.Playing.{IsLinkBehind}
 use Rattle.script_core.specs.declared.steps.ClientStep.{ClientStep}
@@ -20,7 +20,7 @@ use Rattle.run_table.proofs.Lines.{most_few}
 use Rattle.phase_actors.specs.Scenes.{IsScene}
 use Rattle.phase_actors.specs.Clients.{ClientAt, SeatView, seated, seat_of, HasTurned}
 use Rattle.phase_actors.specs.declared.clients.Player.{Player}
-use Rattle.phase_actors.specs.Actors.{IsSeatOf, HasSeatGone, HasTurnedSeat, HasEnded, HasTakenSteps}
+use Rattle.phase_actors.specs.Actors.{IsSeatOf, IsLeftAt, HasSeatGone, HasTurnedSeat, HasEnded, HasTakenSteps}
 use Rattle.phase_actors.proofs.Turns.{turn_none, turns_all}
 
 -- the step that was dealt to a client is its step in the section
@@ -106,6 +106,10 @@ module _ (scene : Scene) where
   seats_at (s ∷ seats) zero seat later all there gone = (subst (λ (s : SeatView). HasSeatGone scene s later) (sym (same_Some s seat there)) gone, seats_stay seats (All-tail (IsSeatOf scene) s seats all))
   seats_at (s ∷ seats) (suc place) seat later all there gone = (seat_stays s (All-head (IsSeatOf scene) s seats all), seats_at seats place seat later (All-tail (IsSeatOf scene) s seats all) there gone)
 
+  -- a step is left to the client at a place, where one is left there
+  pub seat_left : (seats : List SeatView) (place : ℕ) (seat : SeatView) → IsLeftAt scene seats place → slice_get seats place ≡ Some seat → seat.taken < length (line_of scene.dealt.now seat.client)
+  seat_left seats place seat left there = subst (λ (seat : SeatView). seat.taken < length (line_of scene.dealt.now seat.client)) (same_Some left.seat seat (sym left.there ∙ there)) left.left
+
   -- a client took its next step at its seat
   pub seat_turned : (old new : SeatView) → IsSeatOf scene old → new.client ≡ old.client → new.taken ≡ old.taken + 1 → place_over new.door ≡ place_over old.door → IsLinkBehind (shown_over new.door) new.stub.client → ((first : ClientAt) → HasTurned scene.section.now scene.number (old.taken + 1 - 1) first (seated old) → HasTurned scene.section.now scene.number (old.taken + 1) first (seated new)) → HasTurnedSeat scene old new
   seat_turned old new is same more place linked turned =
@@ -138,7 +142,7 @@ module _ (scene : Scene) where
       let both : HasSeatGone scene (seat_of player) last = seat_then (seat_of player) seat last went ended.went in
       let turned : HasTurned scene.section.now scene.number last.taken first (seated last) = both.gone.turned first (turn_none scene.section.now scene.number first is.linked) in
       let log : last.log.actor ≡ player.caller.log.actor = turned.plays.acted.actor in
-      let same : seat_of later ≡ record last { taken = 0 } = ended.stood (both.gone.same.actor ∙ sym log) in
+      let same : seat_of later ≡ record last { door = new_door last.door.actor last.door.passes; taken = 0 } = ended.stood (both.gone.same.actor ∙ sym log) in
       let own : length (client_steps last.client scene.section.now) ≤ last.taken = subst (λ (line : List ClientStep). length line ≤ last.taken) (seat_line last there both.is) ended.all in
       let few : length (client_steps player.client scene.section.now) ≤ last.taken = subst (λ client. length (client_steps client scene.section.now) ≤ last.taken) both.gone.same.client own in
       record {

@@ -3,7 +3,7 @@ use Rattle.std.specs.Prelude.{◌≡◌, ℕ, take, map, length, List}
 use Rattle.dc_talk.specs.Logs.{Logged}
 use Rattle.dc_talk.specs.Doors.{DoorView}
 use Rattle.dc_talk.specs.Acting.{Acting, acting}
-use Rattle.dc_host.specs.HostDoors.{CentreHost, HostDoorView, shown_over, bare}
+use Rattle.dc_host.specs.HostDoors.{CentreHost, HostDoorView, shown_over, bare, new_door}
 use Rattle.script_core.specs.declared.steps.ClientStep.{ClientStep}
 use Rattle.script_core.specs.declared.steps.Section.{Section}
 use Rattle.script_core.specs.Steps.{IsCount}
@@ -55,11 +55,11 @@ seated seat = client_at seat.client seat.stub (shown_over seat.door) seat.log
 
 -- the seat of a client with its passes and its log, which took no step yet
 abbrev pub seat_of : Player → SeatView
-seat_of p = record { client = p.client; stub = p.stub; door = record { actor = p.caller.log.actor; passes = p.caller.row.items }; log = p.caller.log; taken = 0 }
+seat_of p = record { client = p.client; stub = p.stub; door = new_door p.caller.log.actor p.caller.row.items; log = p.caller.log; taken = 0 }
 
--- the player that got up from a seat, whose door is the actor's of its log
+-- the player that got up from a seat, whose door is the actor's of its log: a new door of the same passes would be before it
 abbrev pub HasStood : SeatView → Player → Type 0
-HasStood seat player = seat.door.actor ≡ seat.log.actor → seat_of player ≡ record seat { taken = 0 }
+HasStood seat player = seat.door.actor ≡ seat.log.actor → seat_of player ≡ record seat { door = new_door seat.door.actor seat.door.passes; taken = 0 }
 
 -- a client of so many, before so many centres
 pub record IsSeat (n clients : ℕ) (seat : SeatView) : Type 0 where

@@ -4,7 +4,7 @@ use Rattle.dc_talk.specs.declared.log.Note.{Note}
 use Rattle.dc_talk.specs.Logs.{entries_made}
 use Rattle.dc_talk.specs.Doors.{IsSameDoor}
 use Rattle.dc_talk.specs.Acting.{Acting, acting}
-use Rattle.dc_host.specs.HostDoors.{CentreHost, shown_over, bare, ArePasses}
+use Rattle.dc_host.specs.HostDoors.{CentreHost, shown_by, bare, ArePasses}
 use Rattle.run_sections.specs.Orders.{deeds_of, InOrder}
 use Rattle.phase_actors.specs.declared.callers.Caller.{Caller}
 
@@ -28,7 +28,7 @@ module _ {S M : Type 0} where
 
 -- what a caller's passes and its log are seen as
 abbrev pub seen_by : Caller → Acting
-seen_by caller = acting (shown_over (record { actor = caller.log.actor; passes = caller.row.items })) caller.log
+seen_by caller = acting (shown_by caller.log.actor caller.row.items) caller.log
 
 -- the caller has a pass of each of these hosts, in order, with its number
 abbrev pub IsCaller : List CentreHost → Caller → Type 0

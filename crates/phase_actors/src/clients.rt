@@ -33,7 +33,7 @@ pub struct Player {
 struct Seat<'a, R, G: Gate> {
     client: u32,
     stub: Stub,
-    door: HostDoor<'a, R, &'a G>,
+    door: HostDoor<'a, R, G>,
     log: Log,
     taken: u32,
 }
