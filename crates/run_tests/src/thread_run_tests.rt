@@ -1,22 +1,28 @@
 // A phase in which callers wait for one another, which ends in time only where they go on at once.
 use crate::top_call_tests::ended_of;
-use io_edge::{Gate, SteadySink, SteadySource};
+use io_edge::{Call, Gate, SteadySink, SteadySource};
 use run_progress::{Extent, Progress};
 use std::sync::atomic::{AtomicU64, Ordering};
 use std::test::Fail;
 use std::thread;
 
-const PHASE: &[u8] =
-    b"centres 2 k 1\nclients 2\nthreads 2\nphase\nc1 connect 1\nc2 connect 2\nend\n";
+// In front of the phase centre 2 has a record that centre 1 has not, so in the first round of the phase the sender of
+// centre 2 sends it, and the receiver of centre 1 delivers it.
+const SCRIPT: &[u8] =
+    b"centres 2 k 1\nclients 4\nthreads 4\nc1 connect 2\nc1 begin\nc1 inc c.a 1\nc1 commit\nc1 push\nphase\nc1 refresh\nc2 connect 2\nc3 connect 1\nc4 connect 2\ntell 1 2\nend\n";
+
+const TEXT: &[u8] =
+    b"c1 at 2\nc1 commit 1\nc1 push 1 stamp 2:1\nc1 sees 0,1 own 1\nc2 at 2\nc3 at 1\nc4 at 2\n";
 
 // How many callers meet.
-const CALLERS: u64 = 8;
+const CALLERS: u64 = 11;
 
 // How often one of them looks whether all have come.
 const TURNS: u32 = 5_000_000;
 
-// A gate that holds the clients, and of both centres the senders, the reporters and the pruners, at their first calls
-// until all of these have come. It counts those that waited in vain.
+// A gate that holds callers at their first calls until all of those have come that meet, and counts those that waited
+// in vain. These are the operator, four clients, the sender and the receiver of centre 1, and of both centres the
+// reporters and the pruners. The sender of centre 2 goes on, since the receiver of centre 1 waits for it.
 #[derive(Drop)]
 struct Meeting {
     come: AtomicU64,
@@ -25,14 +31,12 @@ struct Meeting {
 
 // Whether a caller is one of those that meet.
 fn meets(actor: u32) -> bool {
-    matches!(actor, 2 | 3 | 4 | 6 | 7 | 8 | 10 | 11)
+    matches!(actor, 1..=9 | 12 | 13)
 }
 
-impl Gate for Meeting {
-    fn before(&self, actor: u32, step: u64) {
-        if step != 1 || !meets(actor) {
-            return;
-        }
+impl Meeting {
+    // Holds one of those that meet until all have come.
+    fn wait(&self) {
         self.come.fetch_add(1, Ordering::SeqCst);
         for _turn in 0..TURNS {
             if self.come.load(Ordering::SeqCst) >= CALLERS {
@@ -42,8 +46,23 @@ impl Gate for Meeting {
         }
         self.late.fetch_add(1, Ordering::SeqCst);
     }
+}
 
-    fn after(&self, _actor: u32, _step: u64) {}
+impl Gate for Meeting {
+    type Ticket = Call;
+
+    type Receipt = Call;
+
+    fn before(&self, actor: u32, step: u64) -> Call {
+        if step == 1 && meets(actor) {
+            self.wait();
+        }
+        Call { actor, step }
+    }
+
+    fn after(&self, ticket: Call) -> Call {
+        ticket
+    }
 }
 
 impl Progress for Meeting {
@@ -51,8 +70,8 @@ impl Progress for Meeting {
 }
 
 #[test]
-fn eight_callers_of_a_phase_go_on_at_once(rt: HostRuntime) -> Result<(), Fail> {
-    let mut source = SteadySource::new(Vec::from_slice(rt.alloc(), PHASE)?);
+fn eleven_callers_of_a_phase_go_on_at_once(rt: HostRuntime) -> Result<(), Fail> {
+    let mut source = SteadySource::new(Vec::from_slice(rt.alloc(), SCRIPT)?);
     let mut sink = SteadySink::new(rt.alloc());
     let gate = Meeting {
         come: AtomicU64::new(0),
@@ -60,7 +79,7 @@ fn eight_callers_of_a_phase_go_on_at_once(rt: HostRuntime) -> Result<(), Fail> {
     };
     let ended = ended_of(&rt, rt.alloc(), "run", &mut source, &mut sink, &gate)?;
     assert!(rt; ended.status == 0);
-    assert!(rt; sink.bytes() == b"c1 at 1\nc2 at 2\n".as_slice());
+    assert!(rt; sink.bytes() == TEXT);
     assert!(rt; gate.come.load(Ordering::SeqCst) == CALLERS);
     assert!(rt; gate.late.load(Ordering::SeqCst) == 0);
     Ok(())

@@ -1,0 +1,55 @@
+#!/bin/sh
+# Times `swift_sim run` with 1, 2 and 4 threads for the clients beside `swift_sim serial` where both do equal work: one
+# phase of 4 centres and 256 clients, 64 at each, with as many rounds of each worker as a client has steps, so that
+# both forms make one round a turn. Each client makes 40 transactions of several objects and pushes each, with a
+# snapshot and reads after each fourth. It counts the entries of the trails, and prints the rows of the table in
+# docs/benchmarks.md: the whole time and the time of the phase, in which the program has threads. Each time is the
+# least of five runs, by the clock. The status is 1 where the entries of `run` and of `serial` differ by more than a
+# twentieth, where the phase with 4 threads is not 1.8 times as fast as with 1, where the whole with 4 threads is not
+# 1.4 times as fast as `serial`, or where the program gives a wrong end.
+#   bench/equal.sh             times crates/swift_sim/out/swift_sim
+#   bench/equal.sh CLIENTS     the same with so many clients
+#   SWIFT_SIM=FILE bench/equal.sh     times another program
+set -u
+root=$(cd "$(dirname "$0")/.." && pwd) || exit 1
+program=${SWIFT_SIM:-$root/crates/swift_sim/out/swift_sim}
+. "$root/bench/timing.sh"
+
+clients=${1:-256}
+each=40
+total=$((clients * each))
+
+# equal THREADS: the script. A client has 280 steps in the phase.
+equal() {
+    awk -v threads="$1" -v clients="$clients" -v each="$each" 'BEGIN {
+        print "centres 4 k 2\nclients " clients "\nthreads " threads "\nrounds " each * 7
+        for (client = 1; client <= clients; client++) print "c" client " connect " (client - 1) % 4 + 1
+        print "phase"
+        for (number = 1; number <= each; number++)
+            for (client = 1; client <= clients; client++) {
+                c = "c" client
+                print c " begin\n" c " inc c.total 1\n" c " add s.cart" client " w" number % 50
+                print c " put m.page" client " k" number % 50 " w" number % 7 "\n" c " commit\n" c " push"
+                if (number % 4 == 0)
+                    print c " refresh\n" c " read s.cart" client "\n" c " read m.page" client "\n" c " read c.total"
+            }
+        print "end\nsettle\nc1 refresh\nc1 read c.total"
+    }'
+}
+
+# entries FORM: how many entries the trails of a play of the script have.
+entries() {
+    "$program" "$1" --trail <"$room/script" | grep -c '^centre [0-9]* '
+}
+
+# best FORM: the least microseconds of five plays of the script, of the whole and of the phase.
+best() {
+    whole= phase=
+    for _ in 1 2 3 4 5; do
+        took=$("$root/bench/phase_time.py" "$program" "$1" "$room/script" "$room/out") || return 1
+        [ "$(tail -n 1 "$room/out")" = "c1 read c.total $total" ] || return 1
+        if [ -z "$whole" ] || [ "${took% *}" -lt "$whole" ]; then whole=${took% *}; fi
+        if [ -z "$phase" ] || [ "${took#* }" -lt "$phase" ]; then phase=${took#* }; fi
+    done
+    echo "$whole $phase"
+}
