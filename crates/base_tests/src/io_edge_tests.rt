@@ -105,8 +105,8 @@ fn a_write_that_takes_nothing_fails(rt: HostRuntime) {
 }
 
 fn pass_through<G: Gate>(gate: &G) {
-    gate.before(1, 1);
-    gate.after(1, 1);
+    let ticket = gate.before(1, 1);
+    drop(gate.after(ticket));
 }
 
 #[test]

@@ -1,6 +1,6 @@
 // What the program says to its user while a script is played: how much of it is done. It goes to standard error, of
 // which no contract speaks, and only where this is a terminal.
-use io_edge::Gate;
+use io_edge::{Call, Gate};
 use run_progress::{Extent, Progress};
 use std::io;
 use std::io::IsTerminal;
@@ -77,9 +77,17 @@ fn said(written: io::Result<()>) {
 }
 
 impl Gate for Teller {
-    fn before(&self, _actor: u32, _step: u64) {}
+    type Ticket = Call;
 
-    fn after(&self, _actor: u32, _step: u64) {}
+    type Receipt = Call;
+
+    fn before(&self, actor: u32, step: u64) -> Call {
+        Call { actor, step }
+    }
+
+    fn after(&self, ticket: Call) -> Call {
+        ticket
+    }
 }
 
 impl Progress for Teller {
