@@ -1,0 +1,4 @@
+pub mod Fronts
+pub mod Histories
+pub mod Steps
+pub mod Torn
