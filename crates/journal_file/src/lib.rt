@@ -1,0 +1,12 @@
+//! A journal of items on a disk: what was appended outlives a crash at any moment.
+#![tactic(auto)]
+
+mod append;
+mod faults;
+mod item;
+mod journal;
+mod opening;
+
+pub use faults::{JournalFault, OpenFault};
+pub use item::Item;
+pub use journal::{Journal, Unopened};
