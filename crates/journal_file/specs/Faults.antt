@@ -1,3 +1,4 @@
+-- Why a journal was not written or opened.
 use Rattle.journal_disk.specs.declared.disk.DiskFault.{DiskFault}
 use Rattle.journal_disk.specs.declared.disk.DiskFault.TheVariants.{Failed, NoMemory as DiskNoMemory}
 use Rattle.journal_file.specs.declared.faults.JournalFault.{JournalFault}
