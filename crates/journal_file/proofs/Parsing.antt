@@ -1,7 +1,7 @@
 -- A file of entries is read one entry after another.
-use Rattle.std.proofs.Common.{◌≡◌, ◌≢◌, ℕ, ◌+◌, ◌<◌, ◌≤◌, List, [], ◌∷◌, ◌++◌, length, get_or, take, drop, Option, Some, None, refl, sym, ◌∙◌, ap, subst, arith, append_assoc, length-append, take-append-drop}
+use Rattle.std.proofs.Common.{◌≡◌, ◌≢◌, ◌⊎◌, inl, inr, ℕ, ◌+◌, ◌<◌, ◌≤◌, List, [], ◌∷◌, ◌++◌, length, get_or, take, drop, Option, Some, None, refl, sym, ◌∙◌, ap, subst, arith, append_assoc, length-append, take-append-drop}
 use Rattle.std.proofs.lemmas.List.{append-nil, take_at, drop_at, drop_more, drop_all, length-take-le}
-use Rattle.journal_file.specs.Journal.{Entries, EndsAt, FileOf}
+use Rattle.journal_file.specs.Journal.{Entries, EndsAt, FileOf, IsBadAt}
 use Rattle.journal_file.proofs.Items.{entries_more}
 
 module _ {T : Type 0} (spelled : T → List ℕ) where
@@ -56,6 +56,20 @@ module _ {T : Type 0} (spelled : T → List ℕ) where
         let l = read.left xs f in
         not_empty l.0 (subst (FileOf spelled l.0) (drop_all at bytes ended) l.1.1)
 
+    bad_at : (bad : (drop at bytes ≡ []) ⊎ ((gate : ℕ) × ((behind : List ℕ) × ((drop at bytes ≡ gate ∷ behind) × ((gate ≢ 0) × ((x : T) (more : List ℕ) → behind ≡ spelled x ++ more → ⊥)))))) → IsBadAt spelled at bytes
+    bad_at bad = record {
+      items = items;
+      front = take at bytes;
+      rest = drop at bytes;
+      entries = read.entries;
+      file_is = sym (take-append-drop at bytes);
+      at = sym (length-take-le at bytes read.within);
+      bad = bad;
+    }
+
+    pub end_place : length bytes ≤ at → IsBadAt spelled at bytes
+    end_place ended = bad_at (inl (drop_all at bytes ended))
+
     module _ (inside : at < length bytes) where
       split : drop at bytes ≡ get_or bytes at 0 ∷ drop (at + 1) bytes
       split = drop_more bytes at 0 inside
@@ -90,6 +104,14 @@ module _ {T : Type 0} (spelled : T → List ℕ) where
             let w = go xs f in
             let both : None ≡ Some (w.first, length (spelled w.first)) = sym none ∙ is w.first w.rest w.r_is in
             cc both
+
+        pub none_place : found ≡ None → IsBadAt spelled at bytes
+        none_place none = bad_at (inr (get_or bytes at 0, (drop (at + 1) bytes, (split, (unshut, none_there)))))
+          where
+            none_there : (x : T) (more : List ℕ) → drop (at + 1) bytes ≡ spelled x ++ more → ⊥
+            none_there x more begins =
+                let both : None ≡ Some (x, length (spelled x)) = sym none ∙ is x more begins in
+                cc both
 
         pub grows : (x : T) (n : ℕ) → found ≡ Some (x, n) → drop (at + 1) bytes ≡ spelled x ++ drop n (drop (at + 1) bytes) → n ≡ length (spelled x) → IsRead bytes (at + (1 + n)) (items ++ x ∷ [])
         grows x n some begins count = record {

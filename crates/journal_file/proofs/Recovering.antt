@@ -1,5 +1,5 @@
 -- A file is settled, read and cut behind its closed gate.
-use Rattle.std.proofs.Common.{◌≡◌, ◌⊎◌, inl, inr, ℕ, ◌+◌, ◌≤◌, min, List, [], ◌∷◌, ◌++◌, length, take, drop, Result, Ok, Err, OnOk, IsErrAnd, MatchResult, sym, ◌∙◌, ap, subst, arith, append_assoc, length-append, take-append-drop}
+use Rattle.std.proofs.Common.{◌≡◌, ◌⊎◌, inl, inr, ℕ, ◌+◌, ◌≤◌, min, List, [], ◌∷◌, ◌++◌, length, take, drop, Result, Ok, Err, OnOk, IfErr, IsErrAnd, MatchResult, sym, ◌∙◌, ap, subst, arith, append_assoc, length-append, take-append-drop}
 use Rattle.std.proofs.lemmas.List.{take_at}
 use Rattle.journal_disk.specs.declared.disk.DiskFault.{DiskFault}
 use Rattle.journal_disk.specs.declared.disk.DiskFault.TheVariants.{Failed, NoMemory}
@@ -7,6 +7,7 @@ use Rattle.journal_disk.specs.declared.disk.Moment.{Moment}
 use Rattle.journal_disk.specs.Disk.{seen, MayLeave, Between, Shortens, IsSettled, Ran}
 use Rattle.journal_disk.proofs.Histories.{ran_more, ran_weaker}
 use Rattle.journal_file.specs.declared.faults.OpenFault.{OpenFault}
+use Rattle.journal_file.specs.declared.faults.OpenFault.TheVariants.{Bad}
 use Rattle.journal_file.specs.Faults.{IsBad, open_fault}
 use Rattle.journal_file.specs.Journal.{EndsAt, FileOf, Found, IsAt}
 use Rattle.journal_file.proofs.Bytes.{on_ok_more}
@@ -16,6 +17,14 @@ use Rattle.journal_file.proofs.Protocol.{ran_stands}
 pub disk_not_bad : (fault : DiskFault) (e : OpenFault) → e ≡ open_fault fault → IsBad e → ⊥
 disk_not_bad Failed e is bad = subst IsBad is bad
 disk_not_bad NoMemory e is bad = subst IsBad is bad
+
+pub disk_no_place : (fault : DiskFault) (e : OpenFault) (place : ℕ) → e ≡ open_fault fault → e ≡ Bad place → ⊥
+disk_no_place Failed e place is bad = cc (sym is ∙ bad)
+disk_no_place NoMemory e place is bad = cc (sym is ∙ bad)
+
+pub on_if_err : {T E : Type 0} (B Q : E → Type 0) (r : Result T E) → IsErrAnd r Q → ((e : E) → Q e → B e) → IfErr r B
+on_if_err B Q (Ok x) err b = tt
+on_if_err B Q (Err e) err b = b e err
 
 pub on_match_err_and : {T E : Type 0} (A : T → Type 0) (B Q : E → Type 0) (r : Result T E) → IsErrAnd r Q → ((e : E) → Q e → B e) → MatchResult r A B
 on_match_err_and A B Q (Ok x) err b = absurd err

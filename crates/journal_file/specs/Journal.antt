@@ -42,6 +42,18 @@ module _ {T : Type 0} (spelled : T → List ℕ) where
     pub file_is : seen h ≡ front ++ 0 ∷ []
     pub place : end ≡ length front
 
+module _ {T : Type 0} (spelled : T → List ℕ) where
+  -- the first gate that is bad stands at this place: the entries of some items are before it, and the file ends there,
+  -- or it is open and no item stands behind it
+  pub record IsBadAt (place : ℕ) (file : List ℕ) : Type 0 where
+    pub items : List T
+    pub front : List ℕ
+    pub rest : List ℕ
+    pub entries : Entries spelled items front
+    pub file_is : file ≡ front ++ rest
+    pub at : place ≡ length front
+    pub bad : (rest ≡ []) ⊎ ((gate : ℕ) × ((behind : List ℕ) × ((rest ≡ gate ∷ behind) × ((gate ≢ 0) × ((x : T) (more : List ℕ) → behind ≡ spelled x ++ more → ⊥)))))
+
 -- a closed gate stands behind the front, or some gate with these bytes behind it
 abbrev pub Published : List ℕ → List ℕ → List ℕ → Type 0
 Published front body file = ((tail : List ℕ) × (file ≡ front ++ 0 ∷ tail)) ⊎ ((gate : ℕ) × (file ≡ front ++ gate ∷ body))

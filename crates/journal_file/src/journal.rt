@@ -2,7 +2,7 @@
 ghost use Rattle.std.specs.Prelude.{◌≡◌, ◌+◌, ◌<◌, ◌≤◌, ◌^◌, ◌⊎◌, ◌++◌, [], ◌∷◌, true, false, List, ℕ, length, Err, IsOk, IsErr, IsErrOf, MatchResult, OnOk, IfOk, IfErr};
 ghost use Rattle.journal_disk.specs.declared.disk.Moment.{Moment};
 ghost use Rattle.journal_disk.specs.Disk.{seen, is_sound, IsSettled, Ran, HasRisen};
-ghost use Rattle.journal_file.specs.Journal.{IsAt, IsEither, FileOf, Found, opened};
+ghost use Rattle.journal_file.specs.Journal.{IsAt, IsEither, FileOf, IsBadAt, Found, opened};
 ghost use Rattle.journal_file.specs.Faults.{append_fault, IsBad};
 
 use crate::append::{publish, spell_all, wipe};
@@ -62,9 +62,11 @@ impl<D: Disk> Journal<D> {
     pub fn open<T: Item>(alloc: Global, disk: D) -> Result<(Journal<D>, Vec<T>), Unopened<D>>
         ensures ok { IfOk result (λ r. (h : List Moment) (xs : List T) → D.is_honest (disk_of r.0) → D.stands disk h → is_sound h ≡ true → FileOf T.spelled xs (seen h)
             → Ran (D.stands (disk_of r.0)) h (Found T.spelled xs h) (λ later. (IsAt T.spelled (end_of r.0) later xs) × (r.1.items ≡ xs))) }
+        ensures is { IfOk result (λ r. (h : List Moment) → D.is_honest (disk_of r.0) → D.stands disk h → is_sound h ≡ true → FileOf T.spelled r.1.items (seen h)) }
         ensures open { IfOk result (λ r. is_shut r.0 ≡ false) }
         ensures err { IfErr result (λ e. (h : List Moment) (xs : List T) → D.is_honest e.disk → D.stands disk h → is_sound h ≡ true → FileOf T.spelled xs (seen h)
             → Ran (D.stands e.disk) h (Found T.spelled xs h) (λ _. IsBad e.why → ⊥)) }
+        ensures place { IfErr result (λ e. (h : List Moment) (place : ℕ) → e.why ≡ OpenFault.Bad place → D.is_honest e.disk → D.stands disk h → is_sound h ≡ true → IsBadAt T.spelled place (seen h)) }
         ensures failed { IfErr result (λ e. e.why ≡ OpenFault.Disk → HasRisen (D.faults disk) (D.faults e.disk)) }
     {
         let mut disk = disk;

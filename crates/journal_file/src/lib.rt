@@ -5,8 +5,10 @@ mod append;
 mod faults;
 mod item;
 mod journal;
+mod laws;
 mod opening;
 
 pub use faults::{JournalFault, OpenFault};
 pub use item::Item;
 pub use journal::{Journal, Unopened};
+pub use laws::law_between_calls;

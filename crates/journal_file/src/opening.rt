@@ -2,7 +2,7 @@
 ghost use Rattle.std.specs.Prelude.{◌≡◌, ◌+◌, ◌<◌, ◌≤◌, ◌^◌, true, List, [], ◌∷◌, ℕ, length, MatchResult, OnOk, IfOk, IfErr};
 ghost use Rattle.journal_disk.specs.declared.disk.Moment.{Moment};
 ghost use Rattle.journal_disk.specs.Disk.{seen, is_sound, IsSettled, Ran, HasRisen, HasCause};
-ghost use Rattle.journal_file.specs.Journal.{IsAt, FileOf, EndsAt, Found};
+ghost use Rattle.journal_file.specs.Journal.{IsAt, FileOf, EndsAt, IsBadAt, Found};
 ghost use Rattle.journal_file.specs.Faults.{IsBad};
 
 use crate::{Item, OpenFault};
@@ -15,6 +15,7 @@ pub fn parse<T: Item>(alloc: Global, bytes: &[u8]) -> Result<(usize, Vec<T>), Op
     ensures within { IfOk result (λ r. r.0 < length bytes.now) }
     ensures only { IfOk result (λ r. (xs : List T) → FileOf T.spelled xs bytes.now → r.1.items ≡ xs) }
     ensures bad { IfErr result (λ e. (xs : List T) → FileOf T.spelled xs bytes.now → IsBad e → ⊥) }
+    ensures place { IfErr result (λ e. (place : ℕ) → e ≡ OpenFault.Bad place → IsBadAt T.spelled place bytes.now) }
     ensures no_disk { IfErr result (λ e. e ≡ OpenFault.Disk → ⊥) }
 {
     let mut items = Vec::new(alloc);
@@ -38,6 +39,8 @@ pub fn parse<T: Item>(alloc: Global, bytes: &[u8]) -> Result<(usize, Vec<T>), Op
 pub fn recover<D: Disk, T: Item>(alloc: Global, disk: &mut D) -> Result<(u64, Vec<T>), OpenFault>
     ensures moments { (h : List Moment) (xs : List T) → D.is_honest disk.new → D.stands disk.old h → is_sound h ≡ true → FileOf T.spelled xs (seen h)
         → Ran (D.stands disk.new) h (Found T.spelled xs h) (λ later. MatchResult result (λ r. (IsAt T.spelled r.0 later xs) × (r.1.items ≡ xs)) (λ e. IsBad e → ⊥)) }
+    ensures is { IfOk result (λ r. (h : List Moment) → D.is_honest disk.new → D.stands disk.old h → is_sound h ≡ true → FileOf T.spelled r.1.items (seen h)) }
+    ensures place { IfErr result (λ e. (h : List Moment) (place : ℕ) → e ≡ OpenFault.Bad place → D.is_honest disk.new → D.stands disk.old h → is_sound h ≡ true → IsBadAt T.spelled place (seen h)) }
     ensures few { IfOk result (λ r. r.0 + 1 < 2 ^ 64) }
     ensures failed { IfErr result (λ e. e ≡ OpenFault.Disk → HasRisen (D.faults disk.old) (D.faults disk.new)) }
 {

@@ -1,6 +1,7 @@
 use Rattle.std.proofs.Common.{◌≡◌, ◌+◌, ◌-◌, ◌∷◌, [], ◌++◌, length, take, drop, IfSome, sym, subst, ◌∙◌}
 use Rattle.std.proofs.lemmas.List.{take_rest}
-use Rattle.journal_file.proofs.Parsing.{IsRead, ends_bad, ends_at, ends_only, none_bad, grows}
+use Rattle.journal_file.specs.Journal.{IsBadAt}
+use Rattle.journal_file.proofs.Parsing.{IsRead, ends_bad, ends_at, ends_only, none_bad, none_place, end_place, grows}
 use Rattle.journal_file.proofs.opening.parse.Goals as goal
 
 pub returns-then-bytes-at-eq0-clause-ends : goal.returns-then-bytes-at-eq0-clause-ends
@@ -15,6 +16,19 @@ pub returns-in-None-clause-bad : goal.returns-in-None-clause-bad
 returns-in-None-clause-bad g c = λ xs file _.
     none_bad g.T.Item.spelled c.args.bytes.now c.loop-at.at c.loop-at.items.items c.loop-at.invariant c.loop-at-test.true c.if-bytes-at-eq0.false c.in_ok-read.field-0
     (λ x rest is. c.in_ok-read.ensures.found x rest (take_rest c.args.bytes.now (c.loop-at.at + 1) ∙ is)) c.in-None.is xs file
+
+pub returns-in-None-clause-place : goal.returns-in-None-clause-place
+returns-in-None-clause-place g c = λ place is.
+    let same : c.loop-at.at ≡ place = cc is in
+    subst (λ p. IsBadAt g.T.Item.spelled p c.args.bytes.now) same
+    (none_place g.T.Item.spelled c.args.bytes.now c.loop-at.at c.loop-at.items.items c.loop-at.invariant c.loop-at-test.true c.if-bytes-at-eq0.false c.in_ok-read.field-0
+    (λ x rest begins. c.in_ok-read.ensures.found x rest (take_rest c.args.bytes.now (c.loop-at.at + 1) ∙ begins)) c.in-None.is)
+
+pub returns-clause-place : goal.returns-clause-place
+returns-clause-place g c = λ place is.
+    let same : c.loop-at.at ≡ place = cc is in
+    subst (λ p. IsBadAt g.T.Item.spelled p c.args.bytes.now) same
+    (end_place g.T.Item.spelled c.args.bytes.now c.loop-at.at c.loop-at.items.items c.loop-at.invariant c.loop-at-test.false)
 
 pub loop-at-preserved : goal.loop-at-preserved
 loop-at-preserved g c =

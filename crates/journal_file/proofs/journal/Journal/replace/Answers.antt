@@ -1,4 +1,4 @@
-use Rattle.std.proofs.Common.{◌≡◌, ◌<◌, ◌⊎◌, inl, false, ℕ, [], ◌++◌, List, refl, sym, ◌∙◌, subst, arith}
+use Rattle.std.proofs.Common.{◌≡◌, ◌<◌, ◌⊎◌, inl, false, ℕ, [], List, refl, sym, ◌∙◌, subst, arith}
 use Rattle.journal_disk.specs.declared.disk.Moment.{Moment}
 use Rattle.journal_disk.proofs.Histories.{ran_none, ran_more}
 use Rattle.journal_file.specs.Journal.{IsAt, FileOf, IsEither}
