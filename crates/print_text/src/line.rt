@@ -411,10 +411,17 @@ pub fn write_vector(text: &mut Vec<u8>, vector: &Vector) -> Result<(), NoMemory>
     ensures { OnOk result (text.new.items ≡ text.old.items ++ vector_text vector.now) }
 {
     if let [first, rest @ ..] = vector.as_slice() {
-        write_number(text, u64::from(*first))?;
+        write_entry(text, *first)?;
         write_later(text, rest)?;
     }
     Ok(())
+}
+
+// The digits of an entry.
+fn write_entry(text: &mut Vec<u8>, entry: u32) -> Result<(), NoMemory>
+    ensures { OnOk result (text.new.items ≡ text.old.items ++ decimal entry) }
+{
+    write_number(text, u64::from(entry))
 }
 
 // Entries behind a first one.
