@@ -28,7 +28,7 @@ run() {
 # appends SIZE: a row for groups of this size, with the ratio to the bare writes.
 appends() {
     bare= append=
-    for _ in 1 2 3 4 5; do
+    for _ in 1 2 3 4 5 6 7 8 9; do
         took=$(run bare 1000 "$1") || wrong bare 1000 "$1"
         bare=$(lesser "$bare" "$took")
         took=$(run append 1000 "$1") || wrong append 1000 "$1"
