@@ -1,5 +1,5 @@
-//! Tests of the crates up to `tx_core`, at concrete types: one file a crate, named after it. They stand
-//! apart from what they test, since a crate with tests of its own is proved twice, alone and with them.
+//! Tests of the crates up to `tx_core`, and of journals, at concrete types: one file a crate, named after it. They
+//! stand apart from what they test, since a crate with tests of its own is proved twice, alone and with them.
 #![tactic(auto)]
 
 #[cfg(test)]
@@ -10,6 +10,8 @@ mod dup_guard_tests;
 mod ids_core_tests;
 #[cfg(test)]
 mod io_edge_tests;
+#[cfg(test)]
+mod journal_file_tests;
 #[cfg(test)]
 mod k_stable_tests;
 #[cfg(test)]
