@@ -39,7 +39,7 @@ equal() {
 
 # entries FORM: how many entries the trails of a play of the script have.
 entries() {
-    "$program" "$1" --trail <"$room/script" | grep -c '^centre [0-9]* '
+    "$program" "$1" --trail <"$room/script" | grep -c '^trail '
 }
 
 # best FORM: the least microseconds of five plays of the script, of the whole and of the phase.
@@ -53,3 +53,25 @@ best() {
     done
     echo "$whole $phase"
 }
+
+head_of form threads entries seconds 'seconds of the phase' 'times as fast as serial' 'the phase as with 1 thread'
+equal 1 >"$room/script"
+took=$(best serial) || wrong serial
+serial=${took% *}
+counted=$(entries serial)
+awk -v took="$serial" -v counted="$counted" 'BEGIN { printf "| serial | - | %d | %.4f | - | - | - |\n", counted, took / 1000000 }'
+alone=
+for threads in 1 2 4; do
+    equal "$threads" >"$room/script"
+    took=$(best run) || wrong run with "$threads" threads
+    phase=${took#* }
+    alone=${alone:-$phase}
+    awk -v threads="$threads" -v entries="$(entries run)" -v counted="$counted" -v took="${took% *}" -v phase="$phase" \
+        -v serial="$serial" -v alone="$alone" 'BEGIN {
+        printf "| run | %d | %d | %.4f | %.4f | %.2f | %.2f |\n", threads, entries, took / 1000000, phase / 1000000, serial / took, alone / phase
+        differ = entries > counted ? entries - counted : counted - entries
+        slow = threads == 4 && (alone < 1.8 * phase || serial < 1.4 * took)
+        exit differ > counted / 20 || slow
+    }' || status=1
+done
+exit "$status"
