@@ -3,8 +3,8 @@
 # centres that have nothing to ship, to relay or to tell, with the built program, and prints the rows of the table in
 # docs/benchmarks.md. The counts are those of valgrind's callgrind, which do not vary. Each row is the difference of two
 # runs of one kind of script over that of their lines, or of their asks, so that the start and the end of a run drop
-# out. The bounds are those of a program that is compiled without its proof. The status is 1 where a row has more than
-# its bound, or the program gives a wrong end.
+# out. The bounds are those of the proved program. The status is 1 where a row has more than its bound, or the program
+# gives a wrong end.
 #   bench/instructions.sh                counts crates/swift_sim/out/swift_sim
 #   bench/instructions.sh KIND..         counts these rows alone: aborts, blocks, mixed, settle
 #   SWIFT_SIM=FILE bench/instructions.sh         counts another program
@@ -122,10 +122,10 @@ instructions() {
 head_of kind 'lines or asks' 'instructions of one' 'at most'
 for kind in ${*:-aborts blocks mixed settle}; do
     case $kind in
-    aborts) instructions aborts 1000 2000 3 4700 ;;
-    blocks) instructions blocks 1000 2000 6 11200 ;;
-    mixed) instructions mixed 4000 8000 1 8900 ;;
-    settle) instructions settle 1 11 224 6700 ;;
+    aborts) instructions aborts 1000 2000 3 2900 ;;
+    blocks) instructions blocks 1000 2000 6 7000 ;;
+    mixed) instructions mixed 4000 8000 1 5200 ;;
+    settle) instructions settle 1 11 224 4000 ;;
     *)
         echo "$kind is no kind of row" >&2
         exit 1
