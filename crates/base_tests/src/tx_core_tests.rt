@@ -221,3 +221,29 @@ fn an_operation_that_does_not_fit_is_named(rt: HostRuntime) -> Result<(), Fail> 
     assert!(rt; matches!(fault, Some(TxFault::WrongWidth { width: 2 })));
     Ok(())
 }
+
+// The first fault of a transaction whose one update adds a word over this identifier.
+fn fault_over(alloc: Global, word: Name, tag: OpId) -> Result<Option<TxFault>, Fail> {
+    let Ok(over) = Tags::of(vec![in alloc; tag]?) else {
+        return Err(Fail::new("one identifier ascends"));
+    };
+    Ok(fault_of_op(alloc, word, Op::Add { word, over }, false)?)
+}
+
+#[test]
+fn an_identifier_out_of_range_is_named(rt: HostRuntime) -> Result<(), Fail> {
+    let word = Name::read(b"w")?;
+    assert!(rt; fault_over(rt.alloc(), word, id(1, 1, 0))?.is_none());
+    assert!(rt; fault_over(rt.alloc(), word, id(1_024, 1 << 62, 255))?.is_none());
+    for tag in [
+        id(0, 1, 0),
+        id(1_025, 1, 0),
+        id(1, 0, 0),
+        id(1, (1 << 62) + 1, 0),
+        id(1, 1, 256),
+    ] {
+        let fault = fault_over(rt.alloc(), word, tag)?;
+        assert!(rt; matches!(fault, Some(TxFault::BadTag { place: 0 })));
+    }
+    Ok(())
+}

@@ -10,7 +10,7 @@ use Rattle.ids_core.specs.declared.object.ObjectId.{ObjectId}
 use Rattle.tx_core.specs.declared.tx.Update.{Update}
 use Rattle.tx_core.specs.declared.state.State.{State}
 use Rattle.tx_core.specs.States.{tags_of}
-use Rattle.tx_core.specs.Checks.{IsFitUpdate}
+use Rattle.tx_core.specs.Checks.{IsModestUpdate}
 use Rattle.dc_talk.specs.declared.calls.Change.{Change}
 use Rattle.dc_talk.specs.declared.calls.Change.TheVariants.{Inc, Write, Add, Remove, Put, Erase}
 use Rattle.dc_talk.specs.declared.calls.Call.TheVariants.{Change as ChangeCall}
@@ -22,21 +22,21 @@ use Rattle.dc_talk.specs.Calls.{sort_of_change, is_modest, named, op_of, viewed,
 use Rattle.client_cache.proofs.Promoting.{promoted_absent}
 use Rattle.client_session.specs.Sessions.{IsDraft}
 
--- the operation of a change that is taken is fit for its object
-pub fits : (o : ObjectId) (c : Change) (over : List OpId) → sort_of_change c ≡ o.sort → is_modest c ≡ true → length over ≤ MOST_TAGS → IsFitUpdate (record { object = o; op = op_of c over })
-fits o (Inc delta) over kind modest few = record { kind = kind; delta = modest; tags = omega arith }
-fits o (Write word) over kind modest few = record { kind = kind; delta = modest; tags = omega arith }
-fits o (Add word) over kind modest few = record { kind = kind; delta = modest; tags = few }
-fits o (Remove word) over kind modest few = record { kind = kind; delta = modest; tags = few }
-fits o (Put key word) over kind modest few = record { kind = kind; delta = modest; tags = few }
-fits o (Erase key) over kind modest few = record { kind = kind; delta = modest; tags = few }
+-- the operation of a change that is taken is modest
+pub is_modest_op : (o : ObjectId) (c : Change) (over : List OpId) → sort_of_change c ≡ o.sort → is_modest c ≡ true → length over ≤ MOST_TAGS → IsModestUpdate (record { object = o; op = op_of c over })
+is_modest_op o (Inc delta) over kind small few = record { kind = kind; delta = small; tags = omega arith }
+is_modest_op o (Write word) over kind small few = record { kind = kind; delta = small; tags = omega arith }
+is_modest_op o (Add word) over kind small few = record { kind = kind; delta = small; tags = few }
+is_modest_op o (Remove word) over kind small few = record { kind = kind; delta = small; tags = few }
+is_modest_op o (Put key word) over kind small few = record { kind = kind; delta = small; tags = few }
+is_modest_op o (Erase key) over kind small few = record { kind = kind; delta = small; tags = few }
 
--- one more update that is fit, where there is place for it
-pub grown : (clock : ℕ) (draft : Option (List Update)) (update : Update) → IsSome draft → length (unwrap_or draft []) < MOST_UPDATES → IsFitUpdate update → IfSome draft (IsDraft clock) → IsDraft clock (unwrap_or draft [] ++ update ∷ [])
-grown clock None update some place fit is = cc
-grown clock (Some updates) update some place fit is =
+-- one more update that is modest, where there is place for it
+pub grown : (clock : ℕ) (draft : Option (List Update)) (update : Update) → IsSome draft → length (unwrap_or draft []) < MOST_UPDATES → IsModestUpdate update → IfSome draft (IsDraft clock) → IsDraft clock (unwrap_or draft [] ++ update ∷ [])
+grown clock None update some place modest is = cc
+grown clock (Some updates) update some place modest is =
     let more = length-append updates (update ∷ []) in
-    record { rank = is.rank; few = omega (arith, more, place); fit = All-push IsFitUpdate updates update is.fit fit }
+    record { rank = is.rank; few = omega (arith, more, place); modest = All-push IsModestUpdate updates update is.modest modest }
 
 -- a change that is refused for its many identifiers
 crowded : (s : Client) (o : ObjectId) (c : Change) (r : Refusal) (count : ℕ) (test : Bool) → cond test (Refused (TooManyTags count)) Fine ≡ Refused r → record s { cache = looked_up s o c } ≡ did s (ChangeCall o c) (Refused r)

@@ -7,7 +7,7 @@ use Rattle.std.proofs.lemmas.List.Elements.{All-drop}
 use Rattle.ids_core.specs.declared.limits.TheConstants.{MOST_NUMBER, MOST_PENDING, MOST_UPDATES}
 use Rattle.vv_core.specs.Vectors.{covers}
 use Rattle.tx_core.specs.declared.tx.Update.{Update}
-use Rattle.tx_core.specs.Checks.{IsFitUpdate}
+use Rattle.tx_core.specs.Checks.{IsModestUpdate}
 use Rattle.dc_talk.specs.Clients.{Client}
 use Rattle.dc_talk.specs.Rule.{can_follow}
 use Rattle.client_session.specs.Sessions.{IsClient, IsDraft}
@@ -49,7 +49,7 @@ followed s vector mine top is follows =
       count = omega arith;
       room = omega arith;
       pending = All-drop (λ tx. length tx.updates ≤ MOST_UPDATES) (mine - s.mine) s.pending is.pending;
-      fit = All-drop (λ tx. All IsFitUpdate tx.updates) (mine - s.mine) s.pending is.fit;
+      modest = All-drop (λ tx. All IsModestUpdate tx.updates) (mine - s.mine) s.pending is.modest;
       sent = is.sent;
       draft = no_draft (max s.clock top) s.draft (follows_closed s vector mine top follows);
     }

@@ -23,7 +23,7 @@ use Rattle.tx_core.specs.declared.tx.Update.{Update}
 use Rattle.tx_core.specs.declared.tx.Tx.{Tx}
 use Rattle.tx_core.specs.declared.state.State.{State}
 use Rattle.tx_core.specs.States.{step, fold_of}
-use Rattle.tx_core.specs.Checks.{IsFitUpdate}
+use Rattle.tx_core.specs.Checks.{IsModestUpdate}
 use Rattle.dc_talk.specs.declared.calls.Cached.{Cached}
 use Rattle.dc_talk.specs.declared.calls.Connection.{Connection}
 use Rattle.dc_talk.specs.declared.calls.Refusal.{Refusal}
@@ -132,7 +132,7 @@ kept_on s t es follows same had o seen state there is = follows o seen state the
 
 -- the client with another cache
 cached_so : (s : Client) (cache : List Cached) → IsClient s → IsClient (record s { cache = cache })
-cached_so s cache is = record { client = is.client; mine = is.mine; own = is.own; clock = is.clock; count = is.count; room = is.room; pending = is.pending; fit = is.fit; sent = is.sent; draft = is.draft }
+cached_so s cache is = record { client = is.client; mine = is.mine; own = is.own; clock = is.clock; count = is.count; room = is.room; pending = is.pending; modest = is.modest; sent = is.sent; draft = is.draft }
 
 -- a look-up of an object that the cache has not
 pub missed : (s : Client) (k : ObjectId) (es : StateEntries) → Stands es s → Stands es (record s { cache = promoted k s.vector s.cache })
@@ -171,7 +171,7 @@ fetched s new old es stands gone apart = (cached_so s (kept s.capacity new s.cac
 
 -- the client without an open transaction
 no_draft : (s : Client) → IsClient s → IsClient (record s { draft = None })
-no_draft s is = record { client = is.client; mine = is.mine; own = is.own; clock = is.clock; count = is.count; room = is.room; pending = is.pending; fit = is.fit; sent = is.sent; draft = tt }
+no_draft s is = record { client = is.client; mine = is.mine; own = is.own; clock = is.clock; count = is.count; room = is.room; pending = is.pending; modest = is.modest; sent = is.sent; draft = tt }
 
 -- a transaction without updates is closed
 pub closed : (s : Client) (es : StateEntries) → draft_updates s ≡ [] → Stands es s → Stands es (record s { draft = None })
@@ -221,7 +221,7 @@ committed s updates tx es is tx_is place stands = subst (λ x. Stands es (record
           count = omega (arith, more);
           room = omega (arith, more, place);
           pending = All-push (λ tx. length tx.updates ≤ MOST_UPDATES) s.pending (next_tx s updates) was.pending open_was.few;
-          fit = All-push (λ tx. All IsFitUpdate tx.updates) s.pending (next_tx s updates) was.fit open_was.fit;
+          modest = All-push (λ tx. All IsModestUpdate tx.updates) s.pending (next_tx s updates) was.modest open_was.modest;
           sent = sent_more s.link was.sent;
           draft = tt;
         }
@@ -231,14 +231,14 @@ committed s updates tx es is tx_is place stands = subst (λ x. Stands es (record
         append-nil (flat_map (ops_of o) (s.pending ++ next_tx s updates ∷ [])) ∙ (flat_map-append (ops_of o) s.pending (next_tx s updates ∷ []) ∙ (ap (λ l. flat_map (ops_of o) s.pending ++ l) (append-nil (ops_of o (next_tx s updates))) ∙ ap (λ d. ops_behind o s.pending (s.clock + 1) (next_dot s) (unwrap_or d [])) (sym is)))
 
 -- one more update, which is taken into the state that is kept of its object
-pub pushed : (s : Client) (u : Update) (old new : StateEntries) (dot : Dot) (place : ℕ) → IsSome s.draft → length (draft_updates s) < MOST_UPDATES → IsFitUpdate u → Stands old s → dot ≡ next_dot s → place ≡ length (draft_updates s) → HadApart u.object old new → ((seen : State) → lookup (same_object u.object) new ≡ Some seen → (before : State) × (lookup (same_object u.object) old ≡ Some before) × (seen ≡ step before (mark (s.clock + 1) dot place, u.op))) → Stands new (record s { draft = Some (draft_updates s ++ u ∷ []) })
-pushed s u old new dot place some room fit stands dot_is place_is apart own = (client, follows)
+pub pushed : (s : Client) (u : Update) (old new : StateEntries) (dot : Dot) (place : ℕ) → IsSome s.draft → length (draft_updates s) < MOST_UPDATES → IsModestUpdate u → Stands old s → dot ≡ next_dot s → place ≡ length (draft_updates s) → HadApart u.object old new → ((seen : State) → lookup (same_object u.object) new ≡ Some seen → (before : State) × (lookup (same_object u.object) old ≡ Some before) × (seen ≡ step before (mark (s.clock + 1) dot place, u.op))) → Stands new (record s { draft = Some (draft_updates s ++ u ∷ []) })
+pushed s u old new dot place some room modest stands dot_is place_is apart own = (client, follows)
   where
     was : IsClient s
     was = stands.0
 
     client : IsClient (record s { draft = Some (draft_updates s ++ u ∷ []) })
-    client = record { client = was.client; mine = was.mine; own = was.own; clock = was.clock; count = was.count; room = was.room; pending = was.pending; fit = was.fit; sent = was.sent; draft = grown s.clock s.draft u some room fit was.draft }
+    client = record { client = was.client; mine = was.mine; own = was.own; clock = was.clock; count = was.count; room = was.room; pending = was.pending; modest = was.modest; sent = was.sent; draft = grown s.clock s.draft u some room modest was.draft }
 
     m : Mark
     m = mark (s.clock + 1) (next_dot s) (length (draft_updates s))

@@ -2,17 +2,17 @@
 use Rattle.std.specs.Prelude.{◌≡◌, ◌≤◌, ◌<◌, ℕ, ◌+◌, List, length, All, IfSome}
 use Rattle.ids_core.specs.declared.limits.TheConstants.{MOST_CLIENTS, MOST_NUMBER, MOST_PENDING, MOST_UPDATES}
 use Rattle.tx_core.specs.declared.tx.Update.{Update}
-use Rattle.tx_core.specs.Checks.{IsFitUpdate}
+use Rattle.tx_core.specs.Checks.{IsModestUpdate}
 use Rattle.dc_talk.specs.Clients.{Client}
 
--- an open transaction has a rank, and its updates are few enough and fit
+-- an open transaction has a rank, and its updates are few enough and modest
 pub record IsDraft (clock : ℕ) (updates : List Update) : Type 0 where
   pub rank : clock < MOST_NUMBER
   pub few : length updates ≤ MOST_UPDATES
-  pub fit : All IsFitUpdate updates
+  pub modest : All IsModestUpdate updates
 
 -- the client has a number; its numbers lie one below another; the commits that are pending
--- are those past the snapshot, and few enough, with updates that are few enough and fit; an open
+-- are those past the snapshot, and few enough, with updates that are few enough and modest; an open
 -- transaction can be committed
 pub record IsClient (s : Client) : Type 0 where
   pub client : (1 ≤ s.client) × (s.client ≤ MOST_CLIENTS)
@@ -22,6 +22,6 @@ pub record IsClient (s : Client) : Type 0 where
   pub count : length s.pending + s.mine ≡ s.own
   pub room : length s.pending ≤ MOST_PENDING
   pub pending : All (λ tx. length tx.updates ≤ MOST_UPDATES) s.pending
-  pub fit : All (λ tx. All IsFitUpdate tx.updates) s.pending
+  pub modest : All (λ tx. All IsModestUpdate tx.updates) s.pending
   pub sent : IfSome s.link (λ link. link.sent ≤ s.own)
   pub draft : IfSome s.draft (IsDraft s.clock)

@@ -1,7 +1,7 @@
 // Changes of objects in the open transaction.
 ghost use Rattle.std.specs.Prelude.{◌≡◌, ◌≢◌, ◌≤◌, ◌<◌, ◌++◌, ◌∷◌, [], length, true, Some, None, IsSome, IfOk, IfErr, OnOk, OnErr, IfSome, IfNone};
 ghost use Rattle.std.specs.Option.{unwrap_or};
-ghost use Rattle.tx_core.specs.Checks.{IsFitUpdate};
+ghost use Rattle.tx_core.specs.Checks.{IsModestUpdate};
 ghost use Rattle.client_session.specs.SessionAnswers.{MayBeShort};
 ghost use Rattle.dc_talk.specs.Calls.{sort_of_change, is_modest, named, op_of, tags_in};
 
@@ -48,7 +48,7 @@ impl Session {
     fn push_update(&mut self, update: Update) -> Result<(), Refusal>
         requires is_open { IsSome self.old.draft }
         requires place { length (draft_updates self.old) < MOST_UPDATES }
-        requires fit { IsFitUpdate update }
+        requires modest { IsModestUpdate update }
         ensures ok { OnOk result (self.new ≡ record self.old { draft = Some (draft_updates self.old ++ update ∷ []) }) }
         ensures err { IfErr result (λ refusal. (refusal ≡ Refusal.NoMemory) × (self.new ≡ self.old)) }
     {

@@ -37,6 +37,7 @@ pub mod Pigeons
 pub mod Hops
 pub mod Deliveries
 pub mod Links
+pub mod CommitTags
 pub mod FitCommits
 pub mod ClientAsks
 pub mod TimelySnapshots

@@ -2,25 +2,28 @@
 use Rattle.std.proofs.Common.{◌≡◌, ◌≢◌, ◌≤◌, ◌+◌, ℕ, zero, suc, unsigned_abs, Bool, true, false, cond, not, nat_le, nat_lt, ◌==◌, Option, Some, None, List, [], ◌∷◌, length, All, refl, sym, ap, ◌∙◌, arith}
 use Rattle.std.specs.Prelude.{◌↔◌, ℤ, neg_ℤ, pos, ◌≤ℤ◌, IsTrue, position}
 use Rattle.std.specs.Bool.{Decides}
-use Rattle.std.specs.List.{position_from}
+use Rattle.std.specs.List.{position_from, list_all}
 use Rattle.std.specs.Option.{option_or, option_map}
-use Rattle.std.proofs.lemmas.Bool.{and_parts, and_from, leb-true, le-leb, false≢true}
+use Rattle.std.proofs.lemmas.Bool.{and_parts, and_from, leb-true, le-leb, ltb-true, lt-ltb, false≢true}
 use Rattle.std.proofs.lemmas.Bool.Decides.{leb_tells, Decides-eqb}
 use Rattle.std.proofs.lemmas.Int.{ints}
 use Rattle.std.proofs.Math.Dec.{eqb-suc-zero}
 use Rattle.std.proofs.lemmas.Iterator.Adapters.{position_from-zero}
+use Rattle.std.proofs.lemmas.List.Sums.{AllPass-from_list_all, list_all-from_AllPass}
 use Rattle.std.proofs.lemmas.List.Elements.{All-head, All-tail, All-cons}
 use Rattle.list_core.specs.Choices.{when, first_of}
 use Rattle.list_core.proofs.Choices.{option_map-none}
+use Rattle.ids_core.specs.declared.ids.Dot.{Dot}
+use Rattle.ids_core.specs.declared.ids.OpId.{OpId}
 use Rattle.ids_core.specs.declared.limits.TheConstants.{MOST_CLIENTS, MOST_UPDATES, MOST_TAGS, MOST_RECORDS, MOST_DELTA, MOST_NUMBER}
 use Rattle.ids_core.specs.Ids.{same_sort}
 use Rattle.ids_core.specs.Same.{same_sort-true, same_sort-itself}
 use Rattle.tx_core.specs.declared.tx.Update.{Update}
 use Rattle.tx_core.specs.declared.tx.Tx.{Tx}
 use Rattle.tx_core.specs.declared.check.TxFault.{TxFault}
-use Rattle.tx_core.specs.declared.check.TxFault.TheVariants.{NoUpdates, TooManyUpdates, BadDot, BadRank, WrongWidth, BadSnap, WrongKind, DeltaTooLarge, TooManyTags}
+use Rattle.tx_core.specs.declared.check.TxFault.TheVariants.{NoUpdates, TooManyUpdates, BadDot, BadRank, WrongWidth, BadSnap, WrongKind, DeltaTooLarge, TooManyTags, BadTag}
 use Rattle.tx_core.specs.Ops.{sort_of_op, over_of}
-use Rattle.tx_core.specs.Checks.{is_within, is_dot, is_small, snap_fault, update_fault, updates_fault, fault_of, is_small_delta, IsFitUpdate, IsFit}
+use Rattle.tx_core.specs.Checks.{is_within, is_dot, is_tag, is_small, snap_fault, update_fault, updates_fault, fault_of, is_small_delta, IsTag, IsFitUpdate, IsFit}
 
 -- a choice that is not there
 passed : (test : Bool) (fault : TxFault) (rest : List (Option (Option TxFault))) (last : Option TxFault) → first_of (when test (Some fault) ∷ rest) last ≡ None → (test ≡ false) × (first_of rest last ≡ None)
@@ -98,26 +101,61 @@ snap_fault-none snap h =
 none-snap_fault : (snap : List ℕ) → All (λ entry. entry ≤ MOST_RECORDS) snap → snap_fault snap ≡ None
 none-snap_fault snap h = ap (option_map (λ place. BadSnap (place + 1))) (position_from-zero (nat_lt MOST_RECORDS) snap ∙ none_found (nat_lt MOST_RECORDS) 0 snap (λ k d below. false-nat_lt MOST_RECORDS _ (h k d below)))
 
+-- the client and the number of a dot are in range
+abbrev InRange : Dot → Type 0
+InRange dot = ((1 ≤ dot.client) × (dot.client ≤ MOST_CLIENTS)) × ((1 ≤ dot.number) × (dot.number ≤ MOST_NUMBER))
+
+-- the test of a dot says so
+is_dot-Decides : (dot : Dot) → Decides (is_dot dot) (InRange dot)
+is_dot-Decides dot =
+    let client = is_within-Decides 1 MOST_CLIENTS dot.client in
+    let number = is_within-Decides 1 MOST_NUMBER dot.number in
+    (λ h. let parts = and_parts (is_within 1 MOST_CLIENTS dot.client) (is_within 1 MOST_NUMBER dot.number) h in (client.0 parts.0, number.0 parts.1), λ h. and_from (is_within 1 MOST_CLIENTS dot.client) (is_within 1 MOST_NUMBER dot.number) (client.1 h.0) (number.1 h.1))
+
+-- the test of an identifier says that it is one that an update may have
+is_tag-Decides : (id : OpId) → Decides (is_tag id) (IsTag id)
+is_tag-Decides id = (to, from)
+  where
+    dot : Decides (is_dot id.dot) (InRange id.dot)
+    dot = is_dot-Decides id.dot
+
+    to : is_tag id ≡ true → IsTag id
+    to h =
+        let parts = and_parts (is_dot id.dot) (nat_lt id.place MOST_UPDATES) h in
+        let ranges = dot.0 parts.0 in
+        let below = ltb-true id.place MOST_UPDATES parts.1 in
+        record { client = ranges.0; number = ranges.1; place = omega (arith, below) }
+
+    from : IsTag id → is_tag id ≡ true
+    from tag =
+        let low = tag.place in
+        and_from (is_dot id.dot) (nat_lt id.place MOST_UPDATES) (dot.1 (tag.client, tag.number)) (lt-ltb id.place MOST_UPDATES (omega (arith, low)))
+
 -- an update without a fault is fit
 update_fault-none : (place : ℕ) (update : Update) → update_fault place update ≡ None → IsFitUpdate update
 update_fault-none place update h =
     let kind = passed (not (same_sort (sort_of_op update.op) update.object.sort)) (WrongKind place) _ _ h in
     let delta = passed (not (is_small update.op)) (DeltaTooLarge place) _ _ kind.1 in
     let tags = passed (nat_lt MOST_TAGS (length (over_of update.op))) (TooManyTags place (length (over_of update.op))) _ _ delta.1 in
+    let over = passed (not (list_all is_tag (over_of update.op))) (BadTag place) _ _ tags.1 in
+    let pass = AllPass-from_list_all is_tag (over_of update.op) (true_of (list_all is_tag (over_of update.op)) over.0) in
     record {
       kind = same_sort-true (sort_of_op update.op) update.object.sort (true_of (same_sort (sort_of_op update.op) update.object.sort) kind.0);
       delta = true_of (is_small update.op) delta.0;
       tags = nat_lt-false MOST_TAGS (length (over_of update.op)) tags.0;
+      over = λ k d below. (is_tag-Decides _).0 (pass k d below);
     }
 
 -- and the other way round
 none-update_fault : (place : ℕ) (update : Update) → IsFitUpdate update → update_fault place update ≡ None
 none-update_fault place update fit =
     let kind : same_sort (sort_of_op update.op) update.object.sort ≡ true = ap (same_sort (sort_of_op update.op)) (sym fit.kind) ∙ same_sort-itself (sort_of_op update.op) in
+    let over : list_all is_tag (over_of update.op) ≡ true = list_all-from_AllPass is_tag (over_of update.op) (λ k d below. (is_tag-Decides _).1 (fit.over k d below)) in
     passes (not (same_sort (sort_of_op update.op) update.object.sort)) (WrongKind place) _ _ (false_of (same_sort (sort_of_op update.op) update.object.sort) kind)
     (passes (not (is_small update.op)) (DeltaTooLarge place) _ _ (false_of (is_small update.op) fit.delta)
     (passes (nat_lt MOST_TAGS (length (over_of update.op))) (TooManyTags place (length (over_of update.op))) _ _ (false-nat_lt MOST_TAGS (length (over_of update.op)) fit.tags)
-    refl))
+    (passes (not (list_all is_tag (over_of update.op))) (BadTag place) _ _ (false_of (list_all is_tag (over_of update.op)) over)
+    refl)))
 
 -- updates without a fault are fit
 updates_fault-none : (place : ℕ) (updates : List Update) → updates_fault place updates ≡ None → All IsFitUpdate updates
@@ -141,13 +179,13 @@ fault_of-none n tx h =
     let rank = passed (not (is_within 1 MOST_NUMBER tx.rank)) BadRank _ _ dot.1 in
     let width = passed (not (length tx.snap == n)) (WrongWidth (length tx.snap)) _ _ rank.1 in
     let rest = both_none (snap_fault tx.snap) (updates_fault 0 tx.updates) width.1 in
-    let parts = and_parts (is_within 1 MOST_CLIENTS tx.dot.client) (is_within 1 MOST_NUMBER tx.dot.number) (true_of (is_dot tx.dot) dot.0) in
+    let ranges = (is_dot-Decides tx.dot).0 (true_of (is_dot tx.dot) dot.0) in
     let none : length tx.updates ≢ 0 = λ e. false≢true (sym some.0 ∙ (Decides-eqb (length tx.updates) 0).1 e) in
     record {
       some = omega (arith, none);
       few = nat_lt-false MOST_UPDATES (length tx.updates) few.0;
-      client = (is_within-Decides 1 MOST_CLIENTS tx.dot.client).0 parts.0;
-      number = (is_within-Decides 1 MOST_NUMBER tx.dot.number).0 parts.1;
+      client = ranges.0;
+      number = ranges.1;
       rank = (is_within-Decides 1 MOST_NUMBER tx.rank).0 (true_of (is_within 1 MOST_NUMBER tx.rank) rank.0);
       width = (Decides-eqb (length tx.snap) n).0 (true_of (length tx.snap == n) width.0);
       snap = snap_fault-none tx.snap rest.0;
@@ -158,9 +196,7 @@ fault_of-none n tx h =
 pub none-fault_of : (n : ℕ) (tx : Tx) → IsFit n tx → fault_of n tx ≡ None
 none-fault_of n tx fit =
     let some = zero_apart (length tx.updates) fit.some in
-    let client = (is_within-Decides 1 MOST_CLIENTS tx.dot.client).1 fit.client in
-    let number = (is_within-Decides 1 MOST_NUMBER tx.dot.number).1 fit.number in
-    let dot = and_from (is_within 1 MOST_CLIENTS tx.dot.client) (is_within 1 MOST_NUMBER tx.dot.number) client number in
+    let dot = (is_dot-Decides tx.dot).1 (fit.client, fit.number) in
     let rank = (is_within-Decides 1 MOST_NUMBER tx.rank).1 fit.rank in
     let width = (Decides-eqb (length tx.snap) n).1 fit.width in
     passes (length tx.updates == 0) NoUpdates _ _ some

@@ -1,10 +1,14 @@
 // Which transactions are taken.
 ghost use Rattle.std.specs.Prelude.{◌≡◌, ◌≤◌, ◌<◌, ◌↔◌, Some, None, OnOk, IfErr, IfSome, IsOk, length, nat_lt, position};
-ghost use Rattle.tx_core.specs.Checks.{fault_of, is_dot, is_small, is_small_delta, is_within, snap_fault, updates_fault, update_fault, IsFit};
+ghost use Rattle.std.specs.List.{list_all};
+ghost use Rattle.tx_core.specs.Checks.{fault_of, is_dot, is_small, is_small_delta, is_tag, is_within, snap_fault, updates_fault, update_fault, IsFit};
+ghost use Rattle.tx_core.specs.Ops.{over_of};
 
 use crate::op::Op;
 use crate::tx::{Tx, Update};
-use ids_core::{Dot, MOST_CLIENTS, MOST_DELTA, MOST_NUMBER, MOST_RECORDS, MOST_TAGS, MOST_UPDATES};
+use ids_core::{
+    Dot, MOST_CLIENTS, MOST_DELTA, MOST_NUMBER, MOST_RECORDS, MOST_TAGS, MOST_UPDATES, OpId,
+};
 use thiserror::Error;
 use vv_core::Vector;
 
@@ -38,11 +42,16 @@ pub enum TxFault {
     /// The operation of the update at that place is over more than `MOST_TAGS` identifiers.
     #[error("update {place} is over {count} identifiers, which are too many")]
     TooManyTags { place: u16, count: u64 },
+    /// The operation of the update at that place is over an identifier whose client is outside 1 to
+    /// `MOST_CLIENTS`, whose number is outside 1 to `MOST_NUMBER`, or whose place is above
+    /// `MOST_UPDATES - 1`.
+    #[error("update {place} is over an identifier that is out of range")]
+    BadTag { place: u16 },
 }
 
 impl Tx {
     /// Whether the transaction is fit for a system of `n` centres. An `Err` names the first fault,
-    /// in the order of `TxFault`, where the last three are those of the least place that has one.
+    /// in the order of `TxFault`, where the last four are those of the least place that has one.
     pub fn check(&self, n: u8) -> Result<(), TxFault>
         ensures taken { OnOk result (fault_of n self.now ≡ None) }
         ensures refused { IfErr result (λ fault. fault_of n self.now ≡ Some fault) }
@@ -134,9 +143,34 @@ fn update_fault(place: u16, update: &Update) -> Option<TxFault>
         Some(TxFault::DeltaTooLarge { place })
     } else if count > MOST_TAGS {
         Some(TxFault::TooManyTags { place, count })
+    } else if !has_good_tags(&update.op) {
+        Some(TxFault::BadTag { place })
     } else {
         None
     }
+}
+
+// Whether each identifier that the operation is over is in range.
+fn has_good_tags(op: &Op) -> bool
+    ensures { result ≡ list_all is_tag (over_of op.now) }
+{
+    match op {
+        Op::Inc { .. } | Op::Write { .. } => true,
+        Op::Add { over, .. } | Op::Remove { over, .. } => are_tags(over.as_slice()),
+        Op::Put { over, .. } | Op::Erase { over, .. } => are_tags(over.as_slice()),
+    }
+}
+
+fn are_tags(ids: &[OpId]) -> bool
+    ensures { result ≡ list_all is_tag ids.now }
+{
+    ids.iter().all(is_tag)
+}
+
+fn is_tag(id: &OpId) -> bool
+    ensures { result ≡ is_tag id.now }
+{
+    is_dot(&id.dot) && u64::from(id.place) < MOST_UPDATES
 }
 
 fn is_small(op: &Op) -> bool

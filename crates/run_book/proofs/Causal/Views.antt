@@ -88,7 +88,7 @@ module _ (b : Book) (setup : Setup) (fit : FitsWith b setup) where
   -- ---- the graph, and open nodes
 
   -- the updates of each session are over what was live in the views in which they were issued
-  session_issued : (a m : ℕ) → IsClient setup a → HoldsOf (λ s. IsIssued nodes (open_node b s)) (λ t. IsIssued nodes (node_of b t)) (client_at b setup a m) (commits_at b setup a m)
+  pub session_issued : (a m : ℕ) → IsClient setup a → HoldsOf (λ s. IsIssued nodes (open_node b s)) (λ t. IsIssued nodes (node_of b t)) (client_at b setup a m) (commits_at b setup a m)
   session_issued a m c = issued_after b nodes b.n (a - 1) setup.capacity (notes_of b a) (fit.follows a c) (λ p. shows_tags a p c) m
 
   -- so are those of each node

@@ -15,4 +15,4 @@ invariant_of-self-else-is_err c =
     let dot_is = c.next_dot.ensures ∙ ap next_dot (sym c.self.view_is) in
     let some = rw (← c.self.view_is) at c.requires.is_open in
     let room = rw (← c.self.view_is) at c.requires.place in
-    rw more (pushed _ c.args.update c.self.inside.folded.entries c.follow.new.folded.entries _ _ some room c.requires.fit c.self.invariant dot_is (ap length c.updates_of.ensures) c.follow.ensures.apart c.follow.ensures.there)
+    rw more (pushed _ c.args.update c.self.inside.folded.entries c.follow.new.folded.entries _ _ some room c.requires.modest c.self.invariant dot_is (ap length c.updates_of.ensures) c.follow.ensures.apart c.follow.ensures.there)
