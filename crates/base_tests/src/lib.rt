@@ -32,3 +32,5 @@ mod tally_core_tests;
 mod tx_core_tests;
 #[cfg(test)]
 mod vv_core_tests;
+#[cfg(test)]
+mod wire_codec_tests;

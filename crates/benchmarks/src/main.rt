@@ -1,10 +1,11 @@
-//! What the benchmarks time, by the first word: `sets`, `session`, `centre`, `log` or `lock`. Each of these modules
+//! What the benchmarks time, by the first word: `sets`, `session`, `centre`, `log`, `frames` or `lock`. Each of these modules
 //! says which words follow. A number is printed, by which a script knows that the work was done.
 #![tactic(auto)]
 
 mod centre;
 mod counter;
 mod fault;
+mod frames;
 mod lock;
 mod log;
 mod session;
@@ -35,6 +36,7 @@ fn worked<R: Threads + Wait + Sync>(
             }
             "lock" => { lock::worked(rt, alloc, form.as_str(), pending.as_str(), rounds.as_str()) }
             "log" => log::worked(alloc, form.as_str(), pending.as_str(), rounds.as_str()),
+            "frames" => { frames::worked(alloc, form.as_str(), pending.as_str(), rounds.as_str()) }
             _ => None,
         },
         _ => None,
