@@ -1,11 +1,11 @@
 #!/bin/sh
 # Tells what the gate costs: for each crate its lines of .rt, and the seconds of processor (user and
 # system) of its proof, of the base of its edits, of the edits and of its tests.
-#   bench/gate.sh --time LOG [WORD..]   runs `rt ci WORD..`, and adds what it says, and the times, to LOG
+#   bench/gate.sh --time LOG [WORD..]   runs the gate, or `rt ci WORD..`, and adds what it says, and the times, to LOG
 #   bench/gate.sh LOG                   prints the table of such a log
 #   bench/gate.sh --write LOG           puts it into docs/benchmarks.md
-# Where the kit keeps what earlier runs passed, that takes no time: there --anew as the WORD does all
-# from nothing. Of runs that one LOG has of the same part the last one counts. Where a part of a crate
+# Where a kit keeps what earlier runs passed, that takes no time: there --anew as the WORD does all from
+# nothing. Of runs that one LOG has of the same part the last one counts. Where a part of a crate
 # is in no run, it is named on standard error, and the status is 1.
 set -u
 root=$(cd "$(dirname "$0")/.." && pwd) || exit 1
@@ -68,7 +68,7 @@ table() {
                 row(crate, lines[crate])
             }
             row("all crates", all)
-            printf "\nBeside the crates: %.0f s, of rt itself, formats, links and runs of programs.\n", rest
+            printf "\nBeside the crates: %.0f s, of rt itself, formats, links, runs of programs and own checks.\n", rest
             exit status
         }' - "$1"
 }

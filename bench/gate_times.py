@@ -1,7 +1,8 @@
 #!/usr/bin/env python3
-"""Runs `rt ci` with the words given, and then prints the processor time of each part of each crate.
+"""Runs the merge gate, or `rt ci` with the words given, and then prints the processor time of each part of each crate.
 
-    bench/gate_times.py [WORD..]
+    bench/gate_times.py              runs .ci/run
+    bench/gate_times.py WORD..       runs rt ci WORD..
 
 rt ci starts a process for each proof and for each check of an edit, whose words name the crate. Four
 times a second this looks in /proc at those that run and at what they have started, and keeps the
@@ -10,8 +11,8 @@ last time that it saw of each. What rt ci says comes first, and then the lines
     times: CRATE proof|base|edits|tests SECONDS PROCESSES
     times: rest SECONDS
 
-in seconds of user and system time. The rest is all that rt ci took beside them: rt itself, formats,
-links, and runs of programs. The status is that of rt ci.
+in seconds of user and system time. The rest is all that was taken beside them: rt itself, formats, links,
+runs of programs, and this repository's own checks. The status is that of what was run.
 """
 import os
 import re
@@ -21,6 +22,7 @@ import time
 from collections import defaultdict
 
 TICKS = os.sysconf("SC_CLK_TCK")
+GATE = os.path.join(os.path.dirname(os.path.abspath(__file__)), "..", ".ci", "run")
 RUNNER = re.compile(r".*/bin/(\w+)_tests")
 
 
@@ -81,7 +83,8 @@ def look(top, parts, ticks):
 
 def main():
     parts, ticks = {}, defaultdict(int)
-    run = subprocess.Popen(["rt", "ci", *sys.argv[1:]], stdin=subprocess.DEVNULL, stderr=subprocess.STDOUT)
+    words = ["rt", "ci", *sys.argv[1:]] if sys.argv[1:] else [GATE]
+    run = subprocess.Popen(words, stdin=subprocess.DEVNULL, stderr=subprocess.STDOUT)
     while True:
         ended, status, used = os.wait4(run.pid, os.WNOHANG)
         if ended:
