@@ -1,4 +1,4 @@
-//! Tests with threads: machines under a lock, and links. One file a crate, named after it.
+//! Tests with threads: machines under a lock, links, and taps. One file a crate, named after it.
 #![tactic(auto)]
 
 #[cfg(test)]
@@ -7,3 +7,5 @@ mod held;
 mod host_lock_tests;
 #[cfg(test)]
 mod mail_link_tests;
+#[cfg(test)]
+mod read_tap_tests;
