@@ -103,18 +103,18 @@ pub name_bytes_decide : (bytes : List ℕ) → Decides (are_name_bytes bytes) (A
 name_bytes_decide bytes = Decides-by_and is_name_byte IsNameByte are_name_bytes name_byte refl (λ _ _. refl) bytes
 
 -- what a look for a name gives
-pub name_found : (bytes : List ℕ) (r : Result (List ℕ) BadName) → 1 ≤ length bytes → length bytes ≤ 32 → IfOk r (λ name. name ≡ bytes) → (IsErr r ↔ (IsName bytes → ⊥)) → result_ok r ≡ cond (are_name_bytes bytes) (Some bytes) None
+pub name_found : (bytes : List ℕ) (r : Result (List ℕ) BadName) → 1 ≤ length bytes → length bytes ≤ 32 → IfOk r (λ found. found ≡ bytes) → (IsErr r ↔ (IsName bytes → ⊥)) → result_ok r ≡ cond (are_name_bytes bytes) (Some bytes) None
 name_found bytes r some most taken refused = by_test r (are_name_bytes bytes) refl taken refused
   where
     is_name : are_name_bytes bytes ≡ true → IsName bytes
     is_name e = record { some = some; most = most; each = (name_bytes_decide bytes).0 e }
 
     no_name : are_name_bytes bytes ≡ false → IsName bytes → ⊥
-    no_name e name = true≢false (sym ((name_bytes_decide bytes).1 name.each) ∙ e)
+    no_name e is = true≢false (sym ((name_bytes_decide bytes).1 is.each) ∙ e)
 
-    by_test : (s : Result (List ℕ) BadName) (t : Bool) → are_name_bytes bytes ≡ t → IfOk s (λ name. name ≡ bytes) → (IsErr s ↔ (IsName bytes → ⊥)) → result_ok s ≡ cond t (Some bytes) None
-    by_test (Ok name) true e same exact = ap Some same
-    by_test (Ok name) false e same exact = absurd (true≢false (sym (exact.1 (no_name e))))
+    by_test : (s : Result (List ℕ) BadName) (t : Bool) → are_name_bytes bytes ≡ t → IfOk s (λ found. found ≡ bytes) → (IsErr s ↔ (IsName bytes → ⊥)) → result_ok s ≡ cond t (Some bytes) None
+    by_test (Ok found) true e same exact = ap Some same
+    by_test (Ok found) false e same exact = absurd (true≢false (sym (exact.1 (no_name e))))
     by_test (Err bad) true e same exact = absurd (exact.0 refl (is_name e))
     by_test (Err bad) false e same exact = refl
 
