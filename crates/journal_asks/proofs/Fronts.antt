@@ -15,6 +15,7 @@ use Rattle.journal_asks.specs.Asks.{spelled, IsFront}
 
 -- ---- asks of one kind with one frame
 
+-- frames of commits
 committed : (by by' : ℕ) (tx tx' : Tx) → Some (commit_of by tx) ≡ Some (commit_of by' tx') → (by ≡ by') × (tx ≡ tx')
 committed by by' tx tx' same =
     let items : commit_of by tx ≡ commit_of by' tx' = cc same in
@@ -22,6 +23,7 @@ committed by by' tx tx' same =
     let d : Record = record { stamp = record { centre = by; seq = 1 }; deps = []; tx = tx } in
     (ap (λ frame. (item_of frame d).stamp.centre) items, ap (λ frame. (item_of frame d).tx) items)
 
+-- asks of one kind with one frame are one
 same_ask : (by by' : ℕ) (ask ask' : Ask) → is_kind ask ≡ true → by ≡ by_of by ask → by' ≡ by_of by' ask' → kind_of ask ≡ kind_of ask' → frame_of by ask ≡ frame_of by' ask' → (by ≡ by') × (ask ≡ ask')
 same_ask by by' (Deliver item hops) (Deliver item' hops') is own own' kind same =
     let items : Rec item hops ≡ Rec item' hops' = cc same in
@@ -52,6 +54,7 @@ same_parts a b by ask =
     let P : ℕ × Ask → Type 0 = λ p. (fits : IsSpelledAsk p.0 p.1) → a ≡ record { by = p.0; ask = p.1; fits = fits } in
     subst P pair (λ fits. (λ i. record { by = a.by; ask = a.ask; fits = IsSpelledAsk-prop a.by a.ask a.fits fits i })) b.fits
 
+-- so are those with their proofs
 pub same_kept : (a b : KeptAsk) → kind_of a.ask ≡ kind_of b.ask → frame_of a.by a.ask ≡ frame_of b.by b.ask → a ≡ b
 same_kept a b kind frame = let both = same_ask a.by b.by a.ask b.ask a.fits.kind a.fits.own b.fits.own kind frame in same_parts a b both.0 both.1
 
@@ -61,6 +64,7 @@ sized x n = (x, n)
 
 -- ---- asks with no frame
 
+-- an ask of a kind from 3 to 5 has no frame
 no_frame : (by : ℕ) (ask : Ask) (kind : ℕ) → kind_of ask ≡ kind → (3 ≤ kind) × (kind ≤ 5) → frame_of by ask ≡ None
 no_frame by (Deliver item hops) kind is range = absurd (let low = range.0 in omega (arith, is, low))
 no_frame by (Learn from news) kind is range = absurd (let low = range.0 in omega (arith, is, low))
@@ -72,6 +76,7 @@ module _ (kind : ℕ) (bytes : List ℕ) where
     none_y : frame_of y.by y.ask ≡ None
     none_y = no_frame y.by y.ask kind is range
 
+    -- bytes begin with an ask that is its kind alone
     pub bare_front : IsFront (kind ∷ bytes) (Some (y, 1))
     bare_front = record {
       only = λ x rest begins.
@@ -85,6 +90,7 @@ module _ (kind : ℕ) (bytes : List ℕ) where
 
 -- ---- asks with a frame
 
+-- every other has one
 some_frame : (by : ℕ) (ask : Ask) (kind : ℕ) → is_kind ask ≡ true → kind_of ask ≡ kind → (kind < 3) ⊎ (5 < kind) → (frame : Item) × (frame_of by ask ≡ Some frame)
 some_frame by (Deliver item hops) kind there is range = (Rec item hops, refl)
 some_frame by (Learn from news) kind there is range = (Rep from news, refl)
