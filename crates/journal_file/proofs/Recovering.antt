@@ -83,3 +83,10 @@ module _ {T : Type 0} (spelled : T → List ℕ) (h : List Moment) (xs : List T)
           let Q : List Moment → Type 0 = λ l. OnOk r ((IsSettled l) × (Shortens (end + 1) (seen h1) (seen l))) in
           ran_weaker stands h1 (Between (end + 1) (seen h1)) (Found spelled xs h) Q S (λ c between. inr (cut_file end (seen h1) e c between))
           (λ l q2. then l (on_ok_more _ _ r (λ w. cut_at end (seen h1) e l w.0 w.1) q2)) (second h1 s q.0 (cut_within end (seen h1) e))
+
+  -- a settled file was cut
+  pub resumed : {A E : Type 0} (stands : List Moment → Type 0) (end : ℕ) (r : Result A E) (S : List Moment → Type 0) → (e : EndsAt spelled xs end (seen h))
+      → Ran stands h (Between (end + 1) (seen h)) (λ l. OnOk r ((IsSettled l) × (Shortens (end + 1) (seen h) (seen l)))) → ((l : List Moment) → OnOk r (IsAt spelled end l xs) → S l) → Ran stands h (FileOf spelled xs) S
+  resumed stands end r S e ran then =
+      let Q : List Moment → Type 0 = λ l. OnOk r ((IsSettled l) × (Shortens (end + 1) (seen h) (seen l))) in
+      ran_weaker stands h (Between (end + 1) (seen h)) (FileOf spelled xs) Q S (λ c between. cut_file end (seen h) e c between) (λ l q. then l (on_ok_more _ _ r (λ w. cut_at end (seen h) e l w.0 w.1) q)) ran

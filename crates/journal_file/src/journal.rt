@@ -1,14 +1,14 @@
 // A journal that is open for more items.
-ghost use Rattle.std.specs.Prelude.{◌≡◌, ◌+◌, ◌<◌, ◌≤◌, ◌^◌, ◌⊎◌, ◌++◌, [], ◌∷◌, true, false, List, ℕ, length, Err, IsOk, IsErr, IsErrOf, MatchResult, OnOk, IfOk, IfErr};
+ghost use Rattle.std.specs.Prelude.{◌≡◌, ◌+◌, ◌<◌, ◌≤◌, ◌^◌, ◌⊎◌, ◌++◌, [], ◌∷◌, true, false, List, ℕ, length, Err, IsOk, IsErr, IsErrOf, IsTrue, ◌↔◌, MatchResult, OnOk, IfOk, IfErr};
 ghost use Rattle.journal_disk.specs.declared.disk.Moment.{Moment};
 ghost use Rattle.journal_disk.specs.Disk.{seen, is_sound, IsSettled, Ran, HasRisen};
-ghost use Rattle.journal_file.specs.Journal.{IsAt, IsEither, FileOf, IsBadAt, Found, opened};
+ghost use Rattle.journal_file.specs.Journal.{IsAt, IsEither, FileOf, IsBadAt, EndsAt, Found, opened};
 ghost use Rattle.journal_file.specs.Faults.{append_fault, IsBad};
 
 use crate::append::{publish, spell_all, wipe};
 use crate::opening::{begin, recover};
 use crate::{Item, JournalFault, OpenFault};
-use journal_disk::{Disk, DiskFault};
+use journal_disk::{Disk, DiskFault, shorten};
 use std::alloc::Global;
 
 /// A journal that is open for more items. Contracts see its disk, the place of the closed gate at which its file ends,
@@ -81,6 +81,33 @@ impl<D: Disk> Journal<D> {
                 items,
             )),
             Err(why) => Err(Unopened { why, disk }),
+        }
+    }
+
+    /// Goes on with the journal of a settled disk whose items end at a closed gate at this place, and cuts the file behind
+    /// that gate. A crash at any moment of the call leaves a file of these items.
+    pub fn resume<T: Item>(alloc: Global, disk: D, end: u64) -> Result<Journal<D>, Unopened<D>>
+        requires { end + 1 < 2 ^ 64 }
+        ensures ok { IfOk result (λ journal. (h : List Moment) (xs : List T) → D.stands disk h → IsSettled h → EndsAt T.spelled xs end (seen h) → Ran (D.stands (disk_of journal)) h (FileOf T.spelled xs) (λ later. IsAt T.spelled end later xs)) }
+        ensures end { IfOk result (λ journal. end_of journal ≡ end) }
+        ensures open { IfOk result (λ journal. is_shut journal ≡ false) }
+        ensures err { IfErr result (λ e. (h : List Moment) (xs : List T) → D.stands disk h → IsSettled h → EndsAt T.spelled xs end (seen h) → Ran (D.stands e.disk) h (FileOf T.spelled xs) (λ _. Unit {0})) }
+        ensures not_bad { IfErr result (λ e. IsBad e.why → ⊥) }
+        ensures failed { IfErr result (λ e. e.why ≡ OpenFault.Disk → HasRisen (D.faults disk) (D.faults e.disk)) }
+        ensures honest { MatchResult result (λ journal. D.is_honest (disk_of journal) → D.is_honest disk) (λ e. D.is_honest e.disk → D.is_honest disk) }
+    {
+        let mut disk = disk;
+        match shorten(&mut disk, end + 1) {
+            Ok(()) => Ok(Journal {
+                alloc,
+                disk,
+                end,
+                shut: false,
+            }),
+            Err(fault) => Err(Unopened {
+                why: fault.into(),
+                disk,
+            }),
         }
     }
 
@@ -159,19 +186,27 @@ impl<D: Disk> Journal<D> {
         self.disk
     }
 
-    // Puts items with these entries behind the others. After an `Err` it is shut.
-    fn put<T: Item>(&mut self, items: &[T], out: &[u8]) -> Result<(), JournalFault>
-        requires few { self.old.end < 2 ^ 62 }
-        requires open { self.old.shut ≡ false }
+    /// Whether the closed gate stands before 2^62, so that items can be put behind it.
+    pub fn has_room(&self) -> bool
+        ensures { IsTrue result ↔ (end_of self.now < 2 ^ 62) }
+    {
+        self.end <= MOST
+    }
+
+    /// Puts items behind the others, whose entries `spell_all` gave: an append that finds its memory before. A crash at
+    /// any moment of the call leaves the old items or all, and after an `Ok` all. After an `Err` it is shut.
+    pub fn put<T: Item>(&mut self, items: &[T], out: &[u8]) -> Result<(), JournalFault>
+        requires few { end_of self.old < 2 ^ 62 }
+        requires open { is_shut self.old ≡ false }
         requires out { out.now ≡ opened T.spelled items.now ++ 0 ∷ [] }
-        ensures moments { (h : List Moment) (xs : List T) → D.stands self.old.disk h → IsAt T.spelled self.old.end h xs
-            → Ran (D.stands self.new.disk) h (IsEither T.spelled xs (xs ++ items.now)) (λ later. OnOk result (IsAt T.spelled self.new.end later (xs ++ items.now))) }
-        ensures open { IsOk result → self.new.shut ≡ false }
-        ensures closes { IsErr result → self.new.shut ≡ true }
+        ensures moments { (h : List Moment) (xs : List T) → D.stands (disk_of self.old) h → IsAt T.spelled (end_of self.old) h xs
+            → Ran (D.stands (disk_of self.new)) h (IsEither T.spelled xs (xs ++ items.now)) (λ later. OnOk result (IsAt T.spelled (end_of self.new) later (xs ++ items.now))) }
+        ensures open { IsOk result → is_shut self.new ≡ false }
+        ensures closes { IsErr result → is_shut self.new ≡ true }
         ensures no_shut { IsErrOf result JournalFault.Shut → ⊥ }
-        ensures failed { IsErrOf result JournalFault.Disk → HasRisen (D.faults self.old.disk) (D.faults self.new.disk) }
-        ensures short { IsErrOf result JournalFault.NoMemory → HasRisen (D.shortages self.old.disk) (D.shortages self.new.disk) }
-        ensures honest { D.is_honest self.new.disk → D.is_honest self.old.disk }
+        ensures failed { IsErrOf result JournalFault.Disk → HasRisen (D.faults (disk_of self.old)) (D.faults (disk_of self.new)) }
+        ensures short { IsErrOf result JournalFault.NoMemory → HasRisen (D.shortages (disk_of self.old)) (D.shortages (disk_of self.new)) }
+        ensures honest { D.is_honest (disk_of self.new) → D.is_honest (disk_of self.old) }
     {
         if items.is_empty() {
             return Ok(());

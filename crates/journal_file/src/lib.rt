@@ -8,6 +8,7 @@ mod journal;
 mod laws;
 mod opening;
 
+pub use append::spell_all;
 pub use faults::{JournalFault, OpenFault};
 pub use item::Item;
 pub use journal::{Journal, Unopened};

@@ -1,0 +1,6 @@
+pub mod Unkept
+pub mod Trails
+pub mod Replaying
+pub mod Reading
+pub mod Keeping
+pub mod Opened

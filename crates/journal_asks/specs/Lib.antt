@@ -1,0 +1,3 @@
+pub mod Props
+pub mod Spellings
+pub mod Asks
