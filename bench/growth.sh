@@ -1,9 +1,10 @@
 #!/bin/sh
 # Times `swift_sim serial` on 10,000, 20,000 and 40,000 lines of each form that a script may have more than once, with
 # what they need around them, and `run` too where the form is of phases, with the built program, and prints the rows of
-# the table in docs/benchmarks.md: the seconds of processor of 40,000 lines, and the greater ratio of the two doublings.
-# Each time is the least of three runs, and counts as a twentieth of a second where it is less. The status is 1 where a
-# doubling takes more than 2.2 times as long, or the program gives a wrong end.
+# the table in docs/benchmarks.md: the most lines, the seconds of processor that they take, and the greater ratio of the
+# two doublings. A form of which a line is many asks has fewer lines: a fortieth among eight centres for `settle`, and a
+# quarter for a phase. Each time is the least of three runs, and counts as a twentieth of a second where it is less. The
+# status is 1 where a doubling takes more than 2.2 times as long, or the program gives a wrong end.
 #   bench/growth.sh              times crates/swift_sim/out/swift_sim
 #   bench/growth.sh FORM..       the same of these rows alone, as 'again' or 'settle of eight'
 #   SWIFT_SIM=FILE bench/growth.sh      times another program
@@ -117,19 +118,29 @@ lines() {
         }'
 }
 
+# fewest FORM: the lines at first of a form.
+fewest() {
+    case $1 in
+    'settle of eight') echo $((first / 40)) ;;
+    'phase, end'*) echo $((first / 4)) ;;
+    *) echo "$first" ;;
+    esac
+}
+
 # grown FORM WORD: the row of a form, played by this word.
 grown() {
     before=
     worse=0
-    for count in "$first" $((2 * first)) $((4 * first)); do
+    least=$(fewest "$1")
+    for count in "$least" $((2 * least)) $((4 * least)); do
         lines "$1" "$count" >"$room/script"
         took=$(processor 3 "$2") && [ "$(tail -n 1 "$room/out")" = 'c1 at 1' ] || wrong "$count" lines of "$1" by "$2"
         [ "$took" -gt 50000 ] || took=50000
         [ -z "$before" ] || worse=$(awk -v took="$took" -v before="$before" -v worse="$worse" 'BEGIN { ratio = took / before; print (ratio > worse ? ratio : worse) }')
         before=$took
     done
-    awk -v form="$1" -v word="$2" -v took="$took" -v worse="$worse" 'BEGIN {
-        printf "| %s | %s | %.2f | %.2f |\n", form, word, took / 1000000, worse
+    awk -v form="$1" -v word="$2" -v count="$count" -v took="$took" -v worse="$worse" 'BEGIN {
+        printf "| %s | %s | %d | %.2f | %.2f |\n", form, word, count, took / 1000000, worse
         exit worse > 2.2
     }' || status=1
 }
@@ -138,7 +149,7 @@ grown() {
     refresh again 'again of none' 'lose ask' 'lose reply' twice 'down, up' prune tell ship 'ship of one' relay settle \
     'settle of eight' 'link clean' 'link drop' 'link twice' 'link hold' 'phase, end' 'phase, end of eight' \
     'steps of a phase' comment mixed
-head_of form by "seconds of $((4 * first)) lines" 'worse ratio'
+head_of form by lines seconds 'worse ratio'
 for form in "$@"; do
     grown "$form" serial
     case $form in

@@ -1,10 +1,13 @@
 mod Examples
 pub mod Blanks
+pub mod Cutting
+pub mod Plain
 pub mod Digits
 pub mod NameTests
 pub mod CellTests
 pub mod Fitting
 pub mod Sieving
+pub mod FirstWords
 pub mod Saying
 pub mod Onward
 pub mod CutOff

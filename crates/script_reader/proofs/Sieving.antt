@@ -1,13 +1,15 @@
 -- The form of words, found among some of all forms: none of the others has its fixed words in their places.
-use Rattle.std.proofs.Common.{◌≡◌, ℕ, Bool, true, false, List, [], ◌∷◌, refl, ap, sym, ◌∙◌}
-use Rattle.std.specs.Prelude.{◌&&◌, ◌||◌, ◌==◌, not, cond, find, filter, slice_index, Some, None, bytes_eq}
+use Rattle.std.proofs.Common.{◌≡◌, ℕ, Bool, true, false, ◌≤◌, ◌-◌, List, [], ◌∷◌, Bor, drop, get_or, length, take, refl, ap, sym, ◌∙◌, arith}
+use Rattle.std.specs.Prelude.{◌&&◌, ◌||◌, ◌==◌, not, cond, find, filter, slice_index, Some, bytes_eq}
 use Rattle.std.specs.List.{list_any, list_all}
 use Rattle.std.proofs.lemmas.Bool.{false≢true, eq-eqb}
+use Rattle.std.proofs.lemmas.List.{length-drop, take_all}
 use Rattle.std.proofs.lemmas.Slice.Eq.{bytes_eq-Decides}
 use Rattle.script_reader.specs.declared.form.Part.{Part}
 use Rattle.script_reader.specs.declared.form.Part.TheVariants.{Fixed, Client, Holder}
 use Rattle.script_reader.specs.declared.form.Form.{Form}
 use Rattle.script_reader.specs.Forms.{agrees, fits, found, form_among, form_of, forms, is_client_word, parts_of, word_text}
+use Rattle.script_reader.specs.Words.{texts_of}
 use Rattle.script_reader.specs.Leads.{client_forms, forms_from, lead, names_client}
 
 -- what a test keeps is all that another one passes of elements of a sort
@@ -90,3 +92,22 @@ form_of_client first verb rest client = form_kept (λ one. is_led (parts_of one)
 pub form_of_others : (first : List ℕ) (rest : List (List ℕ)) → is_client_word first ≡ false → form_among (forms_from (slice_index first 0)) (first ∷ rest) ≡ form_of (first ∷ rest)
 unfolding forms_from
 form_of_others first rest other = form_kept (λ one. is_led (parts_of one)) _ (first ∷ rest) (record { kept = λ one led near. led_by_word (parts_of one) first rest other led near }) refl
+
+-- the words behind the first one
+behind_first : (words : List (Bor (List ℕ))) → take (length words - 1) (drop 1 words) ≡ drop 1 words
+behind_first words = take_all (length words - 1) (drop 1 words) (let shorter = length-drop 1 words in omega arith)
+
+-- the same where the words were cut off
+client_cut : (words : List (Bor (List ℕ))) (none : Bor (List ℕ)) → 1 ≤ length (drop 1 words) → is_client_word (get_or words 0 none).now ≡ true → form_among (client_forms (slice_index (get_or (drop 1 words) 0 none).now 0)) (texts_of words) ≡ form_of (texts_of words)
+client_cut [] none two client = absurd (omega arith)
+client_cut (first ∷ []) none two client = absurd (omega arith)
+client_cut (first ∷ verb ∷ words) none two client = form_of_client first.now verb.now (texts_of words) client
+
+pub client_words : (words : List (Bor (List ℕ))) (none : Bor (List ℕ)) (letter : ℕ) → 1 ≤ length (take (length words - 1) (drop 1 words)) → is_client_word (get_or words 0 none).now ≡ true → letter ≡ slice_index (get_or (take (length words - 1) (drop 1 words)) 0 none).now 0 → form_among (client_forms letter) (texts_of words) ≡ form_of (texts_of words)
+client_words words none letter two client is =
+    ap (λ l. form_among (client_forms l) (texts_of words)) (is ∙ ap (λ others. slice_index (get_or others 0 none).now 0) (behind_first words))
+    ∙ client_cut words none (let some = ap length (behind_first words) in omega arith) client
+
+pub other_words : (words : List (Bor (List ℕ))) (none : Bor (List ℕ)) (letter : ℕ) → 1 ≤ length words → is_client_word (get_or words 0 none).now ≡ false → letter ≡ slice_index (get_or words 0 none).now 0 → form_among (forms_from letter) (texts_of words) ≡ form_of (texts_of words)
+other_words [] none letter some other is = absurd (omega arith)
+other_words (first ∷ words) none letter some other is = ap (λ l. form_among (forms_from l) (first.now ∷ texts_of words)) is ∙ form_of_others first.now (texts_of words) other

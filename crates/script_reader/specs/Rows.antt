@@ -122,6 +122,11 @@ row_in_words header texts = row_spelled header texts (form_of texts)
 unfoldable pub row_in_text : Option Header → List ℕ → Result (Option Row) Cause
 row_in_text header text = if is_comment (words_of text) then Ok None else (if is_plain_text text then row_in_words header (words_of text) else Err cause.Byte)
 
+-- what was found with this row in its place: a row, nothing, or why there is none
+abbrev pub row_behind : Result Bool Cause → Row → Result (Option Row) Cause
+row_behind (Ok found) line = Ok (if found then Some line else None)
+row_behind (Err why) line = Err why
+
 -- what the line of this number says, behind this header, or why it is refused wherever it stands
 unfoldable pub row_in : Option Header → ℕ → List ℕ → Result (Option Row) Cause
 row_in header number line =

@@ -1,14 +1,14 @@
 // The form of the words of a line.
-ghost use Rattle.std.specs.Prelude.{◌≡◌, ◌∷◌};
+ghost use Rattle.std.specs.Prelude.{◌≡◌};
 ghost use Rattle.script_reader.specs.Fits.{is_near, is_whole};
 ghost use Rattle.script_reader.specs.Forms.{agrees, fits, form_among, form_of, is_client_word, may_be};
-ghost use Rattle.script_reader.specs.Words.{words_of};
+ghost use Rattle.script_reader.specs.Words.{texts_of, words_of};
 
 use crate::fault::Cause;
 use crate::form::{FORMS, Form, Part, parts, spelled};
 use crate::leads::{client_forms, first_letter, forms_from};
 use crate::numbers::are_digits;
-use crate::words::first_word;
+use crate::words::{MOST_WORDS, cut_words};
 
 // How the words of a line stand to a form.
 #[derive(Clone, Copy)]
@@ -38,54 +38,38 @@ pub fn may_be(part: Part, text: &[u8]) -> bool
     }
 }
 
-// How the words of a text stand to these parts.
+// How words stand to these parts.
 #[tactic(auto, using(crate::proofs::Fitting::agrees_none))]
-fn fit_of(parts: &[Part], text: &[u8]) -> Fit
-    ensures whole { is_whole result ≡ fits parts.now (words_of text.now) }
-    ensures near { is_near result ≡ agrees parts.now (words_of text.now) }
+fn fit_of(parts: &[Part], words: &[&[u8]]) -> Fit
+    ensures whole { is_whole result ≡ fits parts.now (texts_of words.now) }
+    ensures near { is_near result ≡ agrees parts.now (texts_of words.now) }
 {
-    let mut rest = text;
+    let mut rest = words;
     for part in parts {
-        match first_word(rest) {
-            Some((word, more)) => {
+        match rest {
+            [word, others @ ..] => {
                 if !may_be(*part, word) {
                     return Fit::Not;
                 }
-                rest = more;
+                rest = others;
             }
-            None => return Fit::Off,
+            [] => return Fit::Off,
         }
     }
-    match first_word(rest) {
-        Some(_) => Fit::Off,
-        None => Fit::Whole,
+    if rest.is_empty() {
+        Fit::Whole
+    } else {
+        Fit::Off
     }
 }
 
-// How words, of which the first was cut off, stand to these parts.
-fn fit_behind(parts: &[Part], first: &[u8], more: &[u8]) -> Fit
-    ensures whole { is_whole result ≡ fits parts.now (first.now ∷ words_of more.now) }
-    ensures near { is_near result ≡ agrees parts.now (first.now ∷ words_of more.now) }
-{
-    match parts {
-        [part, others @ ..] => {
-            if may_be(*part, first) {
-                fit_of(others, more)
-            } else {
-                Fit::Not
-            }
-        }
-        [] => Fit::Off,
-    }
-}
-
-// The one of these forms that words have, of which the first was cut off; or why they have none.
-fn form_among(forms: &[Form], first: &[u8], more: &[u8]) -> Result<Form, Cause>
-    ensures { result ≡ form_among forms.now (first.now ∷ words_of more.now) }
+// The one of these forms that words have; or why they have none.
+fn form_among(forms: &[Form], words: &[&[u8]]) -> Result<Form, Cause>
+    ensures { result ≡ form_among forms.now (texts_of words.now) }
 {
     let mut why = Cause::Word;
     for form in forms {
-        match fit_behind(parts(*form), first, more) {
+        match fit_of(parts(*form), words) {
             Fit::Whole => return Ok(*form),
             Fit::Off => why = Cause::Count,
             Fit::Not => {}
@@ -94,33 +78,38 @@ fn form_among(forms: &[Form], first: &[u8], more: &[u8]) -> Result<Form, Cause>
     Err(why)
 }
 
-// The forms that words may have, of which the first was cut off: no other form has its fixed words in their places.
-fn near_forms(first: &[u8], more: &[u8]) -> &'static [Form]
-    ensures { form_among result.now (first.now ∷ words_of more.now) ≡ form_of (first.now ∷ words_of more.now) }
+// The forms that words may have: no other form has its fixed words in their places.
+fn near_forms(words: &[&[u8]]) -> &'static [Form]
+    ensures { form_among result.now (texts_of words.now) ≡ form_of (texts_of words.now) }
 {
-    if !is_client_word(first) {
-        return forms_from(first_letter(first));
-    }
-    match first_word(more) {
-        Some((verb, _)) => client_forms(first_letter(verb)),
-        None => &FORMS,
+    match words {
+        [first, others @ ..] => {
+            if !is_client_word(first) {
+                return forms_from(first_letter(first));
+            }
+            match others {
+                [verb, ..] => client_forms(first_letter(verb)),
+                [] => &FORMS,
+            }
+        }
+        [] => &FORMS,
     }
 }
 
-/// The form of words, of which the first was cut off; or why they have none.
-pub fn form_behind(first: &[u8], more: &[u8]) -> Result<Form, Cause>
-    ensures { result ≡ form_of (first.now ∷ words_of more.now) }
+/// The form of words; or why they have none.
+pub fn form_in(words: &[&[u8]]) -> Result<Form, Cause>
+    ensures { result ≡ form_of (texts_of words.now) }
 {
-    form_among(near_forms(first, more), first, more)
+    form_among(near_forms(words), words)
 }
 
 /// The form of the words of a text; or why they have none.
-#[tactic(auto, unfolding(crate::specs::Forms::form_among))]
+#[tactic(auto, using(crate::proofs::FirstWords::form_of_first))]
 pub fn form_of(text: &[u8]) -> Result<Form, Cause>
     ensures { result ≡ form_of (words_of text.now) }
 {
-    match first_word(text) {
-        Some((first, more)) => form_behind(first, more),
-        None => Err(Cause::Count),
-    }
+    let none: &[u8] = b"";
+    let mut places = [none; MOST_WORDS];
+    let count = cut_words(text, &mut places);
+    form_in(&places[..count])
 }

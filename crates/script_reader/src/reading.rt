@@ -1,10 +1,11 @@
 // How far the lines of a script came.
-ghost use Rattle.std.specs.Prelude.{◌≡◌, ◌++◌, ◌∷◌, [], Ok, Err, IfOk, OnOk};
+ghost use Rattle.std.specs.Prelude.{◌≡◌, ◌++◌, ◌∷◌, [], true, Ok, Err, IfOk, IsTrue, OnOk};
 ghost use Rattle.std.specs.Option.{option_map};
 ghost use Rattle.script_reader.specs.declared.fault.Cause.{Cause as CauseOf};
 ghost use Rattle.script_reader.specs.declared.reading.LineFault.TheVariants.{NoMemory as no_memory};
 ghost use Rattle.script_reader.specs.Lines.{line_taken};
 ghost use Rattle.script_reader.specs.Readings.{header_in, may_do, may_set, may_stand, nothing_read, phase_read, read_more, step_read};
+ghost use Rattle.script_reader.specs.Words.{is_plain_text};
 ghost use Rattle.script_core.specs.Rows.{may_do_in_phase, section_of};
 
 use crate::fault::Cause;
@@ -122,16 +123,16 @@ impl Reading {
 
     // Takes what a line says.
     #[tactic(auto, unfolding(crate::specs::Readings::read_more))]
-    fn take(&mut self, alloc: Global, row: Row) -> Result<(), AllocError>
-        ensures { OnOk result (self.new ≡ read_more self.old row) }
+    fn take(&mut self, alloc: Global, row: &Row) -> Result<(), AllocError>
+        ensures { OnOk result (self.new ≡ read_more self.old row.now) }
     {
         match row {
-            Row::Centres { n, k } => self.centres = Some(Group { n, k }),
-            Row::Clients(clients) => self.clients = Some(clients),
-            Row::Cache(objects) => self.cache = Some(objects),
-            Row::Limit(most) => self.limit = Some(most),
-            Row::Threads(most) => self.threads = Some(most),
-            Row::Rounds(rounds) => self.rounds = Some(rounds),
+            Row::Centres { n, k } => self.centres = Some(Group { n: *n, k: *k }),
+            Row::Clients(clients) => self.clients = Some(*clients),
+            Row::Cache(objects) => self.cache = Some(*objects),
+            Row::Limit(most) => self.limit = Some(*most),
+            Row::Threads(most) => self.threads = Some(*most),
+            Row::Rounds(rounds) => self.rounds = Some(*rounds),
             Row::Does(step) => self.take_step(alloc, step)?,
             Row::Phase => self.phase = Some(Steps::new(alloc)),
             Row::End => self.end_phase()?,
@@ -140,8 +141,8 @@ impl Reading {
     }
 
     // Takes a step.
-    fn take_step(&mut self, alloc: Global, step: Step) -> Result<(), AllocError>
-        ensures { OnOk result (self.new ≡ step_read self.old self.old.phase step) }
+    fn take_step(&mut self, alloc: Global, step: &Step) -> Result<(), AllocError>
+        ensures { OnOk result (self.new ≡ step_read self.old self.old.phase step.now) }
     {
         if self.phase.is_none() {
             self.sections.push(section(alloc, step)?)?;
@@ -149,7 +150,7 @@ impl Reading {
         }
         // A function that lends a list of steps has to name the types that a step holds, for its proof.
         let _held: Option<(ClientStep, Change)> = None;
-        push_in(&mut self.phase, step)
+        push_in(&mut self.phase, *step)
     }
 
     // Takes the end of a phase.
@@ -167,15 +168,31 @@ impl Reading {
         ensures taken { OnOk result (line_taken self.old number line.now ≡ Ok self.new) }
         ensures refused { (why : CauseOf) → result ≡ Err (LineFault.Refused why) → line_taken self.old number line.now ≡ Err why }
     {
-        match row_in(self.header(), number, line) {
-            Ok(Some(row)) => {
+        self.read_said(alloc, number, line, false)
+    }
+
+    /// The same, of a line that may be said to be plain: then it has such bytes alone as one has that is not skipped.
+    pub(crate) fn read_said(
+        &mut self,
+        alloc: Global,
+        number: u32,
+        line: &[u8],
+        plain: bool,
+    ) -> Result<(), LineFault>
+        requires { IsTrue plain → is_plain_text line.now ≡ true }
+        ensures taken { OnOk result (line_taken self.old number line.now ≡ Ok self.new) }
+        ensures refused { (why : CauseOf) → result ≡ Err (LineFault.Refused why) → line_taken self.old number line.now ≡ Err why }
+    {
+        let mut row = Row::Phase;
+        match row_in(self.header(), number, line, plain, &mut row) {
+            Ok(true) => {
                 if !self.may_stand(&row) {
                     return Err(LineFault::Refused(Cause::Place));
                 }
-                self.take(alloc, row)?;
+                self.take(alloc, &row)?;
                 Ok(())
             }
-            Ok(None) => Ok(()),
+            Ok(false) => Ok(()),
             Err(why) => Err(LineFault::Refused(why)),
         }
     }
@@ -205,10 +222,10 @@ fn push_in<T: Drop>(list: &mut Option<List<T>>, item: T) -> Result<(), AllocErro
 }
 
 // A step as a section of its own.
-fn section(alloc: Global, step: Step) -> Result<Section, AllocError>
-    ensures { IfOk result (λ section. section ≡ section_of step) }
+fn section(alloc: Global, step: &Step) -> Result<Section, AllocError>
+    ensures { IfOk result (λ section. section ≡ section_of step.now) }
 {
-    let steps = Steps::from_vec(vec![in alloc; step]?);
+    let steps = Steps::from_vec(vec![in alloc; *step]?);
     Ok(Section {
         phase: false,
         steps,

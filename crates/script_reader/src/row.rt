@@ -1,14 +1,14 @@
 // What a line says that is not skipped.
-ghost use Rattle.std.specs.Prelude.{◌≡◌, ◌∷◌};
-ghost use Rattle.script_reader.specs.Rows.{change_row, client_row, inc_row, is_of_its_kind, is_of_kind, link_row, operator_row, row_in, row_in_text, row_in_words, row_of};
-ghost use Rattle.script_reader.specs.Words.{words_of};
+ghost use Rattle.std.specs.Prelude.{◌≡◌, IsTrue, take, true};
+ghost use Rattle.script_reader.specs.Rows.{change_row, client_row, inc_row, is_of_its_kind, is_of_kind, link_row, operator_row, row_behind, row_in, row_in_text, row_in_words, row_of};
+ghost use Rattle.script_reader.specs.Words.{is_plain_text, texts_of, words_of};
 
 use crate::fault::Cause;
-use crate::fit::form_behind;
+use crate::fit::form_in;
 use crate::form::{Form, parts};
 use crate::leads::first_letter;
 use crate::said::{Said, say_all};
-use crate::words::{first_word, is_plain_text, without_return};
+use crate::words::{MOST_WORDS, cut_words, is_plain_text, without_return};
 use dc_talk::{Change, LinkFault};
 use script_core::{AskFault, ClientStep, Header, MAX_LINE, MAX_LINES, OperatorStep, Step};
 
@@ -254,45 +254,77 @@ fn is_of_its_kind(row: &Row) -> bool
     }
 }
 
-// What words, of which the first was cut off, say behind this header, or before one.
-fn row_in_words(header: Option<Header>, first: &[u8], more: &[u8]) -> Result<Option<Row>, Cause>
-    ensures { result ≡ row_in_words header (first.now ∷ words_of more.now) }
+// Puts what words say behind this header, or before one, in the place of a row.
+fn row_in_words(header: Option<Header>, words: &[&[u8]], row: &mut Row) -> Result<bool, Cause>
+    ensures { row_behind result row.new ≡ row_in_words header (texts_of words.now) }
 {
-    let form = form_behind(first, more)?;
+    let form = form_in(words)?;
     let mut said = Said::nothing();
-    say_all(header, parts(form), first, more, &mut said)?;
-    let row = row_of(form, &said);
-    if is_of_its_kind(&row) {
-        Ok(Some(row))
+    say_all(header, parts(form), words, &mut said)?;
+    *row = row_of(form, &said);
+    if is_of_its_kind(row) {
+        Ok(true)
     } else {
         Err(Cause::Kind)
     }
 }
 
-// What a text says; nothing where it is skipped.
-#[tactic(auto, unfolding(crate::specs::Rows::row_in_text))]
-fn row_in_text(header: Option<Header>, text: &[u8]) -> Result<Option<Row>, Cause>
-    ensures { result ≡ row_in_text header text.now }
+// Puts what a text says, of which these are the first words, in the place of a row, and says whether it says anything:
+// it does not where it is skipped. Where it is said to be plain, it is.
+fn row_with_words(
+    header: Option<Header>,
+    text: &[u8],
+    plain: bool,
+    words: &[&[u8]],
+    row: &mut Row,
+) -> Result<bool, Cause>
+    requires plain { IsTrue plain → is_plain_text text.now ≡ true }
+    requires words { texts_of words.now ≡ take MOST_WORDS (words_of text.now) }
+    ensures { row_behind result row.new ≡ row_in_text header text.now }
 {
-    match first_word(text) {
-        Some((first, more)) => {
+    match words {
+        [first, ..] => {
             if first_letter(first) == b'#' {
-                return Ok(None);
+                return Ok(false);
             }
-            if !is_plain_text(text) {
+            if !plain && !is_plain_text(text) {
                 return Err(Cause::Byte);
             }
-            row_in_words(header, first, more)
+            row_in_words(header, words, row)
         }
-        None => Ok(None),
+        [] => Ok(false),
     }
 }
 
-/// What the line of this number says, behind this header, or before one; nothing where it is skipped; or why it is
-/// refused wherever it stands.
-#[tactic(auto, unfolding(crate::specs::Rows::row_in))]
-pub fn row_in(header: Option<Header>, number: u32, line: &[u8]) -> Result<Option<Row>, Cause>
-    ensures { result ≡ row_in header number line.now }
+// The same of a text of which no words were cut off.
+fn row_in_text(
+    header: Option<Header>,
+    text: &[u8],
+    plain: bool,
+    row: &mut Row,
+) -> Result<bool, Cause>
+    requires { IsTrue plain → is_plain_text text.now ≡ true }
+    ensures { row_behind result row.new ≡ row_in_text header text.now }
+{
+    let none: &[u8] = b"";
+    let mut places = [none; MOST_WORDS];
+    let count = cut_words(text, &mut places);
+    row_with_words(header, text, plain, &places[..count], row)
+}
+
+/// Puts what the line of this number says, behind this header, or before one, in the place of a row, and says whether
+/// it says anything: it does not where it is skipped. An `Err` says why it is refused wherever it stands. A line that is
+/// said to be plain has such bytes alone as one has that is not skipped.
+#[tactic(auto, unfolding(crate::specs::Rows::row_in), using(crate::proofs::Plain::plain_without_return))]
+pub fn row_in(
+    header: Option<Header>,
+    number: u32,
+    line: &[u8],
+    plain: bool,
+    row: &mut Row,
+) -> Result<bool, Cause>
+    requires { IsTrue plain → is_plain_text line.now ≡ true }
+    ensures { row_behind result row.new ≡ row_in header number line.now }
 {
     if number > MAX_LINES {
         return Err(Cause::Many);
@@ -300,5 +332,5 @@ pub fn row_in(header: Option<Header>, number: u32, line: &[u8]) -> Result<Option
     if line.len() > MAX_LINE as usize {
         return Err(Cause::Long);
     }
-    row_in_text(header, without_return(line))
+    row_in_text(header, without_return(line), plain, row)
 }

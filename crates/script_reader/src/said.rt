@@ -1,17 +1,16 @@
 // What the words of a line say.
-ghost use Rattle.std.specs.Prelude.{◌≡◌, ◌∷◌, drop, codes, if◌then◌else◌};
+ghost use Rattle.std.specs.Prelude.{◌≡◌, drop, codes, if◌then◌else◌};
 ghost use Rattle.obj_bounded.specs.CellNames.{counter_of};
 ghost use Rattle.script_reader.specs.Numbers.{is_number};
 ghost use Rattle.script_reader.specs.Said.{said_word, said_words, unsaid};
 ghost use Rattle.script_reader.specs.Saying.{said_behind};
-ghost use Rattle.script_reader.specs.Words.{words_of};
+ghost use Rattle.script_reader.specs.Words.{texts_of};
 
 use crate::fault::Cause;
 use crate::form::Part;
 use crate::names::{name_said, object_named};
 use crate::numbers::{delta_in, is_number, number_in, u8_in, u32_in};
 use crate::shares::{bounded_in, holders_of, summand_in};
-use crate::words::first_word;
 use ids_core::{MOST_CENTRES, MOST_DELTA, MOST_NUMBER, Name, ObjectId, Sort};
 use script_core::{Header, Share};
 
@@ -253,44 +252,25 @@ fn say_third(header: Option<Header>, text: &[u8], said: &mut Said) -> Result<(),
     Ok(())
 }
 
-// Takes what the words of a text say in the places of these parts, up to the first that may not.
+/// Takes what words say in the places of these parts, up to the first that may not.
 #[tactic(auto, using(crate::proofs::Saying::said_none))]
-fn say_words(
-    header: Option<Header>,
-    parts: &[Part],
-    text: &[u8],
-    said: &mut Said,
-) -> Result<(), Cause>
-    ensures { said_behind result said.new ≡ said_words header parts.now (words_of text.now) said.old }
-{
-    let mut rest = text;
-    for part in parts {
-        match first_word(rest) {
-            Some((word, more)) => {
-                say(header, *part, word, said)?;
-                rest = more;
-            }
-            None => return Ok(()),
-        }
-    }
-    Ok(())
-}
-
-/// Takes what words, of which the first was cut off, say in the places of these parts, up to the first that may not.
 pub fn say_all(
     header: Option<Header>,
     parts: &[Part],
-    first: &[u8],
-    more: &[u8],
+    words: &[&[u8]],
     said: &mut Said,
 ) -> Result<(), Cause>
-    ensures { said_behind result said.new ≡ said_words header parts.now (first.now ∷ words_of more.now) said.old }
+    ensures { said_behind result said.new ≡ said_words header parts.now (texts_of words.now) said.old }
 {
-    match parts {
-        [part, others @ ..] => {
-            say(header, *part, first, said)?;
-            say_words(header, others, more, said)
+    let mut rest = words;
+    for part in parts {
+        match rest {
+            [word, others @ ..] => {
+                say(header, *part, word, said)?;
+                rest = others;
+            }
+            [] => return Ok(()),
         }
-        [] => Ok(()),
     }
+    Ok(())
 }

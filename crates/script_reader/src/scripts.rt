@@ -6,7 +6,7 @@ ghost use Rattle.script_reader.specs.Readings.{header_in};
 ghost use Rattle.script_reader.specs.Scripts.{ended, script_read, script_with};
 
 use crate::fault::{Cause, ScriptFault};
-use crate::lines::first_line;
+use crate::lines::first_line_said;
 use crate::reading::{LineFault, Reading};
 use ids_core::MOST_RECORDS;
 use script_core::{DEFAULT_CACHE, DEFAULT_ROUNDS, DEFAULT_THREADS, Header, Script};
@@ -32,8 +32,8 @@ fn read_lines(alloc: Global, bytes: &[u8]) -> Result<Script, ScriptFault>
     let mut reading = Reading::nothing(alloc);
     let mut number: u32 = 1;
     let mut rest = bytes;
-    'lines: while let Some((line, more)) = first_line(rest) {
-        match reading.read(alloc, number, line) {
+    'lines: while let Some((line, more, plain)) = first_line_said(rest) {
+        match reading.read_said(alloc, number, line, plain) {
             Ok(()) => {}
             Err(LineFault::Refused(cause)) => {
                 return Err(ScriptFault::Refused {

@@ -1,6 +1,9 @@
 // The words of a line.
-ghost use Rattle.std.specs.Prelude.{◌≡◌, [], ◌∷◌, ◌++◌, ℕ, All, true, false, IfSome, IfNone};
-ghost use Rattle.script_reader.specs.Words.{is_blank, is_plain, is_plain_text, without_return, words_of};
+ghost use Rattle.std.specs.Prelude.{◌≡◌, ◌≤◌, [], ◌∷◌, ◌++◌, ℕ, All, length, take, true, false, IfSome, IfNone};
+ghost use Rattle.script_reader.specs.Words.{is_blank, is_plain, is_plain_text, texts_of, without_return, words_of};
+
+/// How many words of a line are looked at: more than a form has.
+pub const MOST_WORDS: usize = 6;
 
 /// A space or a tab.
 pub fn is_blank(byte: u8) -> bool
@@ -35,6 +38,24 @@ pub fn first_word(text: &[u8]) -> Option<(&[u8], &[u8])>
     } else {
         Some((rest, b""))
     }
+}
+
+/// Cuts the first words of a text off, as many as there are places for, and says how many they are.
+pub fn cut_words<'a>(text: &'a [u8], places: &mut [&'a [u8]]) -> usize
+    ensures few { result ≤ length places.old }
+    ensures words { texts_of (take result places.new) ≡ take (length places.old) (words_of text.now) }
+{
+    let mut rest = text;
+    for count in 0..places.len() {
+        match first_word(rest) {
+            Some((word, more)) => {
+                places[count] = word;
+                rest = more;
+            }
+            None => return count,
+        }
+    }
+    places.len()
 }
 
 /// A line without the carriage return that may end it.
