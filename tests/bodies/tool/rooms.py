@@ -64,6 +64,7 @@ class Room:
         self.checks = 0
         self.seconds = 0.0
         copy_repository(repository, self.top)
+        take_made(repository, crate, "incremental", self.top)
 
     def check_as_it_stands(self):
         """Proves the crate with no edit, and keeps what that made."""
@@ -120,7 +121,8 @@ def seconds_of(words, folder, output):
 
 
 def copy_repository(repository, to):
-    """Copies what checks read of a repository. What earlier checks kept is found by `rt check` itself."""
+    """Copies what checks read of a repository, and the libraries that checks or `rt ci` left there: `rt check` compares
+    a library with the crate's files, and proves the crate again only where they differ."""
     for name in ("crates.txt", "HANDLES"):
         if os.path.exists(os.path.join(repository, name)):
             os.makedirs(to, exist_ok=True)
@@ -130,16 +132,16 @@ def copy_repository(repository, to):
             folder = os.path.join(repository, "crates", crate, part)
             if os.path.isdir(folder):
                 shutil.copytree(folder, os.path.join(to, "crates", crate, part))
-        take_library(repository, crate, to)
+        take_made(repository, crate, "rlib", to)
 
 
-def take_library(repository, crate, to):
-    """Takes the library of a crate that `rt ci` left in the repository, where it did: `rt check` compares it with the
-    crate's files, and proves the crate again only where they differ."""
-    library = os.path.join(repository, "crates", crate, "out", "rlib")
-    if os.path.isdir(library):
-        place = os.path.join(to, "crates", crate, "out", "rlib")
-        shutil.copytree(library, place, symlinks=True, copy_function=link_or_copy)
+def take_made(repository, crate, part, to):
+    """Takes a folder of what was made of a crate in the repository, where it is there: `rlib`, its library, or
+    `incremental`, what a check kept of its proofs."""
+    made = os.path.join(repository, "crates", crate, "out", part)
+    if os.path.isdir(made):
+        place = os.path.join(to, "crates", crate, "out", part)
+        shutil.copytree(made, place, symlinks=True, copy_function=link_or_copy)
 
 
 def link_or_copy(file, to):
