@@ -65,11 +65,13 @@ def batches_of(bodies, folder):
 
 
 class Trial:
-    """Tries the wrong bodies of one crate in a room. The results are by the bodies' names."""
+    """Tries the wrong bodies of one crate in a room. The results are by the bodies' names. A batch that ends is told of
+    with the results so far."""
 
-    def __init__(self, room, edits):
+    def __init__(self, room, edits, tell):
         self.room = room
         self.edits = edits
+        self.tell = tell
         self.results = {}
         self.true_without_answers = None
 
@@ -79,6 +81,7 @@ class Trial:
         bodies = [it for it in map(self.read, self.edits) if it]
         for batch in batches_of(bodies, self.room.kept):
             self.try_batch(batch)
+            self.tell(self.results)
         self.set_answers_aside([it for it in bodies if self.is_refused_by_answers(it)])
         return dict(sorted(self.results.items()))
 
