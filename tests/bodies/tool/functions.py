@@ -58,6 +58,19 @@ def function_at(crate, file, text, line):
     return Function("::".join(names), file, first + 1, end_of(lines, first) + 1)
 
 
+def functions_in(folder, crate):
+    """The names of the functions that the sources of a crate have."""
+    names = set()
+    for top, _, files in os.walk(os.path.join(folder, "src")):
+        for path in [os.path.join(top, it) for it in files if it.endswith(".rt")]:
+            with open(path, encoding="utf-8") as it:
+                text = it.read()
+            file = os.path.relpath(path, folder)
+            starts = [at for at, it in enumerate(text.split("\n")) if (found := ITEM.match(it)) and found[1] == "fn"]
+            names.update(function_at(crate, file, text, at).name for at in starts)
+    return names
+
+
 def items_around(lines, at):
     """The items around a line, outermost first: what each is, the rest of its first line, and where that is."""
     items = []

@@ -1,6 +1,7 @@
 """The log: what refused each wrong body when it was last tried."""
 import datetime
 import re
+import threading
 from typing import NamedTuple
 
 HEAD = """\
@@ -64,7 +65,8 @@ class Record:
 
 
 class LogOfRun:
-    """The log of a run, which is written after each crate: a run that is broken off has told of those before."""
+    """The log of a run, which is written after each crate, and for the bodies of one after each batch: a run that is
+    broken off has told of those before."""
 
     def __init__(self, file, commit, whole, every=None):
         """Begins with what the log has. The crates of which all bodies are tried come third, and last those of a whole
@@ -74,16 +76,31 @@ class LogOfRun:
         self.whole = set(whole)
         self.every = every
         self.before = Record.read(file)
+        self.done, self.begun = {}, {}
+        self.lock = threading.Lock()
 
     def write(self, done):
         """Puts the edits with their results, by crate, to what the log had: in the place of all of it once a whole run
         has told of every crate."""
-        if not done:
+        with self.lock:
+            self.done = dict(done)
+            self.put()
+
+    def write_begun(self, crate, tried):
+        """Puts those of a crate of which some bodies are not tried yet, or may tell more."""
+        with self.lock:
+            self.begun[crate] = tried
+            self.put()
+
+    def put(self):
+        """Writes what there is."""
+        told = {**self.begun, **self.done}
+        if not told:
             return
         record = Record(self.before.runs, self.before.lines)
-        is_whole = self.every is not None and set(self.every) <= set(done)
-        lines = [line_of(*it) for tried in done.values() for it in tried]
-        record.add_run(self.commit, datetime.date.today().isoformat(), self.whole & set(done), lines, is_whole)
+        is_whole = self.every is not None and set(self.every) <= set(self.done)
+        lines = [line_of(*it) for tried in told.values() for it in tried]
+        record.add_run(self.commit, datetime.date.today().isoformat(), self.whole & set(self.done), lines, is_whole)
         record.write(self.file)
 
 

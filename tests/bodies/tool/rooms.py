@@ -53,7 +53,8 @@ def folder_for(repository):
 
 class Room:
     """A copy of a repository for the bodies of one crate. Each check with edits begins with what the check of the
-    crate as it stands left. Counts the checks and the seconds of processor that they take."""
+    crate as it stands left. Counts the checks and the seconds of processor that they take. Where functions are named, a
+    check proves these and what they call alone."""
 
     def __init__(self, repository, crate, folder, outputs=None):
         self.crate = crate
@@ -64,34 +65,36 @@ class Room:
         self.checks = 0
         self.seconds = 0.0
         copy_repository(repository, self.top)
+        take_made(repository, crate, "incremental", self.top)
 
-    def check_as_it_stands(self):
+    def check_as_it_stands(self, only=()):
         """Proves the crate with no edit, and keeps what that made."""
-        said = self.check()
+        said = self.check(only)
         if not said.is_proved:
             raise NotProved(f"{self.crate} is not proved as it stands: {said.complaint or said.last}")
         shutil.copytree(self.folder, self.kept, symlinks=True, copy_function=link_or_copy)
         return said
 
-    def check_with(self, texts, without=()):
+    def check_with(self, texts, without=(), only=()):
         """Checks the crate with these texts in the place of its own, and without the written answers in the folders
-        named last."""
+        named second."""
         shutil.rmtree(self.folder)
         shutil.copytree(self.kept, self.folder, symlinks=True, copy_function=link_or_copy)
         for file, text in texts.items():
             write(os.path.join(self.folder, file), text)
         for it in without:
             os.remove(answers_of(self.folder, it))
-        return self.check()
+        return self.check(only)
 
-    def check(self):
+    def check(self, only):
         """Runs `rt check`, and once more where it ends with no verdict and no complaint, for want of memory say."""
-        said = self.check_once()
-        return said if said.end or said.complaint else self.check_once()
+        said = self.check_once(only)
+        return said if said.end or said.complaint else self.check_once(only)
 
-    def check_once(self):
+    def check_once(self, only):
+        words = ["rt", "check", "--jobs", "1", *(word for name in sorted(only) for word in ("--only", name))]
         with tempfile.TemporaryFile("w+", encoding="utf-8", errors="replace") as output:
-            self.seconds += seconds_of(["rt", "check", "--jobs", "1"], self.folder, output)
+            self.seconds += seconds_of(words, self.folder, output)
             output.seek(0)
             text = output.read()
         self.checks += 1
@@ -120,7 +123,8 @@ def seconds_of(words, folder, output):
 
 
 def copy_repository(repository, to):
-    """Copies what checks read of a repository. What earlier checks kept is found by `rt check` itself."""
+    """Copies what checks read of a repository, and the libraries that checks or `rt ci` left there: `rt check` compares
+    a library with the crate's files, and proves the crate again only where they differ."""
     for name in ("crates.txt", "HANDLES"):
         if os.path.exists(os.path.join(repository, name)):
             os.makedirs(to, exist_ok=True)
@@ -130,16 +134,16 @@ def copy_repository(repository, to):
             folder = os.path.join(repository, "crates", crate, part)
             if os.path.isdir(folder):
                 shutil.copytree(folder, os.path.join(to, "crates", crate, part))
-        take_library(repository, crate, to)
+        take_made(repository, crate, "rlib", to)
 
 
-def take_library(repository, crate, to):
-    """Takes the library of a crate that `rt ci` left in the repository, where it did: `rt check` compares it with the
-    crate's files, and proves the crate again only where they differ."""
-    library = os.path.join(repository, "crates", crate, "out", "rlib")
-    if os.path.isdir(library):
-        place = os.path.join(to, "crates", crate, "out", "rlib")
-        shutil.copytree(library, place, symlinks=True, copy_function=link_or_copy)
+def take_made(repository, crate, part, to):
+    """Takes a folder of what was made of a crate in the repository, where it is there: `rlib`, its library, or
+    `incremental`, what a check kept of its proofs."""
+    made = os.path.join(repository, "crates", crate, "out", part)
+    if os.path.isdir(made):
+        place = os.path.join(to, "crates", crate, "out", part)
+        shutil.copytree(made, place, symlinks=True, copy_function=link_or_copy)
 
 
 def link_or_copy(file, to):

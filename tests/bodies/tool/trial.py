@@ -65,38 +65,45 @@ def batches_of(bodies, folder):
 
 
 class Trial:
-    """Tries the wrong bodies of one crate in a room. The results are by the bodies' names."""
+    """Tries the wrong bodies of one crate in a room. The results are by the bodies' names. A batch that ends is told of
+    with the results so far."""
 
-    def __init__(self, room, edits):
+    def __init__(self, room, edits, tell):
         self.room = room
         self.edits = edits
+        self.tell = tell
         self.results = {}
         self.true_without_answers = None
 
     def run(self):
         """Tries all bodies, and returns the results in the order of the names."""
-        self.said = self.room.check_as_it_stands()
-        bodies = [it for it in map(self.read, self.edits) if it]
+        read = [it for it in map(self.read, self.edits) if it]
+        self.said = self.room.check_as_it_stands(only_for(read))
+        bodies = [it for it in read if self.is_named(it)]
         for batch in batches_of(bodies, self.room.kept):
             self.try_batch(batch)
+            self.tell(self.results)
         self.set_answers_aside([it for it in bodies if self.is_refused_by_answers(it)])
         return dict(sorted(self.results.items()))
 
     def read(self, edit):
         """The body of an edit, or None where it is bad."""
         try:
-            body = body_of(edit, self.room.kept)
-            lacking = [it.name for it in body.functions if not verdicts_on(it, self.said)]
-            if lacking:
-                raise BadEdit(f"the check names no function {lacking[0]}")
-            return body
+            return body_of(edit, self.room.folder)
         except BadEdit as why:
             self.results[edit.name] = Result(BAD_EDIT, remark=str(why))
             return None
 
+    def is_named(self, body):
+        """Whether the check of the crate as it stands names the functions of a body, which is bad where it does not."""
+        lacking = [it.name for it in body.functions if not verdicts_on(it, self.said)]
+        if lacking:
+            self.results[body.edit.name] = Result(BAD_EDIT, remark=f"the check names no function {lacking[0]}")
+        return not lacking
+
     def try_batch(self, batch):
         """Tries the bodies of a batch together, and then each by itself of which that settled nothing."""
-        said = self.room.check_with(batch.sources.texts)
+        said = self.room.check_with(batch.sources.texts, only=only_for(batch.bodies))
         is_alone = len(batch.bodies) == 1
         for body in batch.bodies:
             result = self.judge(body, batch.sources, said, is_alone)
@@ -128,9 +135,11 @@ class Trial:
     def set_answers_aside(self, bodies):
         """Tries the bodies that a written proof alone refused once more, without the written answers."""
         folders = {self.results[it.edit.name].function.folder for it in bodies}
+        self.answered = only_for(bodies)
         for batch in batches_of(bodies, self.room.kept):
             functions = {it.edit.name: self.results[it.edit.name].function for it in batch.bodies}
-            said = self.room.check_with(batch.sources.texts, [it.folder for it in functions.values()])
+            folders_here = [it.folder for it in functions.values()]
+            said = self.room.check_with(batch.sources.texts, folders_here, only_for(batch.bodies))
             for name, function in functions.items():
                 self.results[name] = self.judge_without_answers(function, said, folders) or self.results[name]
 
@@ -143,7 +152,7 @@ class Trial:
         if not may_tell_more(function, said, answered_goals(self.room.kept, function)):
             return None
         if not self.true_without_answers:
-            self.true_without_answers = self.room.check_with({}, folders)
+            self.true_without_answers = self.room.check_with({}, folders, self.answered)
         return refusal_without_answers(function, said, self.true_without_answers)
 
 
@@ -158,6 +167,13 @@ def body_of(edit, folder):
         if function and function not in functions:
             functions.append(function)
     return Body(edit, tuple(changes), tuple(functions))
+
+
+def only_for(bodies):
+    """The names of the functions that bodies change, or none where one of them changes no function: then any function
+    may refuse it."""
+    names = {it.name for body in bodies for it in body.functions}
+    return names if all(it.functions for it in bodies) else ()
 
 
 def functions_with_goals(sources, said):

@@ -12,6 +12,8 @@ UNREADABLE = re.compile(r"is not in scope|has no field|is no name|operand is mis
 LOST_NAME = re.compile(r"has no field|is not in scope|has no `")
 # It rests on something that was refused, so that this shows nothing by itself.
 RESTS_ON_REFUSED = re.compile(r"was not admitted|declarations? that depends? on")
+# The last line of a check of some functions alone, where all of them are proved.
+ONLY_PROVED = re.compile(r"only=(\d+) proved=\1\b")
 FALSE_AT_VALUES = "allow values at which this goal is false"
 
 
@@ -42,12 +44,12 @@ class Said:
         self.goals = [goal_of(it) for it in map(OPEN_GOAL.fullmatch, lines) if it]
         self.misfits = [it for it in map(misfit_in, lines) if it]
         self.complaint = next((it for it in lines if NOT_COMPILED.fullmatch(it) or is_unreadable(it)), "")
-        self.end = next((it for it in reversed(lines) if it.startswith("logic=")), "")
+        self.end = next((it for it in reversed(lines) if it.startswith(("logic=", "only="))), "")
         self.last = lines[-1]
 
     @property
     def is_proved(self):
-        return self.end.startswith("logic=proved")
+        return self.end.startswith("logic=proved") or bool(ONLY_PROVED.match(self.end))
 
     @property
     def is_judged(self):
