@@ -62,12 +62,7 @@ fn is_short(alloc: Global, bytes: &[u8]) -> Result<bool, NoMemory> {
 }
 
 // Where the bytes have their first fault once one of them is changed.
-fn place_with(
-    alloc: Global,
-    bytes: &[u8],
-    at: usize,
-    byte: u8,
-) -> Result<Option<u64>, NoMemory> {
+fn place_with(alloc: Global, bytes: &[u8], at: usize, byte: u8) -> Result<Option<u64>, NoMemory> {
     let mut changed = bytes.to_vec(alloc)?;
     if let Some(there) = changed.get_mut(at) {
         *there = byte;
