@@ -120,7 +120,7 @@ impl<D: Disk> JournalCentre<D> {
     }
 
     /// Answers an ask. A crash at any moment of the call leaves the journal of the trail as it was or with this ask, and
-    /// after an `Ok` the centre stands for the trail with it. `Unspelled` comes exactly where the ask fits, is of a kind
+    /// after an `Ok` the centre stands for the trail with it. `Unspelled` comes only where the ask fits, is of a kind
     /// that a journal keeps, and has no bytes there.
     pub fn ask(&mut self, ask: &Ask) -> Result<Say, AskFault>
         ensures moments { (h : List Moment) (trail : List Entry) → is_shut self.old ≡ false → D.stands (disk_of self.old) h → IsJournalOf self.old h trail
