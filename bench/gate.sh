@@ -6,7 +6,7 @@
 #   bench/gate.sh --write LOG           puts it into docs/benchmarks.md
 # Where a kit keeps what earlier runs passed, that takes no time: there --anew as the WORD does all from
 # nothing. Of runs that one LOG has of the same part the last one counts. Where a part of a crate
-# is in no run, it is named on standard error, and the status is 1.
+# is in no run, it is named on standard error, and the status is 1. A kit may prove no base by itself.
 set -u
 root=$(cd "$(dirname "$0")/.." && pwd) || exit 1
 page=$root/docs/benchmarks.md
@@ -51,7 +51,7 @@ table() {
         BEGIN { split("proof base edits tests", name, " ") }
         $1 == "crate:" { order[++count] = $2; lines[$2] = $3; edits[$2] = $4; tests[$2] = $5 }
         $1 == "times:" && $2 == "rest" { rest += $3 }
-        $1 == "times:" && NF == 5 { seconds[$2, $3] = $4; checks[$2, $3] = $5 }
+        $1 == "times:" && NF == 5 { seconds[$2, $3] = $4; checks[$2, $3] = $5; bases += $3 == "base" }
         END {
             print "| crate | lines | proof | base | edits | tests | sum | for 1,000 lines |"
             print "|---|---|---|---|---|---|---|---|"
@@ -59,7 +59,7 @@ table() {
                 crate = order[at]
                 if (!((crate, "proof") in seconds)) lacks(crate, "the proof")
                 if (edits[crate] > checks[crate, "edits"]) lacks(crate, "an edit")
-                if (edits[crate] > 1 && !((crate, "base") in seconds)) lacks(crate, "the base")
+                if (bases && edits[crate] > 1 && !((crate, "base") in seconds)) lacks(crate, "the base")
                 if (tests[crate] && !((crate, "tests") in seconds)) lacks(crate, "the tests")
                 for (part = 1; part <= 4; part++)
                     if ((crate, name[part]) in seconds)
