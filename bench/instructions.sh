@@ -122,10 +122,10 @@ instructions() {
 head_of kind 'lines or asks' 'instructions of one' 'at most'
 for kind in ${*:-aborts blocks mixed settle}; do
     case $kind in
-    aborts) instructions aborts 1000 2000 3 2900 ;;
-    blocks) instructions blocks 1000 2000 6 7000 ;;
-    mixed) instructions mixed 4000 8000 1 5200 ;;
-    settle) instructions settle 1 11 224 4000 ;;
+    aborts) instructions aborts 1000 2000 3 2600 ;;
+    blocks) instructions blocks 1000 2000 6 6700 ;;
+    mixed) instructions mixed 4000 8000 1 5000 ;;
+    settle) instructions settle 1 11 224 3900 ;;
     *)
         echo "$kind is no kind of row" >&2
         exit 1
