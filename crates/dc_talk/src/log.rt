@@ -97,16 +97,19 @@ impl Log {
 
     /// Notes a deed of the section and step that the log is at. Nothing changes where memory is
     /// refused.
+    // Where the deed is made its parts are written to their place at once: a note is large to hand over.
+    #[inline(always)]
     pub fn push(&mut self, deed: Deed) -> Result<(), NoMemory>
         ensures ok { OnOk result (self.new ≡ noted self.old deed) }
         ensures err { OnErr result (self.new ≡ self.old) }
     {
+        self.notes.reserve(1)?;
         keep_place(&mut self.commits, self.notes.as_slice(), &deed)?;
-        self.notes.push(Note {
+        self.notes.push_reserved(Note {
             section: self.section,
             step: self.step,
             deed,
-        })?;
+        });
         Ok(())
     }
 
