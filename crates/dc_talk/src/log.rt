@@ -2,9 +2,10 @@
 ghost use Rattle.std.specs.Prelude.{◌≡◌, ◌≤◌, [], ◌∷◌, ◌++◌, OnOk, OnErr, IsOk};
 
 use crate::ask::Ask;
-use crate::calls::{Call, Outcome};
+use crate::calls::Call;
 use crate::commit_places::{CommitPlaces, commit_sent, keep_place};
 use crate::line::Line;
+use crate::noted::NotedOutcome;
 use crate::say::Say;
 use crate::sent::SharedTx;
 use ids_core::NoMemory;
@@ -29,7 +30,7 @@ pub enum Fate {
 #[derive(Drop)]
 pub enum Deed {
     /// A call of the actor's session, with how it ended.
-    Did { call: Call, outcome: Outcome },
+    Did { call: Call, outcome: NotedOutcome },
     /// An ask of a centre, with what became of it.
     Asked { centre: u8, ask: Ask, fate: Fate },
     /// A line of the output.
