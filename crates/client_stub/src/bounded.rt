@@ -15,7 +15,7 @@ ghost use Rattle.client_stub.specs.BoundedSteps.{GetsNumber, HasRead, HasReadCel
 use crate::calls::{change_call, read_call};
 use crate::notes::tell;
 use crate::stub::Stub;
-use dc_talk::{Call, Change, Deed, Door, Line, Log, Note, Outcome, StepWord};
+use dc_talk::{Call, Change, Deed, Door, Ended, Line, Log, Note, StepWord};
 use ids_core::{Name, NoMemory, ObjectId, Sort};
 use obj_bounded::{cell, cells, rights};
 use script_core::{ObjectCall, Share};
@@ -360,8 +360,11 @@ fn number_got(deed: &Deed) -> Option<i128>
     match deed {
         Deed::Did {
             call: Call::Read { .. },
-            outcome: Outcome::Got(Value::Number(number)),
-        } => Some(*number),
+            outcome,
+        } => match outcome.ended() {
+            Ended::Got(Value::Number(number)) => Some(*number),
+            _ => None,
+        },
         _ => None,
     }
 }

@@ -32,7 +32,7 @@ impl Stub {
         let outcome = self.session.call(alloc, &on.call)?;
         let needs = needs_fetch(&outcome);
         let line = line_on(client, on, &outcome)?;
-        note_call(log, &on.call, outcome, line)?;
+        note_call(alloc, log, &on.call, outcome, line)?;
         Ok(needs)
     }
 
@@ -53,7 +53,7 @@ impl Stub {
         let client = self.session.client();
         let outcome = self.session.call(alloc, call)?;
         let line = call_line(client, call, &outcome)?;
-        note_call(log, call, outcome, line)?;
+        note_call(alloc, log, call, outcome, line)?;
         Ok(())
     }
 

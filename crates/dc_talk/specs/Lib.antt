@@ -3,6 +3,7 @@ pub mod Sents
 pub mod Dots
 pub mod Objects
 pub mod Entries
+pub mod Noted
 pub mod Trails
 pub mod Answers
 pub mod Logs

@@ -1,6 +1,7 @@
 // Where the first commit ask of each number stands among the notes of a log.
-ghost use Rattle.std.specs.Prelude.{◌≡◌, ◌++◌, ◌∷◌, [], ℕ, OnOk};
+ghost use Rattle.std.specs.Prelude.{◌≡◌, ◌++◌, ◌∷◌, [], ℕ, Some, OnOk};
 ghost use Rattle.std.specs.Option.{option_copied};
+ghost use Rattle.dc_talk.specs.declared.log.Deed.{Deed as DeedOf};
 ghost use Rattle.dc_talk.specs.Logs.{marked, commit_of, commit_asked, commit_sent};
 ghost use Rattle.dc_talk.specs.CommitPlaces.{LeadToFirsts};
 
@@ -9,6 +10,7 @@ use crate::log::{Deed, Note};
 use crate::sent::SharedTx;
 use ids_core::NoMemory;
 use std::collections::BTreeMap;
+use tx_core::Tx;
 
 /// The places by the numbers.
 pub(crate) type CommitPlaces = BTreeMap<u64, usize>;
@@ -73,16 +75,24 @@ pub(crate) fn keep_place(
     ensures behind { OnOk result ((section step : ℕ) → LeadToFirsts places.new.entries (notes.now ++ marked section step deed.now ∷ [])) }
 {
     match commit_of(deed) {
-        Some(shared) => {
-            let tx = shared.as_tx();
-            match commit_sent(places, notes, tx.dot.number) {
-                Some(_) => Ok(()),
-                None => {
-                    places.insert(tx.dot.number, notes.len())?;
-                    Ok(())
-                }
-            }
-        }
+        Some(shared) => keep_first(places, notes, shared.as_tx()),
         None => Ok(()),
+    }
+}
+
+// The same for a commit ask of this transaction. It is no part of the other, so that the deeds of other kinds, which
+// are most, pass without the room that an index takes.
+#[inline(never)]
+fn keep_first(places: &mut CommitPlaces, notes: &[Note], tx: &Tx) -> Result<(), NoMemory>
+    requires { LeadToFirsts places.old.entries notes.now }
+    ensures so_far { LeadToFirsts places.new.entries notes.now }
+    ensures behind { OnOk result ((deed : DeedOf) → commit_of deed ≡ Some tx.now → (section step : ℕ) → LeadToFirsts places.new.entries (notes.now ++ marked section step deed ∷ [])) }
+{
+    match commit_sent(places, notes, tx.dot.number) {
+        Some(_) => Ok(()),
+        None => {
+            places.insert(tx.dot.number, notes.len())?;
+            Ok(())
+        }
     }
 }

@@ -2,9 +2,10 @@
 ghost use Rattle.std.specs.Prelude.{◌≡◌, ◌≤◌, [], ◌∷◌, ◌++◌, OnOk, OnErr, IsOk};
 
 use crate::ask::Ask;
-use crate::calls::{Call, Outcome};
+use crate::calls::Call;
 use crate::commit_places::{CommitPlaces, commit_sent, keep_place};
 use crate::line::Line;
+use crate::noted::NotedOutcome;
 use crate::say::Say;
 use crate::sent::SharedTx;
 use ids_core::NoMemory;
@@ -29,7 +30,7 @@ pub enum Fate {
 #[derive(Drop)]
 pub enum Deed {
     /// A call of the actor's session, with how it ended.
-    Did { call: Call, outcome: Outcome },
+    Did { call: Call, outcome: NotedOutcome },
     /// An ask of a centre, with what became of it.
     Asked { centre: u8, ask: Ask, fate: Fate },
     /// A line of the output.
@@ -97,16 +98,19 @@ impl Log {
 
     /// Notes a deed of the section and step that the log is at. Nothing changes where memory is
     /// refused.
+    // Where the deed is made its parts are written to their place at once: a note is large to hand over.
+    #[inline(always)]
     pub fn push(&mut self, deed: Deed) -> Result<(), NoMemory>
         ensures ok { OnOk result (self.new ≡ noted self.old deed) }
         ensures err { OnErr result (self.new ≡ self.old) }
     {
+        self.notes.reserve(1)?;
         keep_place(&mut self.commits, self.notes.as_slice(), &deed)?;
-        self.notes.push(Note {
+        self.notes.push_reserved(Note {
             section: self.section,
             step: self.step,
             deed,
-        })?;
+        });
         Ok(())
     }
 

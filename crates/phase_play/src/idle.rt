@@ -66,7 +66,7 @@ pub(crate) fn idle_crews<R: Wait, G: Gate>(
 
 /// Whether nobody has anything to do in a phase: there is no round, and no step.
 pub(crate) fn is_idle(scene: Scene<'_>) -> bool {
-    scene.script.rounds == 0 && scene.section.steps.as_slice().is_empty()
+    scene.script.rounds == 0 && scene.section.steps.is_empty()
 }
 
 /// All actors of a phase in this thread, one after another: for a phase in which nobody has anything to do. After an

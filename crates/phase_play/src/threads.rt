@@ -143,7 +143,7 @@ pub fn play_in_threads<R: Threads + Wait + Sync, G: Gate>(
         links,
     } = scene;
     let orders = dealt.operator_line().len();
-    let steps = section.steps.as_slice().len().saturating_sub(orders);
+    let steps = section.steps.len().saturating_sub(orders);
     let made = Pace::new(steps as u64, script.rounds, script.n);
     let pace = &made;
     let players = move || -> Result<Vec<Player>, NoMemory>

@@ -12,7 +12,7 @@ ghost use Rattle.run_book.specs.BareNodes.{bare_node, is_commit};
 use crate::book::Book;
 use crate::edits::Edits;
 use crate::replay::Replay;
-use dc_talk::{Call, Deed, Log, Outcome};
+use dc_talk::{Call, Deed, Ended, Log};
 use ids_core::{Dot, NoMemory};
 use std::alloc::Global;
 use tx_graph::DotSet;
@@ -117,7 +117,7 @@ fn is_commit(deed: &Deed) -> bool
 {
     match deed {
         Deed::Did { call, outcome } => {
-            matches!(call, Call::Commit) && matches!(outcome, Outcome::Number(_))
+            matches!(call, Call::Commit) && matches!(outcome.ended(), Ended::Number(_))
         }
         _ => false,
     }

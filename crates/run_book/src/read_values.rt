@@ -12,7 +12,7 @@ ghost use Rattle.run_book.specs.ReadValues.{read_in, read_of, object_read};
 use crate::bare_nodes::BareNode;
 use crate::book::Book;
 use crate::object_acts::{acts_over, push_acts};
-use dc_talk::{Call, Deed, Log, Outcome};
+use dc_talk::{Call, Deed, Ended, Log};
 use ids_core::{Dot, NoMemory, ObjectId};
 use std::alloc::Global;
 use tx_core::Value;
@@ -96,8 +96,8 @@ fn object_of(deed: &Deed) -> Option<ObjectId>
 {
     match deed {
         Deed::Did { call, outcome } => match call {
-            Call::Read { object } => match outcome {
-                Outcome::Got(_) => Some(*object),
+            Call::Read { object } => match outcome.ended() {
+                Ended::Got(_) => Some(*object),
                 _ => None,
             },
             _ => None,

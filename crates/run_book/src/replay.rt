@@ -8,7 +8,7 @@ ghost use Rattle.run_book.specs.Edits.{edits_of};
 ghost use Rattle.run_book.specs.Replay.{Shows, IsInRange};
 
 use crate::edits::{Edit, Edits};
-use dc_talk::{Ask, Call, Change, Deed, Fate, Outcome, Say};
+use dc_talk::{Ask, Call, Change, Deed, Ended, Fate, NotedOutcome, Outcome, Say};
 use ids_core::{MOST_NUMBER, NoMemory, ObjectId};
 use std::alloc::Global;
 use vv_core::Vector;
@@ -78,19 +78,24 @@ impl Replay {
     }
 
     // The client after a call that ended so.
-    fn take_call(&mut self, alloc: Global, call: &Call, outcome: &Outcome) -> Result<(), NoMemory>
+    fn take_call(
+        &mut self,
+        alloc: Global,
+        call: &Call,
+        outcome: &NotedOutcome,
+    ) -> Result<(), NoMemory>
         ensures ok { OnOk result ((s : Client) → Shows self.old s → IsInRange s → Shows self.new (did s call.now outcome.now)) }
         ensures err { OnErr result (self.new ≡ self.old) }
     {
         match call {
             Call::Begin => {
-                if matches!(outcome, Outcome::Fine) {
+                if matches!(outcome.ended(), Ended::Fine) {
                     self.open = Some(Edits::new(alloc));
                 }
                 Ok(())
             }
-            Call::Change { object, change } => match outcome {
-                Outcome::Fine => self.edit(alloc, object, change),
+            Call::Change { object, change } => match outcome.ended() {
+                Ended::Fine => self.edit(alloc, object, change),
                 _ => Ok(()),
             },
             Call::Read { object: _ } => Ok(()),
@@ -99,7 +104,7 @@ impl Replay {
                 Ok(())
             }
             Call::Abort => {
-                if matches!(outcome, Outcome::Fine) {
+                if matches!(outcome.ended(), Ended::Fine) {
                     self.open = None;
                 }
                 Ok(())
@@ -130,16 +135,16 @@ impl Replay {
     }
 
     // The client after a commit that ended so. No number of a book that fits passes 2^62.
-    fn commit(&mut self, outcome: &Outcome)
+    fn commit(&mut self, outcome: &NotedOutcome)
         ensures { (s : Client) → Shows self.old s → IsInRange s → Shows self.new (did s Call.Commit outcome.now) }
     {
-        match outcome {
-            Outcome::Number(_) => {
+        match outcome.ended() {
+            Ended::Number(_) => {
                 self.own = self.own.saturating_add(1);
                 self.clock = self.clock.saturating_add(1);
                 self.open = None;
             }
-            Outcome::Nothing => self.open = None,
+            Ended::Nothing => self.open = None,
             _ => {}
         }
     }

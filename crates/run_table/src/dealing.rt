@@ -8,7 +8,7 @@ ghost use Rattle.run_table.specs.Dealing.{IsDealt, IsOf, line_of};
 
 use dc_talk::Change;
 use ids_core::NoMemory;
-use script_core::{ClientStep, OperatorStep, Section, Step};
+use script_core::{ClientStep, OperatorStep, Section, Step, StepsSeen};
 use std::alloc::Global;
 
 /// The steps of each client, in order, and those of the operator.
@@ -104,8 +104,19 @@ pub fn deal(alloc: Global, clients: u32, section: &Section) -> Result<Dealt, NoM
     requires steps { All (IsOf clients) section.now.steps }
     ensures { IfOk result (IsDealt clients section.now.steps) }
 {
+    match section.steps.seen() {
+        StepsSeen::One(step) => deal_all(alloc, clients, &[step]),
+        StepsSeen::Many(steps) => deal_all(alloc, clients, steps),
+    }
+}
+
+// These steps, dealt.
+fn deal_all(alloc: Global, clients: u32, steps: &[Step]) -> Result<Dealt, NoMemory>
+    requires few { clients ≤ MOST_CLIENTS }
+    requires steps { All (IsOf clients) steps.now }
+    ensures { IfOk result (IsDealt clients steps.now) }
+{
     let mut dealt = Dealt::new(alloc, clients)?;
-    let steps = section.steps.as_slice();
     'steps: for step in steps {
         dealt.add(step)?;
     }

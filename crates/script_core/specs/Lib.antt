@@ -2,6 +2,7 @@ pub mod Limits
 pub mod LineCounts
 pub mod Lines
 pub mod Steps
+pub mod StepLists
 pub mod Rows
 pub mod Scripts
 pub mod Deeds

@@ -5,6 +5,7 @@ mod limits;
 mod object_call;
 mod rounds;
 mod script;
+mod step_list;
 mod steps;
 
 pub use limits::{LineCount, MAX_LINE, MAX_LINES};
@@ -13,4 +14,5 @@ pub use rounds::{MOST_EVERY, MOST_MAILED, ROUNDS_BETWEEN_PRUNES, Role};
 pub use script::{
     DEFAULT_CACHE, DEFAULT_ROUNDS, DEFAULT_THREADS, Header, MOST_ROUNDS, MOST_THREADS, Script,
 };
-pub use steps::{AskFault, ClientStep, OperatorStep, Section, Sections, Share, Step, Steps};
+pub use step_list::{Steps, StepsSeen};
+pub use steps::{AskFault, ClientStep, OperatorStep, Section, Sections, Share, Step};

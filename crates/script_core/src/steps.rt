@@ -1,4 +1,5 @@
 // The steps of a script.
+use crate::step_list::Steps;
 use dc_talk::{Change, LinkFault};
 use ids_core::{Name, ObjectId};
 use list_core::List;
@@ -93,9 +94,6 @@ pub enum Step {
     /// A step of the operator.
     Operator { step: OperatorStep },
 }
-
-/// Steps in their order, seen as their list.
-pub type Steps = List<Step>;
 
 /// A part of a script: nothing of another part is done before all its steps are.
 #[derive(Drop)]

@@ -34,7 +34,7 @@ pub struct Reading {
     pub threads: Option<u32>,
     pub rounds: Option<u32>,
     pub sections: Sections,
-    pub phase: Option<Steps>,
+    pub phase: Option<List<Step>>,
 }
 
 /// Why a line was not taken.
@@ -134,7 +134,7 @@ impl Reading {
             Row::Threads(most) => self.threads = Some(*most),
             Row::Rounds(rounds) => self.rounds = Some(*rounds),
             Row::Does(step) => self.take_step(alloc, step)?,
-            Row::Phase => self.phase = Some(Steps::new(alloc)),
+            Row::Phase => self.phase = Some(List::new(alloc)),
             Row::End => self.end_phase()?,
         }
         Ok(())
@@ -158,7 +158,10 @@ impl Reading {
         ensures { OnOk result (self.new ≡ phase_read self.old self.old.phase) }
     {
         if let Some(steps) = self.phase.take() {
-            self.sections.push(Section { phase: true, steps })?;
+            self.sections.push(Section {
+                phase: true,
+                steps: Steps::from_list(steps),
+            })?;
         }
         Ok(())
     }
@@ -225,7 +228,7 @@ fn push_in<T: Drop>(list: &mut Option<List<T>>, item: T) -> Result<(), AllocErro
 fn section(alloc: Global, step: &Step) -> Result<Section, AllocError>
     ensures { IfOk result (λ section. section ≡ section_of step.now) }
 {
-    let steps = Steps::from_vec(vec![in alloc; *step]?);
+    let steps = Steps::one(alloc, step)?;
     Ok(Section {
         phase: false,
         steps,

@@ -15,7 +15,7 @@ use io_edge::Gate;
 use run_book::{Book, Logs};
 use run_progress::{Extent, Progress};
 use run_table::{Table, trails_of};
-use script_core::{Script, Section, Step};
+use script_core::{Script, Section, Step, StepsSeen};
 use std::alloc::Global;
 use std::sync::Wait;
 use std::thread::Threads;
@@ -54,9 +54,10 @@ fn play_line(
     requires linked { AreLinked script.now table.old }
     ensures { OnOk result (HasPlayed script.now number section.now table.old table.new) }
 {
-    match section.steps.as_slice() {
-        [step] => take_one(alloc, script, number, step, table),
-        _ => unreachable!(),
+    match section.steps.seen() {
+        StepsSeen::One(step) => take_one(alloc, script, number, &step, table),
+        StepsSeen::Many([step]) => take_one(alloc, script, number, step, table),
+        StepsSeen::Many(_) => unreachable!(),
     }
 }
 

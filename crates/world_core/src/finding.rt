@@ -14,7 +14,7 @@ use dc_talk::{Ask, Deed, Log, Note, Say};
 use ids_core::NoMemory;
 use machine_trail::Entry;
 use run_table::Work;
-use script_core::{ClientStep, OperatorStep, Role, Script, Section, Step};
+use script_core::{ClientStep, OperatorStep, Role, Script, Section, Step, StepsSeen};
 
 // What a client does in a step, where the step is the client's.
 fn client_step(step: &Step, client: u32) -> Option<ClientStep>
@@ -92,7 +92,10 @@ pub(crate) fn client_step_named(
     ensures { result ≡ step_named (client_steps client) script.now section number }
 {
     match section_named(script, section) {
-        Some(found) => client_step_in(found.steps.as_slice(), client, number),
+        Some(found) => match found.steps.seen() {
+            StepsSeen::One(step) => client_step_in(&[step], client, number),
+            StepsSeen::Many(steps) => client_step_in(steps, client, number),
+        },
         None => None,
     }
 }
@@ -106,7 +109,10 @@ pub(crate) fn operator_step_named(
     ensures { result ≡ step_named operator_steps script.now section number }
 {
     match section_named(script, section) {
-        Some(found) => operator_step_in(found.steps.as_slice(), number),
+        Some(found) => match found.steps.seen() {
+            StepsSeen::One(step) => operator_step_in(&[step], number),
+            StepsSeen::Many(steps) => operator_step_in(steps, number),
+        },
         None => None,
     }
 }

@@ -13,7 +13,7 @@ use ids_core::NoMemory;
 use io_edge::FreeGate;
 use run_book::Book;
 use run_progress::{Extent, Progress};
-use script_core::{Script, Section, Step};
+use script_core::{Script, Section, Step, StepsSeen};
 use std::alloc::Global;
 
 // Has the step's actor take it, as the only one of the section of a number.
@@ -39,9 +39,10 @@ fn play_line(
     requires line { IsLine (header_of world.old.script) section.now }
     ensures { OnOk result (MakesMoves (section_moves world.old.script number section.now) world.old world.new) }
 {
-    match section.steps.as_slice() {
-        [step] => take_one(alloc, world, number, step),
-        _ => unreachable!(),
+    match section.steps.seen() {
+        StepsSeen::One(step) => take_one(alloc, world, number, &step),
+        StepsSeen::Many([step]) => take_one(alloc, world, number, step),
+        StepsSeen::Many(_) => unreachable!(),
     }
 }
 

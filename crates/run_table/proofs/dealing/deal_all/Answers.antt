@@ -1,11 +1,11 @@
 use Rattle.std.proofs.Common.{◌≡◌, ◌+◌, take, [], ◌∷◌, ◌++◌, sym, ap, ◌∙◌, subst, arith}
 use Rattle.std.proofs.lemmas.List.{take_more}
 use Rattle.run_table.specs.Dealing.{IsDealt}
-use Rattle.run_table.proofs.dealing.deal.Goals as goal
+use Rattle.run_table.proofs.dealing.deal_all.Goals as goal
 
 pub steps-preserved : goal.steps-preserved
 steps-preserved c =
-    let all = c.as_slice-steps.result.now in
+    let all = c.args.steps.now in
     let place = c.steps.step-index in
     let step = c.step-item.result in
     let taken : take (place + 1) all ≡ take place all ++ step ∷ [] = take_more all place step (omega (arith, c.steps-test.true)) ∙ ap (λ step. take place all ++ step ∷ []) (sym c.step-item.is) in
