@@ -1,6 +1,7 @@
 pub mod Inside
 pub mod Splits
 pub mod Growth
+pub mod Ordered
 pub mod Chains
 pub mod LogSplits
 pub mod LogGrowth
