@@ -6,4 +6,5 @@ pub mod Chains
 pub mod LogSplits
 pub mod LogGrowth
 pub mod StandingFor
+pub mod KeptLogs
 pub mod Serving
