@@ -1,11 +1,10 @@
 -- The parts of a point, and the tables that are made of parts.
-use Rattle.std.proofs.Common.{◌≡◌, ◌<◌, ℕ, Bool, true, false, cond, List, [], ◌∷◌, ◌++◌, Option, Some, None, map, refl, sym, ap, ◌∙◌, subst, arith}
+use Rattle.std.proofs.Common.{◌≡◌, ℕ, Bool, true, false, cond, List, [], ◌∷◌, ◌++◌, Option, Some, None, map, refl, sym, ap, ◌∙◌, subst, arith}
 use Rattle.std.specs.Prelude.{◌==◌}
 use Rattle.std.specs.Cmp.{IsEquivalence, IsTotalOrder, nat_cmp_total}
 use Rattle.std.specs.List.{AllByRecursion, IsDistinct}
 use Rattle.std.specs.List.Sorted.{IsStrictlySortedBy}
 use Rattle.std.specs.Map.{lookup, keys_of}
-use Rattle.std.specs.Ordering.{eq_by_cmp}
 use Rattle.std.specs.Option.{option_or}
 use Rattle.std.specs.Ordering.{nat_cmp, is_eq, ordering_reverse}
 use Rattle.std.specs.BTreeMap.{is_at}
@@ -24,9 +23,8 @@ use Rattle.ids_core.specs.Orders.{object_cmp, object_cmp_total, object_cmp_same,
 use Rattle.tx_core.specs.declared.part.StatePart.{StatePart}
 use Rattle.tx_core.specs.declared.state.State.{State}
 use Rattle.check_point.specs.declared.part.Folded.{Folded}
-use Rattle.check_point.specs.declared.part.PointParts.{PointParts}
-use Rattle.check_point.specs.Points.{PointView, StateEntries, NumberEntries}
-use Rattle.check_point.specs.PointParts.{state_entries, number_entries, AscendByClient, AscendByObject, HasNumbers, HasStates, AreParts, ArePartsOf}
+use Rattle.check_point.specs.Points.{StateEntries, NumberEntries}
+use Rattle.check_point.specs.PointParts.{state_entries, number_entries, AscendByClient, AscendByObject, HasNumbers, HasStates}
 
 -- ---- look-ups
 

@@ -1,15 +1,13 @@
 -- What is kept of applied records, at first, with one record more, and once more of them is folded.
-use Rattle.std.proofs.Common.{◌≡◌, ◌≢◌, ◌≤◌, ◌<◌, ℕ, ◌+◌, max, Bool, true, false, cond, ◌⊎◌, inl, inr, ⊎_elim, List, [], ◌∷◌, ◌++◌, length, Option, Some, None, refl, sym, ap, ◌∙◌, subst, arith}
-use Rattle.std.specs.Prelude.{not, IsTrue, ◌↔◌, ◌==◌, All}
+use Rattle.std.proofs.Common.{◌≡◌, ◌≢◌, ◌≤◌, ◌<◌, ℕ, ◌+◌, max, Bool, true, false, cond, ◌⊎◌, inl, inr, ⊎_elim, List, [], ◌∷◌, ◌++◌, length, Some, refl, sym, ap, ◌∙◌, subst, arith}
+use Rattle.std.specs.Prelude.{not, IsTrue, ◌↔◌, ◌==◌}
 use Rattle.std.proofs.lemmas.Bool.{cases_Bool, cases_lt, false≢true, eq-eqb, eqb-true, leb-true, false_from_ne_true}
 use Rattle.std.proofs.lemmas.Bool.Decides.{Decides-eqb}
 use Rattle.std.proofs.lemmas.List.Elements.{All-nil, All-push}
-use Rattle.std.proofs.lemmas.Option.{none-some}
 use Rattle.list_core.specs.Members.{In}
-use Rattle.list_core.proofs.Members.{All-In, In-All, In_left, In_right, In_either}
+use Rattle.list_core.proofs.Members.{In_left, In_right, In_either}
 use Rattle.ids_core.specs.declared.limits.TheConstants.{MOST_CENTRES, MOST_CLIENTS, MOST_UPDATES}
 use Rattle.ids_core.specs.declared.ids.Dot.{Dot}
-use Rattle.ids_core.specs.declared.object.ObjectId.{ObjectId}
 use Rattle.ids_core.specs.Ids.{same_dot}
 use Rattle.ids_core.specs.Same.{same_dot-true, same_dot-same}
 use Rattle.vv_core.specs.declared.stamp.Stamp.{Stamp}
@@ -17,20 +15,16 @@ use Rattle.vv_core.specs.Vectors.{zeros, at, raised, within, Covers}
 use Rattle.vv_core.proofs.Covering.{Covers_refl, Covers_trans, Covers-join_left}
 use Rattle.vv_core.proofs.Entrywise.{length-zeros, is_tabulate, at-tabulate, at-zeros, raised-tabulate, same_tabulate, length-raised}
 use Rattle.dup_guard.specs.declared.guard.Last.{Last}
-use Rattle.dup_guard.specs.Notes.{last_at, number_in, stamp_in, number_of, stamp_of}
+use Rattle.dup_guard.specs.Notes.{number_of, stamp_of}
 use Rattle.tx_core.specs.declared.tx.Record.{Record}
-use Rattle.op_log.specs.declared.logged.Logged.{Logged}
-use Rattle.op_log.specs.Logs.{LogView, has_dot}
-use Rattle.check_point.specs.Points.{PointView, IsPointOf, HasFewUpdates}
+use Rattle.op_log.specs.Logs.{LogView}
+use Rattle.check_point.specs.Points.{IsPointOf, HasFewUpdates}
 use Rattle.point_log.specs.StandFor.{StandFor, with_one}
-use Rattle.point_log.proofs.StandingFor.{none_stand, known_stands, new_stands, kept_stands}
+use Rattle.point_log.proofs.StandingFor.{none_stand, kept_stands}
 use Rattle.dc_talk.specs.Records.{count, vector, guard, first_stamp, top, has}
 use Rattle.dc_talk.specs.Dots.{dots_of}
 use Rattle.dc_talk.proofs.Counts.{count_more, guard_more}
-use Rattle.point_log.specs.declared.served.Served.{Served}
-use Rattle.point_log.specs.Served.{IsServed, AreServed, ServedEntries, served_of}
-use Rattle.point_log.proofs.Serving.{kept_on, served_more}
-use Rattle.dc_centre.specs.Applied.{AppliedView, IsNext, is_fresh, IsGuard, IsCentreOf, IsRanged, IsPlaced, IsApplied}
+use Rattle.dc_centre.specs.Applied.{AppliedView, IsNext, is_fresh, IsGuard, IsRanged, IsPlaced, IsApplied}
 use Rattle.dc_centre.proofs.Firsts.{new_dot, has_before, has_last, first_had, first_new}
 
 -- ---- at first

@@ -8,11 +8,10 @@ use Rattle.list_core.specs.Members.{In}
 use Rattle.list_core.proofs.Members.{All-In, In-All, In_more, In_from_map, In_from_filter}
 use Rattle.ids_core.specs.declared.limits.TheConstants.{MOST_CENTRES}
 use Rattle.ids_core.specs.declared.ids.Dot.{Dot}
-use Rattle.ids_core.specs.declared.object.ObjectId.{ObjectId}
 use Rattle.ids_core.specs.Ids.{same_dot}
 use Rattle.ids_core.specs.Same.{same_dot-true}
 use Rattle.vv_core.specs.declared.stamp.Stamp.{Stamp}
-use Rattle.vv_core.specs.Vectors.{zeros, raised, Covers}
+use Rattle.vv_core.specs.Vectors.{raised, Covers}
 use Rattle.vv_core.proofs.Covering.{Covers_refl, Covers_trans, Covers-join_left}
 use Rattle.vv_core.proofs.Entrywise.{length-zeros, length-raised}
 use Rattle.dup_guard.specs.declared.guard.Last.{Last}
@@ -25,7 +24,6 @@ use Rattle.op_log.proofs.Items.{stamped_tx}
 use Rattle.check_point.specs.Points.{PointView, HasFewUpdates}
 use Rattle.point_log.specs.KeptLogs.{IsKeptLog}
 use Rattle.point_log.specs.StandFor.{with_one}
-use Rattle.point_log.specs.declared.served.Served.{Served}
 use Rattle.point_log.specs.Served.{IsServed, AreServed, ServedEntries, served_of}
 use Rattle.point_log.proofs.KeptLogs.{none_kept, kept_more, kept_left}
 use Rattle.point_log.proofs.Serving.{kept_on, served_more, none_served}

@@ -1,10 +1,10 @@
 -- States that are kept, folded on at a later vector, and after one record more.
-use Rattle.std.proofs.Common.{◌≡◌, ◌≤◌, ◌<◌, ℕ, ◌+◌, Bool, true, false, cond, ◌&&◌, ◌⊎◌, inl, inr, ⊎_elim, Option, Some, None, List, [], ◌∷◌, ◌++◌, length, take, drop, get_or, map, refl, sym, ap, subst, ◌∙◌, arith}
-use Rattle.std.specs.Prelude.{filter, flat_map, not, IfSome, ◌==◌, Result, Ok, Err, OnOk, OnErr, IfOk}
+use Rattle.std.proofs.Common.{◌≡◌, ◌≤◌, ◌<◌, ℕ, ◌+◌, Bool, true, false, cond, ◌&&◌, ◌⊎◌, inl, inr, ⊎_elim, Option, Some, None, List, [], ◌∷◌, ◌++◌, length, take, drop, get_or, sym, ap, subst, ◌∙◌, arith}
+use Rattle.std.specs.Prelude.{filter, not, IfSome, ◌==◌, Result, Ok, Err, OnOk, OnErr, IfOk}
 use Rattle.std.specs.BTreeMap.{is_at}
 use Rattle.std.proofs.Math.Bool.{and-false}
 use Rattle.std.proofs.lemmas.Bool.{cases_Bool, false≢true, or_cases, or_left, or_right, and_parts, and_from}
-use Rattle.std.proofs.lemmas.List.{append-nil, length-append, map-append, take-append-drop, take-append-le, take_more}
+use Rattle.std.proofs.lemmas.List.{append-nil, length-append, take-append-drop, take-append-le, take_more}
 use Rattle.std.proofs.lemmas.List.Elements.{filter-append}
 use Rattle.std.proofs.lemmas.List.Folds.{list_any-append}
 use Rattle.list_core.specs.Members.{In}
@@ -18,25 +18,16 @@ use Rattle.vv_core.specs.declared.stamp.Stamp.{Stamp}
 use Rattle.vv_core.specs.Vectors.{within, Covers}
 use Rattle.vv_core.specs.Stamps.{is_any_within}
 use Rattle.vv_core.proofs.Covering.{Covers_trans}
-use Rattle.tx_core.specs.declared.tx.Tx.{Tx}
 use Rattle.tx_core.specs.declared.tx.Record.{Record}
 use Rattle.tx_core.specs.States.{fold_of}
-use Rattle.tx_core.specs.Operations.{ops_of}
-use Rattle.dc_talk.specs.Records.{has, firsts}
-use Rattle.dc_talk.specs.Dots.{dots_of}
-use Rattle.dc_talk.specs.Objects.{state_at}
-use Rattle.dc_talk.proofs.Firsts.{firsts_more}
 use Rattle.op_log.specs.declared.chains.Cell.{Cell}
 use Rattle.op_log.specs.declared.logged.Logged.{Logged}
 use Rattle.op_log.specs.Logs as log
 use Rattle.op_log.proofs.Items.{chain_of-with_stamp, chain_more}
 use Rattle.check_point.specs.Points.{PointView}
-use Rattle.check_point.specs.Operations.{state_after}
-use Rattle.check_point.proofs.Advancing.{state_after-append}
 use Rattle.point_log.specs.declared.served.Served.{Served}
-use Rattle.point_log.specs.Splits.{first_txs, is_inside}
-use Rattle.point_log.specs.LogSplits.{txs_of, ops_in}
-use Rattle.point_log.specs.StandFor.{StandFor, state_told, with_one}
+use Rattle.point_log.specs.LogSplits.{ops_in}
+use Rattle.point_log.specs.StandFor.{state_told, with_one}
 use Rattle.point_log.specs.Served.{is_since, AreInside, IsServed, AreServed, IsPut, ServedEntries, served_of}
 use Rattle.point_log.specs.KeptLogs.{IsKeptLog}
 use Rattle.point_log.proofs.KeptLogs.{any_later, told_on, told_more}

@@ -1,8 +1,7 @@
 use Rattle.std.proofs.Common.{◌≡◌, ap, sym, ◌∙◌, subst}
 use Rattle.std.specs.Prelude.{◌==◌}
 use Rattle.std.specs.Cmp.{nat_eq_equiv}
-use Rattle.std.specs.List.{IsDistinct}
-use Rattle.std.specs.Map.{lookup, keys_of}
+use Rattle.std.specs.Map.{lookup}
 use Rattle.check_point.specs.PointParts.{AscendByClient, number_entries}
 use Rattle.check_point.proofs.TakingApart.{all_left, next_put, next_apart, numbers_apart}
 use Rattle.check_point.proofs.parts.numbers_of.Goals as goal

@@ -1,8 +1,7 @@
 use Rattle.std.proofs.Common.{◌≡◌, ap, sym, ◌∙◌, subst}
 use Rattle.ids_core.specs.Ids.{same_object}
 use Rattle.ids_core.specs.Same.{same_object_equivalence}
-use Rattle.std.specs.List.{IsDistinct}
-use Rattle.std.specs.Map.{lookup, keys_of}
+use Rattle.std.specs.Map.{lookup}
 use Rattle.check_point.specs.PointParts.{AscendByObject, state_entries}
 use Rattle.check_point.proofs.TakingApart.{all_left, next_put, next_apart, states_apart}
 use Rattle.check_point.proofs.parts.states_of.Goals as goal

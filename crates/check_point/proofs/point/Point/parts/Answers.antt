@@ -1,4 +1,4 @@
-use Rattle.std.proofs.Common.{◌≡◌, sym, ap, ◌∙◌, subst}
+use Rattle.std.proofs.Common.{sym, subst}
 use Rattle.check_point.specs.Points.{PointView}
 use Rattle.check_point.specs.PointParts.{ArePartsOf}
 use Rattle.check_point.proofs.point.Point.parts.Goals as goal

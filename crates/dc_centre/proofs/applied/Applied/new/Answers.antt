@@ -1,6 +1,4 @@
-use Rattle.std.proofs.Common.{◌≡◌, ℕ, List, [], length, refl, sym, ap, ◌∙◌, subst}
-use Rattle.vv_core.proofs.Entrywise.{length-zeros}
-use Rattle.point_log.proofs.Serving.{none_served}
+use Rattle.std.proofs.Common.{refl}
 use Rattle.dc_centre.specs.Applied.{AppliedView}
 use Rattle.dc_centre.proofs.Applying.{IsNothing, applied_none}
 use Rattle.dc_centre.proofs.Kept.{kept_none}

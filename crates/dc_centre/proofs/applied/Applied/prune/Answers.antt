@@ -1,4 +1,4 @@
-use Rattle.std.proofs.Common.{◌≡◌, length, refl, sym, ap, ◌∙◌, subst}
+use Rattle.std.proofs.Common.{◌≡◌, length, sym, subst}
 use Rattle.vv_core.specs.Vectors.{Covers}
 use Rattle.dc_centre.specs.Applied.{AppliedView}
 use Rattle.dc_centre.proofs.Kept.{kept_pruned}

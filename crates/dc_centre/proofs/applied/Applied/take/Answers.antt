@@ -1,6 +1,5 @@
-use Rattle.std.proofs.Common.{◌≡◌, ◌++◌, ◌∷◌, [], ℕ, Bool, List, length, refl, sym, ap, ◌∙◌, subst}
+use Rattle.std.proofs.Common.{◌≡◌, ◌++◌, ◌∷◌, [], Bool, List, length, sym, ap, ◌∙◌, subst}
 use Rattle.std.specs.Prelude.{not}
-use Rattle.vv_core.proofs.Entrywise.{length-raised}
 use Rattle.tx_core.specs.declared.tx.Record.{Record}
 use Rattle.point_log.specs.StandFor.{with_one}
 use Rattle.dc_centre.specs.Applied.{AppliedView, IsNext, is_fresh, IsApplied, IsKept}

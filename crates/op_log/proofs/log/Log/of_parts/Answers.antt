@@ -1,4 +1,4 @@
-use Rattle.std.proofs.Common.{◌≡◌, [], arith}
+use Rattle.std.proofs.Common.{arith}
 use Rattle.std.proofs.lemmas.List.{nil_from_length}
 use Rattle.op_log.proofs.RestParts.{parts_back, next_new}
 use Rattle.op_log.proofs.log.Log.of_parts.Goals as goal
