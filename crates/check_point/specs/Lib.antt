@@ -1,3 +1,4 @@
 pub mod Operations
 pub mod Partings
 pub mod Points
+pub mod PointParts

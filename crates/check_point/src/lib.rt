@@ -4,9 +4,12 @@
 
 mod laws;
 mod numbers;
+mod part;
+mod parts;
 mod point;
 mod states;
 mod tables;
 
 pub use laws::law_parting;
+pub use part::{Folded, Numbers, PointParts};
 pub use point::Point;

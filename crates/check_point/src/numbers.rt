@@ -9,10 +9,10 @@ use std::alloc::Global;
 use tx_core::Tx;
 
 /// Clients with the greatest number of their transactions each.
-pub(crate) type Numbers = IndexMap<u32, u64>;
+pub(crate) type NumberTable = IndexMap<u32, u64>;
 
 // The number that is kept of a client, 0 where none is.
-pub(crate) fn number_at(kept: &Numbers, client: u32) -> u64
+pub(crate) fn number_at(kept: &NumberTable, client: u32) -> u64
     ensures { result ≡ number_in kept.now.entries client }
 {
     match kept.get(&client) {
@@ -22,7 +22,11 @@ pub(crate) fn number_at(kept: &Numbers, client: u32) -> u64
 }
 
 // The greatest numbers of the clients that have one of the transactions, with those that are kept.
-pub(crate) fn raised_numbers(kept: &Numbers, alloc: Global, txs: &[Tx]) -> Result<Numbers, NoMemory>
+pub(crate) fn raised_numbers(
+    kept: &NumberTable,
+    alloc: Global,
+    txs: &[Tx],
+) -> Result<NumberTable, NoMemory>
     ensures { IfOk result (λ raised. (client : ℕ) → number_over raised.entries kept.now.entries client ≡ max (greatest client txs.now) (number_in kept.now.entries client)) }
 {
     let mut raised = IndexMap::new(alloc);
@@ -33,7 +37,7 @@ pub(crate) fn raised_numbers(kept: &Numbers, alloc: Global, txs: &[Tx]) -> Resul
 }
 
 // Raises the number of a transaction's client to the transaction's own, where that is greater.
-fn raise(raised: &mut Numbers, kept: &Numbers, dot: &Dot) -> Result<(), NoMemory>
+fn raise(raised: &mut NumberTable, kept: &NumberTable, dot: &Dot) -> Result<(), NoMemory>
     ensures { OnOk result ((client : ℕ) → number_over raised.new.entries kept.now.entries client ≡ max (cond (dot.now.client == client) dot.now.number 0) (number_over raised.old.entries kept.now.entries client)) }
 {
     let before = number_before(raised, kept, dot.client);
@@ -42,7 +46,7 @@ fn raise(raised: &mut Numbers, kept: &Numbers, dot: &Dot) -> Result<(), NoMemory
 }
 
 // The number of a client among the raised ones, or else among those that are kept.
-fn number_before(raised: &Numbers, kept: &Numbers, client: u32) -> u64
+fn number_before(raised: &NumberTable, kept: &NumberTable, client: u32) -> u64
     ensures { result ≡ number_over raised.now.entries kept.now.entries client }
 {
     match raised.get(&client) {

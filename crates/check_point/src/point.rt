@@ -4,8 +4,12 @@ ghost use Rattle.ids_core.specs.declared.limits.TheConstants.{MOST_CENTRES};
 ghost use Rattle.vv_core.specs.Vectors.{zeros, Covers};
 ghost use Rattle.tx_core.specs.declared.tx.Tx.{Tx as TxOf};
 ghost use Rattle.check_point.specs.Points.{state_of, number_of, IsPointOf, HasFewUpdates};
+ghost use Rattle.check_point.specs.declared.part.PointParts.{PointParts as PartsOf};
+ghost use Rattle.check_point.specs.PointParts.{AreParts, ArePartsOf};
 
-use crate::numbers::{Numbers, number_at, raised_numbers};
+use crate::numbers::{NumberTable, number_at, raised_numbers};
+use crate::part::PointParts;
+use crate::parts::{number_parts, numbers_of, state_parts, states_of};
 use crate::states::{States, changed_states, copy_of};
 use crate::tables::put_over;
 use ids_core::{NoMemory, ObjectId};
@@ -22,7 +26,7 @@ use vv_core::Vector;
 pub struct Point {
     vector: Vector,
     states: States,
-    numbers: Numbers,
+    numbers: NumberTable,
     folded: u64,
 }
 
@@ -105,5 +109,32 @@ impl Point {
         self.vector = *to;
         self.folded = folded;
         Ok(())
+    }
+    /// What the point keeps, ascending by client and by object. No other parts are that. Time: a copy of all
+    /// states, and a sort of the objects and of the clients.
+    pub fn parts(&self, alloc: Global) -> Result<PointParts, NoMemory>
+        ensures parts { IfOk result AreParts }
+        ensures told { IfOk result (ArePartsOf self.now) }
+        ensures only { IfOk result (λ parts. (others : PartsOf) → AreParts others → ArePartsOf self.now others → others ≡ parts) }
+    {
+        Ok(PointParts {
+            vector: self.vector,
+            folded: self.folded,
+            numbers: number_parts(&self.numbers, alloc)?,
+            states: state_parts(&self.states, alloc)?,
+        })
+    }
+
+    /// The point of which these are the parts. Time: linear in them.
+    pub fn of_parts(alloc: Global, parts: PointParts) -> Result<Point, NoMemory>
+        requires { AreParts parts }
+        ensures { IfOk result (λ point. ArePartsOf point parts) }
+    {
+        Ok(Point {
+            vector: parts.vector,
+            states: states_of(alloc, parts.states)?,
+            numbers: numbers_of(alloc, parts.numbers)?,
+            folded: parts.folded,
+        })
     }
 }

@@ -1,15 +1,13 @@
 -- What is kept of applied records, at first, with one record more, and once more of them is folded.
-use Rattle.std.proofs.Common.{◌≡◌, ◌≢◌, ◌≤◌, ◌<◌, ℕ, ◌+◌, max, Bool, true, false, cond, ◌⊎◌, inl, inr, ⊎_elim, List, [], ◌∷◌, ◌++◌, length, Option, Some, None, refl, sym, ap, ◌∙◌, subst, arith}
-use Rattle.std.specs.Prelude.{not, IsTrue, ◌↔◌, ◌==◌, All}
+use Rattle.std.proofs.Common.{◌≡◌, ◌≢◌, ◌≤◌, ◌<◌, ℕ, ◌+◌, max, Bool, true, false, cond, ◌⊎◌, inl, inr, ⊎_elim, List, [], ◌∷◌, ◌++◌, length, Some, refl, sym, ap, ◌∙◌, subst, arith}
+use Rattle.std.specs.Prelude.{not, IsTrue, ◌↔◌, ◌==◌}
 use Rattle.std.proofs.lemmas.Bool.{cases_Bool, cases_lt, false≢true, eq-eqb, eqb-true, leb-true, false_from_ne_true}
 use Rattle.std.proofs.lemmas.Bool.Decides.{Decides-eqb}
 use Rattle.std.proofs.lemmas.List.Elements.{All-nil, All-push}
-use Rattle.std.proofs.lemmas.Option.{none-some}
 use Rattle.list_core.specs.Members.{In}
-use Rattle.list_core.proofs.Members.{All-In, In-All, In_left, In_right, In_either}
+use Rattle.list_core.proofs.Members.{In_left, In_right, In_either}
 use Rattle.ids_core.specs.declared.limits.TheConstants.{MOST_CENTRES, MOST_CLIENTS, MOST_UPDATES}
 use Rattle.ids_core.specs.declared.ids.Dot.{Dot}
-use Rattle.ids_core.specs.declared.object.ObjectId.{ObjectId}
 use Rattle.ids_core.specs.Ids.{same_dot}
 use Rattle.ids_core.specs.Same.{same_dot-true, same_dot-same}
 use Rattle.vv_core.specs.declared.stamp.Stamp.{Stamp}
@@ -17,21 +15,17 @@ use Rattle.vv_core.specs.Vectors.{zeros, at, raised, within, Covers}
 use Rattle.vv_core.proofs.Covering.{Covers_refl, Covers_trans, Covers-join_left}
 use Rattle.vv_core.proofs.Entrywise.{length-zeros, is_tabulate, at-tabulate, at-zeros, raised-tabulate, same_tabulate, length-raised}
 use Rattle.dup_guard.specs.declared.guard.Last.{Last}
-use Rattle.dup_guard.specs.Notes.{last_at, number_in, stamp_in, number_of, stamp_of}
+use Rattle.dup_guard.specs.Notes.{number_of, stamp_of}
 use Rattle.tx_core.specs.declared.tx.Record.{Record}
-use Rattle.op_log.specs.declared.logged.Logged.{Logged}
-use Rattle.op_log.specs.Logs.{LogView, has_dot}
-use Rattle.check_point.specs.Points.{PointView, IsPointOf, HasFewUpdates}
+use Rattle.op_log.specs.Logs.{LogView}
+use Rattle.check_point.specs.Points.{IsPointOf, HasFewUpdates}
 use Rattle.point_log.specs.StandFor.{StandFor, with_one}
-use Rattle.point_log.proofs.StandingFor.{none_stand, known_stands, new_stands, kept_stands}
+use Rattle.point_log.proofs.StandingFor.{none_stand, kept_stands}
 use Rattle.dc_talk.specs.Records.{count, vector, guard, first_stamp, top, has}
 use Rattle.dc_talk.specs.Dots.{dots_of}
 use Rattle.dc_talk.proofs.Counts.{count_more, guard_more}
-use Rattle.point_log.specs.declared.served.Served.{Served}
-use Rattle.point_log.specs.Served.{IsServed, AreServed, ServedEntries, served_of}
-use Rattle.point_log.proofs.Serving.{kept_on, served_more}
-use Rattle.dc_centre.specs.Applied.{AppliedView, IsNext, is_fresh, IsGuard, IsCentreOf, IsRanged, IsPlaced, IsApplied}
-use Rattle.dc_centre.proofs.Firsts.{new_dot, has_before, has_last, first_had, first_new, first_stamp_range}
+use Rattle.dc_centre.specs.Applied.{AppliedView, IsNext, is_fresh, IsGuard, IsRanged, IsPlaced, IsApplied}
+use Rattle.dc_centre.proofs.Firsts.{new_dot, has_before, has_last, first_had, first_new}
 
 -- ---- at first
 
@@ -262,12 +256,8 @@ ranged_more n A r next ranged q i = ⊎_elim before (λ here. ⊎_elim last (λ 
 -- ---- what is kept with one record more
 
 -- a stamp past the counts is past what they cover
-stamp_out : (counts base : List ℕ) (s : Stamp) → Covers counts base → s.seq ≡ at counts s.centre + 1 → within s base ≡ false
+pub stamp_out : (counts base : List ℕ) (s : Stamp) → Covers counts base → s.seq ≡ at counts s.centre + 1 → within s base ≡ false
 stamp_out counts base s covers seq = false_from_ne_true (within s base) (λ t. let le = leb-true s.seq (at base s.centre) t in let high = covers.holds s.centre in absurd (omega (arith, le, high, seq)))
-
--- the dot of a new record is not in the log
-pub not_logged : (n : ℕ) (x : AppliedView) (A : List Record) (r : Record) → IsApplied n x A → IsNext x r → is_fresh x r ≡ true → has_dot r.tx.dot x.log.items ≡ false
-not_logged n x A r h next fresh = new_stands A x.point x.log h.stored r.tx.dot (fresh_dot n A r (next_after n x A r h next) h.there (is_fresh x r) (fresh_after n x A r h) fresh)
 
 -- what is kept, with a record more
 abbrev pub more_kept : AppliedView → Record → Bool → List Last → AppliedView
@@ -293,43 +283,6 @@ applied_more n x lasts A r h is noted =
       ranged = ranged_more n A r next h.ranged;
     }
 
--- and so are the states that were served
-pub served_after : (n : ℕ) (x y : AppliedView) (A : List Record) (r : Record) (fresh : Bool) (served : ServedEntries) → IsApplied n x A → IsApplied n y (A ++ r ∷ []) → IsNext x r → y.counts ≡ raised x.counts r.stamp → y.point ≡ x.point → y.log ≡ with_one x.log r fresh → AreServed x.counts x.point x.log served → AreServed y.counts y.point y.log served
-served_after n x y A r fresh served h more next counts point log are = record {
-  states = λ o. kept_on (IsServed x.point x.log o) (λ s. Covers x.counts s.at) (IsServed y.point y.log o) (served_of served o) (λ s is here. on o s is here) (are.states o) (are.here o);
-  here = λ o. kept_on (IsServed x.point x.log o) (λ s. Covers x.counts s.at) (λ s. Covers y.counts s.at) (served_of served o) (λ s is here. subst (λ (v : List ℕ). Covers v s.at) (sym counts) (Covers_trans (raised x.counts r.stamp) x.counts s.at (Covers-join_left x.counts _) here)) (are.states o) (are.here o);
-}
-  where
-    stored : StandFor (A ++ r ∷ []) x.point (with_one x.log r fresh)
-    stored = subst (λ (l : LogView). StandFor (A ++ r ∷ []) x.point l) log (subst (λ (p : PointView). StandFor (A ++ r ∷ []) p y.log) point more.stored)
-
-    on : (o : ObjectId) (s : Served) → IsServed x.point x.log o s → Covers x.counts s.at → IsServed y.point y.log o s
-    on o s is here = subst (λ (l : LogView). IsServed y.point l o s) (sym log) (subst (λ (p : PointView). IsServed p (with_one x.log r fresh) o s) (sym point) (served_more A x.point x.log o r fresh s h.stored stored (stamp_out x.counts s.at r.stamp here next.seq) is))
-
--- ---- what is kept once more is folded
-
-pub applied_pruned : (n : ℕ) (x : AppliedView) (point : PointView) (log : LogView) (A : List Record) → IsApplied n x A → length point.vector ≡ length x.counts → Covers x.counts point.vector → StandFor A point log → IsApplied n (record x { point = point; log = log }) A
-applied_pruned n x point log A h based within stored = record {
-  width = h.width;
-  wide = h.wide;
-  based = based ∙ h.wide;
-  counted = h.counted;
-  guarded = h.guarded;
-  ranked = h.ranked;
-  stored = stored;
-  within = within;
-  there = h.there;
-  updates = h.updates;
-  placed = h.placed;
-  ranged = h.ranged;
-}
-
--- the transactions of the log have few updates
-pub few_logged : (n : ℕ) (x : AppliedView) (A : List Record) → IsApplied n x A → All (λ (l : Logged). HasFewUpdates l.tx) x.log.items
-few_logged n x A h = In-All (λ (l : Logged). HasFewUpdates l.tx) x.log.items (λ l i.
-    let from = (known_stands A x.point x.log h.stored l i).0 in
-    subst HasFewUpdates (sym from.2) (All-In (λ (r : Record). HasFewUpdates r.tx) A from.0 h.updates from.1))
-
 -- ---- stamps
 
 -- a stamp is there exactly where it is within the counts
@@ -347,23 +300,6 @@ within_has n x A s h there =
     let is = at-vector n s.centre x.counts A h.counted q.0 q.1 in
     let wide = h.wide in
     (q.0, (let high = q.1 in omega (arith, wide, high)), q.2, (let le = q.3 in omega (arith, le, is)))
-
--- where there is a stamp, there is a number
-stamped_number : (last : Option Last) (s : Stamp) → stamp_in last ≡ Some s → 1 ≤ number_in last
-stamped_number None s is = absurd (none-some s is)
-stamped_number (Some last) s is = go (cases_Bool (last.number == 0))
-  where
-    go : ((last.number == 0) ≡ true) ⊎ ((last.number == 0) ≡ false) → 1 ≤ last.number
-    go (inl t) = absurd (none-some s (sym (ap (λ b. cond b None (Some last.stamp)) t) ∙ is))
-    go (inr f) = let apart : last.number ≢ 0 = λ e. false≢true (sym f ∙ eq-eqb last.number 0 e) in omega (arith, apart)
-
--- the stamp that the filter of duplicates has is of one of the centres
-pub guard_stamp_range : (n : ℕ) (x : AppliedView) (A : List Record) (client : ℕ) (s : Stamp) → IsApplied n x A → stamp_of x.lasts client ≡ Some s → IsCentreOf n s
-guard_stamp_range n x A client s h is =
-    let number = h.guarded.numbers client in
-    let some = stamped_number (last_at x.lasts client) s is in
-    let low : 1 ≤ guard client A = omega (arith, number, some) in
-    first_stamp_range n (record { client = client; number = guard client A }) A s (λ r i. (h.ranged r i).centre) (sym (h.guarded.stamps client low) ∙ is)
 
 -- where every number is known or the next, one that was not seen is the next
 pub fresh_is : (seen : Bool) (x : AppliedView) (r : Record) → (IsTrue seen ↔ (r.tx.dot.number ≤ number_of x.lasts r.tx.dot.client)) → r.tx.dot.number ≤ number_of x.lasts r.tx.dot.client + 1 → not seen ≡ is_fresh x r

@@ -1,5 +1,5 @@
 -- The dots of records: which are there, and with which stamp they came first.
-use Rattle.std.proofs.Common.{◌≡◌, ◌<◌, ℕ, max, Bool, true, false, cond, ◌||◌, ◌⊎◌, inl, inr, ⊎_elim, List, [], ◌∷◌, ◌++◌, Some, refl, sym, ap, ◌∙◌, subst, arith}
+use Rattle.std.proofs.Common.{◌≡◌, ◌<◌, max, Bool, true, false, cond, ◌||◌, ◌⊎◌, inl, inr, ⊎_elim, List, [], ◌∷◌, ◌++◌, Some, refl, sym, ap, ◌∙◌, subst, arith}
 use Rattle.std.specs.Prelude.{◌==◌}
 use Rattle.std.proofs.lemmas.Bool.{cases_Bool, false≢true}
 use Rattle.std.proofs.lemmas.Bool.Decides.{Decides-eqb}
@@ -13,7 +13,6 @@ use Rattle.vv_core.specs.declared.stamp.Stamp.{Stamp}
 use Rattle.tx_core.specs.declared.tx.Record.{Record}
 use Rattle.dc_talk.specs.Records.{has, guard, first_stamp}
 use Rattle.dc_talk.specs.Dots.{dots_of}
-use Rattle.dc_centre.specs.Applied.{IsCentreOf}
 
 -- ---- booleans
 
@@ -89,7 +88,3 @@ first_stamp_there d (r ∷ A) s is = go (λ later. first_stamp_there d A s later
     go : (first_stamp d A ≡ Some s → (q : Record) × In q A × (q.stamp ≡ s)) → (same_dot r.tx.dot d ≡ true) ⊎ (same_dot r.tx.dot d ≡ false) → (q : Record) × In q (r ∷ A) × (q.stamp ≡ s)
     go rest (inl t) = (r, inl refl, same_Some r.stamp s (rw t at is))
     go rest (inr f) = let later = rest (rw f at is) in (later.0, inr later.1, later.2)
-
--- so it is of one of the centres, where all are
-pub first_stamp_range : (n : ℕ) (d : Dot) (A : List Record) (s : Stamp) → ((r : Record) → In r A → IsCentreOf n r.stamp) → first_stamp d A ≡ Some s → IsCentreOf n s
-first_stamp_range n d A s all is = let there = first_stamp_there d A s is in subst (IsCentreOf n) there.2 (all there.0 there.1)

@@ -1,5 +1,6 @@
 pub mod Firsts
 pub mod Applying
+pub mod Kept
 pub mod Going
 pub mod Standing
 pub mod Parts

@@ -1,5 +1,5 @@
 -- What a centre keeps of the records that it applied, and which record can be applied next.
-use Rattle.std.specs.Prelude.{◌≡◌, ◌≤◌, ℕ, ◌+◌, Bool, true, ◌==◌, List, length, All}
+use Rattle.std.specs.Prelude.{◌≡◌, ◌≤◌, ℕ, ◌+◌, Bool, true, ◌==◌, List, Some, length, All}
 use Rattle.list_core.specs.Members.{In}
 use Rattle.ids_core.specs.declared.limits.TheConstants.{MOST_CENTRES, MOST_CLIENTS, MOST_UPDATES}
 use Rattle.ids_core.specs.declared.ids.Dot.{Dot}
@@ -8,9 +8,11 @@ use Rattle.vv_core.specs.Vectors.{at, Covers}
 use Rattle.dup_guard.specs.declared.guard.Last.{Last}
 use Rattle.dup_guard.specs.Notes.{number_of, stamp_of}
 use Rattle.tx_core.specs.declared.tx.Record.{Record}
+use Rattle.op_log.specs.declared.logged.Logged.{Logged}
 use Rattle.op_log.specs.Logs.{LogView}
 use Rattle.check_point.specs.Points.{PointView, HasFewUpdates}
 use Rattle.point_log.specs.StandFor.{StandFor}
+use Rattle.point_log.specs.KeptLogs.{IsKeptLog}
 use Rattle.point_log.specs.Served.{ServedEntries, AreServed}
 use Rattle.dc_talk.specs.Records.{count, vector, guard, first_stamp, top, has}
 use Rattle.dc_talk.specs.Dots.{dots_of}
@@ -76,8 +78,15 @@ pub record IsApplied (n : ℕ) (x : AppliedView) (A : List Record) : Type 0 wher
   pub placed : (e k : ℕ) → 1 ≤ k → k ≤ count e A → IsPlaced A e k
   pub ranged : (r : Record) → In r A → IsRanged n A r
 
--- all that is kept is as it is after some records, and so are the states that were served
-pub record IsSomeApplied (n : ℕ) (x : AppliedView) (served : ServedEntries) : Type 0 where
-  pub records : List Record
-  pub is : IsApplied n x records
+-- what is kept is well kept, whatever records it stands for: all vectors are of one width, and what is folded is counted;
+-- the stamp of each client is of a centre; each transaction in the log has few updates, and is one of its client's up to
+-- the last; and the log can be folded on, as the states are that were served
+pub record IsKept (x : AppliedView) (served : ServedEntries) : Type 0 where
+  pub width : (1 ≤ length x.counts) × (length x.counts ≤ MOST_CENTRES)
+  pub based : length x.point.vector ≡ length x.counts
+  pub within : Covers x.counts x.point.vector
+  pub stamps : (client : ℕ) (s : Stamp) → stamp_of x.lasts client ≡ Some s → IsCentreOf (length x.counts) s
+  pub numbers : (l : Logged) → In l x.log.items → l.tx.dot.number ≤ number_of x.lasts l.tx.dot.client
+  pub updates : All (λ (l : Logged). HasFewUpdates l.tx) x.log.items
+  pub logged : IsKeptLog x.log
   pub states : AreServed x.counts x.point x.log served

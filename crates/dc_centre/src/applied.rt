@@ -38,9 +38,8 @@ pub struct Applied {
 }
 
 impl Model for Applied {
-    ghost use Rattle.std.specs.Prelude.{length};
     ghost use Rattle.tx_core.specs.States.{state_codes};
-    ghost use Rattle.dc_centre.specs.Applied.{AppliedView, IsSomeApplied};
+    ghost use Rattle.dc_centre.specs.Applied.{AppliedView, IsKept};
 
     ghost Value = { AppliedView };
 
@@ -48,7 +47,7 @@ impl Model for Applied {
 
     ghost view = { λ a. record { counts = a.vector; lasts = a.guard; greatest = a.top; point = a.point; log = a.log } };
 
-    ghost invariant = { λ a. IsSomeApplied (length a.vector) (record { counts = a.vector; lasts = a.guard; greatest = a.top; point = a.point; log = a.log }) a.served.entries };
+    ghost invariant = { λ a. IsKept (record { counts = a.vector; lasts = a.guard; greatest = a.top; point = a.point; log = a.log }) a.served.entries };
 }
 
 impl Applied {

@@ -1,7 +1,10 @@
 // The duplicate filter of a centre.
-ghost use Rattle.std.specs.Prelude.{◌≡◌, ◌≢◌, ◌≤◌, ◌+◌, ◌↔◌, ℕ, IsTrue, IsNone, IfOk, Some, None};
+ghost use Rattle.std.specs.Prelude.{◌≡◌, ◌≢◌, ◌≤◌, ◌==◌, ◌+◌, ◌↔◌, ℕ, List, cond, IsTrue, IsNone, IfOk, length, Some, None};
+ghost use Rattle.dup_guard.specs.declared.noted.Noted.{Noted as NotedOf};
 ghost use Rattle.dup_guard.specs.Notes.{last_at, number_of, stamp_of};
+ghost use Rattle.dup_guard.specs.Parts.{note_of, noted_from, AreParts, ArePartsOf};
 
+use crate::noted::Noted;
 use ids_core::{Dot, MOST_CLIENTS, NoMemory};
 use std::alloc::Global;
 use std::marker::Model;
@@ -95,6 +98,58 @@ impl Guard {
             stamp: *stamp,
         };
     }
+
+    /// What is noted of each client that has a number, ascending by client. No other list is that. Time:
+    /// linear in `MOST_CLIENTS`.
+    pub fn parts(&self, alloc: Global) -> Result<Vec<Noted>, NoMemory>
+        ensures parts { IfOk result (λ parts. AreParts parts.items) }
+        ensures noted { IfOk result (λ parts. ArePartsOf self.now parts.items) }
+        ensures only { IfOk result (λ parts. (others : List NotedOf) → AreParts others → ArePartsOf self.now others → others ≡ parts.items) }
+    {
+        parts_of(alloc, &self.lasts)
+    }
+
+    /// The guard of which these are the parts. Time: linear in `MOST_CLIENTS`.
+    pub fn of_parts(alloc: Global, parts: &[Noted]) -> Result<Guard, NoMemory>
+        requires { AreParts parts.now }
+        ensures { IfOk result (λ guard. ArePartsOf guard parts.now) }
+    {
+        let mut guard = Guard::new(alloc)?;
+        for part in parts {
+            guard.put(part);
+        }
+        Ok(guard)
+    }
+
+    // Notes a part.
+    fn put(&mut self, part: &Noted)
+        requires client { (1 ≤ part.now.client) × (part.now.client ≤ MOST_CLIENTS) }
+        requires number { 1 ≤ part.now.number }
+        ensures { (client : ℕ) → note_of self.new client ≡ cond (part.now.client == client) (Some part.now) (note_of self.old client) }
+    {
+        self.lasts[(part.client - 1) as usize] = Last {
+            number: part.number,
+            stamp: part.stamp,
+        };
+    }
+}
+
+// What is noted of each client that has a number.
+fn parts_of(alloc: Global, lasts: &[Last]) -> Result<Vec<Noted>, NoMemory>
+    requires { length lasts.now ≡ MOST_CLIENTS }
+    ensures { IfOk result (λ parts. parts.items ≡ noted_from 1 lasts.now) }
+{
+    let mut parts = Vec::new(alloc);
+    for (place, last) in lasts.iter().enumerate() {
+        if last.number != 0 {
+            parts.push(Noted {
+                client: place as u32 + 1,
+                number: last.number,
+                stamp: last.stamp,
+            })?;
+        }
+    }
+    Ok(parts)
 }
 
 // What was last noted of a client, where it has a place.

@@ -2,5 +2,7 @@
 #![tactic(auto)]
 
 mod guard;
+mod noted;
 
 pub use guard::Guard;
+pub use noted::Noted;

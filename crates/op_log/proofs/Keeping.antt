@@ -16,7 +16,9 @@ use Rattle.ids_core.specs.Ids.{same_dot}
 use Rattle.ids_core.specs.Same.{same_dot-true, same_dot-same}
 use Rattle.ids_core.specs.Orders.{dot_cmp}
 use Rattle.vv_core.specs.declared.stamp.Stamp.{Stamp}
+use Rattle.tx_core.specs.declared.tx.Tx.{Tx}
 use Rattle.tx_core.specs.declared.tx.Record.{Record}
+use Rattle.tx_core.specs.declared.part.RestPart.{RestPart}
 use Rattle.object_lists.specs.Listed.{listed}
 use Rattle.op_log.specs.declared.chains.Cell.{Cell}
 use Rattle.op_log.specs.declared.logged.Logged.{Logged}
@@ -28,7 +30,8 @@ use Rattle.op_log.specs.Tables.{Rises, IsKeyed, Names, IsSwept, IsTable, IsLog}
 use Rattle.stamp_index.proofs.Finds.{found_none, finds_none}
 use Rattle.op_log.proofs.Items.{rises_more, rises_map, stamped_number, stamped_tx, stamps_none, chain_of-with_stamp, chain_more}
 use Rattle.op_log.proofs.Numbers.{OnlyAt}
-use Rattle.op_log.proofs.Placed.{placed_same, placed_more, placed_stamped, fit_fewer, fit_more, fit_stamped}
+use Rattle.op_log.specs.RestParts.{logged_part}
+use Rattle.op_log.proofs.Placed.{AreNoted, placed_part, fit_part, placed_same, placed_more, placed_stamped, fit_fewer, fit_more, fit_stamped}
 use Rattle.op_log.proofs.Taking.{values_of-filter}
 
 -- the dots of two times, which find the same for each dot but d
@@ -75,26 +78,41 @@ pub numbers_below : (n : ℕ) (es : List (ℕ × Logged)) (ds : List (Dot × ℕ
 numbers_below n es ds cs ps log = In-All (λ e. e.0 < n) es (λ e i. omega (arith, All-In (λ e. e.0 ≡ e.1.number) es e log.table.keyed i, log.below e.1 (In_map (λ e. e.1) es e i)))
 
 -- one more transaction
-pub log_more : (n : ℕ) (es fs : List (ℕ × Logged)) (ds gs : List (Dot × ℕ)) (cs hs : List (ObjectId × List Cell)) (ps qs : List Place) (r : Record) → IsLog n es ds cs ps → has_dot r.tx.dot (values_of es) ≡ false → length r.tx.updates ≤ MOST_UPDATES → r.tx.dot.number < 2 ^ 64 → n < 2 ^ 64 → fs ≡ es ++ (n, first_of n r) ∷ [] → SameBut r.tx.dot ds gs → lookup (is_at (dot_cmp r.tx.dot)) gs ≡ Some n → ((o : ObjectId) → listed hs o ≡ listed cs o ++ cells_in o n r.tx) → ((p : Place) → has_place qs p ≡ cond (is_at (place_cmp (place_of n r.stamp)) p) true (has_place ps p)) → IsLog (n + 1) fs gs hs qs
-log_more n es fs ds gs cs hs ps qs r log new few fits small is apart there finds places = subst (λ fs. IsLog (n + 1) fs gs hs qs) (sym is) (record {
+pub log_with : (n : ℕ) (es fs : List (ℕ × Logged)) (ds gs : List (Dot × ℕ)) (cs hs : List (ObjectId × List Cell)) (ps qs : List Place) (tx : Tx) (stamps : List Stamp) → IsLog n es ds cs ps → has_dot tx.dot (values_of es) ≡ false → length tx.updates ≤ MOST_UPDATES → tx.dot.number < 2 ^ 64 → fs ≡ es ++ (n, record { number = n; tx = tx; stamps = stamps }) ∷ [] → SameBut tx.dot ds gs → lookup (is_at (dot_cmp tx.dot)) gs ≡ Some n → ((o : ObjectId) → listed hs o ≡ listed cs o ++ cells_in o n tx) → IsPlaced qs (values_of es ++ record { number = n; tx = tx; stamps = stamps } ∷ []) → HasFitNumbers qs → IsLog (n + 1) fs gs hs qs
+log_with n es fs ds gs cs hs ps qs tx stamps log new few fits is apart there finds placed fit = subst (λ fs. IsLog (n + 1) fs gs hs qs) (sym is) (record {
   table = record {
-    keyed = All-push (λ e. e.0 ≡ e.1.number) es (n, first_of n r) log.table.keyed refl;
-    rises = subst (λ l. Rises l) (sym values) (rises_more (values_of es) (first_of n r) log.table.rises log.below);
-    names = λ x i. ⊎_elim (λ j. names_kept r.tx.dot ds gs (values_of es) new apart log.table.names x j) (λ same. subst (λ y. lookup (is_at (dot_cmp y.tx.dot)) gs ≡ Some y.number) (sym same) there) (each x i);
-    placed = subst (λ l. IsPlaced qs l) (sym values) (placed_more ps qs (values_of es) (first_of n r) r.stamp refl log.table.placed places);
-    fit = fit_more ps qs n r.stamp small log.table.fit places;
+    keyed = All-push (λ e. e.0 ≡ e.1.number) es (n, one) log.table.keyed refl;
+    rises = subst (λ l. Rises l) (sym values) (rises_more (values_of es) one log.table.rises log.below);
+    names = λ x i. ⊎_elim (λ j. names_kept tx.dot ds gs (values_of es) new apart log.table.names x j) (λ same. subst (λ y. lookup (is_at (dot_cmp y.tx.dot)) gs ≡ Some y.number) (sym same) there) (each x i);
+    placed = subst (λ l. IsPlaced qs l) (sym values) placed;
+    fit = fit;
   };
   below = λ x i. ⊎_elim (λ j. omega (arith, log.below x j)) (λ same. omega (arith, ap (λ y. y.number) same)) (each x i);
-  finds = λ o. finds o ∙ ap (λ l. l ++ cells_in o n r.tx) (log.finds o) ∙ sym (chain_more o (values_of es) (first_of n r)) ∙ ap (chain_of o) (sym values);
+  finds = λ o. finds o ∙ ap (λ l. l ++ cells_in o n tx) (log.finds o) ∙ sym (chain_more o (values_of es) one) ∙ ap (chain_of o) (sym values);
   fits = λ x i. ⊎_elim (λ j. log.fits x j) (λ same. subst (λ y. y.tx.dot.number < 2 ^ 64) (sym same) fits) (each x i);
   few = λ x i. ⊎_elim (λ j. log.few x j) (λ same. subst (λ y. length y.tx.updates ≤ MOST_UPDATES) (sym same) few) (each x i);
 })
   where
-    values : values_of (es ++ (n, first_of n r) ∷ []) ≡ values_of es ++ first_of n r ∷ []
-    values = map-append (λ e. e.1) es ((n, first_of n r) ∷ [])
+    one : Logged
+    one = record { number = n; tx = tx; stamps = stamps }
 
-    each : (x : Logged) → In x (values_of (es ++ (n, first_of n r) ∷ [])) → In x (values_of es) ⊎ (x ≡ first_of n r)
-    each x i = In_more (values_of es) (first_of n r) x (subst (λ l. In x l) values i)
+    values : values_of (es ++ (n, one) ∷ []) ≡ values_of es ++ one ∷ []
+    values = map-append (λ e. e.1) es ((n, one) ∷ [])
+
+    each : (x : Logged) → In x (values_of (es ++ (n, one) ∷ [])) → In x (values_of es) ⊎ (x ≡ one)
+    each x i = In_more (values_of es) one x (subst (λ l. In x l) values i)
+
+-- that of a record, with its stamp
+pub log_more : (n : ℕ) (es fs : List (ℕ × Logged)) (ds gs : List (Dot × ℕ)) (cs hs : List (ObjectId × List Cell)) (ps qs : List Place) (r : Record) → IsLog n es ds cs ps → has_dot r.tx.dot (values_of es) ≡ false → length r.tx.updates ≤ MOST_UPDATES → r.tx.dot.number < 2 ^ 64 → n < 2 ^ 64 → fs ≡ es ++ (n, first_of n r) ∷ [] → SameBut r.tx.dot ds gs → lookup (is_at (dot_cmp r.tx.dot)) gs ≡ Some n → ((o : ObjectId) → listed hs o ≡ listed cs o ++ cells_in o n r.tx) → ((p : Place) → has_place qs p ≡ cond (is_at (place_cmp (place_of n r.stamp)) p) true (has_place ps p)) → IsLog (n + 1) fs gs hs qs
+log_more n es fs ds gs cs hs ps qs r log new few fits small is apart there finds places = log_with n es fs ds gs cs hs ps qs r.tx (r.stamp ∷ []) log new few fits is apart there finds
+    (placed_more ps qs (values_of es) (first_of n r) r.stamp refl log.table.placed places)
+    (fit_more ps qs n r.stamp small log.table.fit places)
+
+-- and that of a part, with all of its stamps
+pub log_part : (n : ℕ) (es fs : List (ℕ × Logged)) (ds gs : List (Dot × ℕ)) (cs hs : List (ObjectId × List Cell)) (ps qs : List Place) (p : RestPart) → IsLog n es ds cs ps → has_dot p.tx.dot (values_of es) ≡ false → length p.tx.updates ≤ MOST_UPDATES → p.tx.dot.number < 2 ^ 64 → n < 2 ^ 64 → fs ≡ es ++ (n, logged_part n p) ∷ [] → SameBut p.tx.dot ds gs → lookup (is_at (dot_cmp p.tx.dot)) gs ≡ Some n → ((o : ObjectId) → listed hs o ≡ listed cs o ++ cells_in o n p.tx) → AreNoted n p.stamps ps qs → IsLog (n + 1) fs gs hs qs
+log_part n es fs ds gs cs hs ps qs p log new few fits small is apart there finds noted = log_with n es fs ds gs cs hs ps qs p.tx p.stamps log new few fits is apart there finds
+    (placed_part ps qs (values_of es) (logged_part n p) noted log.table.placed)
+    (fit_part ps qs n p.stamps noted small log.table.fit)
 
 -- one more stamp
 pub log_stamped : (n : ℕ) (es fs : List (ℕ × Logged)) (ds : List (Dot × ℕ)) (cs : List (ObjectId × List Cell)) (ps qs : List Place) (d : Dot) (s : Stamp) → IsLog n es ds cs ps → IsKeyed fs → values_of fs ≡ with_stamp d s (values_of es) → IsPlaced qs (with_stamp d s (values_of es)) → HasFitNumbers qs → IsLog n fs ds cs qs

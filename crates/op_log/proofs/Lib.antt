@@ -3,6 +3,7 @@ pub mod Cells
 mod Numbers
 mod Owns
 mod Placed
+mod RestParts
 mod Reaching
 mod Sweeping
 mod Taking

@@ -45,6 +45,30 @@ module _ (n : ℕ) (s : Stamp) (ps qs : List Place) (is : (p : Place) → has_pl
       (λ same. ap (λ b. cond b false (has_place ps (place_of n t))) (place_itself (place_of n s) (place_of n t) (ap (place_of n) (sym same))))
       (In_more stamps s t i)
 
+-- a stamp of the transaction of a number that is noted
+module _ (n : ℕ) (s : Stamp) (ps qs : List Place) (is : (p : Place) → has_place qs p ≡ cond (is_at (place_cmp (place_of n s)) p) true (has_place ps p)) where
+  pub noted_kept : (p : Place) → has_place ps p ≡ true → has_place qs p ≡ true
+  noted_kept p there = is p ∙ go (is_at (place_cmp (place_of n s)) p)
+    where
+      go : (b : Bool) → cond b true (has_place ps p) ≡ true
+      go true = refl
+      go false = there
+
+  noted_here : has_place qs (place_of n s) ≡ true
+  noted_here = is (place_of n s) ∙ ap (λ b. cond b true (has_place ps (place_of n s))) (place_itself (place_of n s) (place_of n s) refl)
+
+  pub noted_there : (stamps : List Stamp) → ((t : Stamp) → In t stamps → has_place ps (place_of n t) ≡ true) → (t : Stamp) → In t (stamps ++ s ∷ []) → has_place qs (place_of n t) ≡ true
+  noted_there stamps there t i = ⊎_elim (λ j. noted_kept (place_of n t) (there t j)) (λ same. subst (λ (t : Stamp). has_place qs (place_of n t) ≡ true) (sym same) noted_here) (In_more stamps s t i)
+
+  pub noted_from : (p : Place) → has_place qs p ≡ true → (has_place ps p ≡ true) ⊎ (p ≡ place_of n s)
+  noted_from p there = ⊎_elim (λ at. inr (sym (place_same (place_of n s) p at))) (λ old. inl old) (cond_true (is_at (place_cmp (place_of n s)) p) (has_place ps p) (sym (is p) ∙ there))
+
+-- the stamps of the transaction of a number were noted, and nothing else
+pub record AreNoted (n : ℕ) (stamps : List Stamp) (ps qs : List Place) : Type 0 where
+  pub there : (s : Stamp) → In s stamps → has_place qs (place_of n s) ≡ true
+  pub kept : (p : Place) → has_place ps p ≡ true → has_place qs p ≡ true
+  pub from : (p : Place) → has_place qs p ≡ true → (has_place ps p ≡ true) ⊎ ((s : Stamp) × In s stamps × (p ≡ place_of n s))
+
 -- no transaction has no place
 pub placed_none : IsPlaced [] []
 placed_none = record { there = λ x i. absurd i; from = λ p is. absurd (false≢true is) }
@@ -83,6 +107,25 @@ module _ (ps qs : List Place) where
           let place : place_of x.number s ≡ place_of y.number t = λ i. place_of (sym same i).number (sym stamp i) in
           is (place_of y.number t) ∙ ap (λ b. cond b true (has_place ps (place_of y.number t))) (place_itself (place_of x.number s) (place_of y.number t) place)
       own y t same (inr none) = absurd none
+
+  -- one more transaction, with all of its stamps
+  pub placed_part : (items : List Logged) (x : Logged) → AreNoted x.number x.stamps ps qs → IsPlaced ps items → IsPlaced qs (items ++ x ∷ [])
+  placed_part items x noted placed = record {
+    there = λ y i t j. ⊎_elim
+        (λ k. noted.kept (place_of y.number t) (placed.there y k t j))
+        (λ same. subst (λ (y : Logged). has_place qs (place_of y.number t) ≡ true) (sym same) (noted.there t (subst (λ (y : Logged). In t y.stamps) same j)))
+        (In_more items x y i);
+    from = λ p there. ⊎_elim
+        (λ old. let o = placed.from p old in record { item = o.item; there = In_left items (x ∷ []) o.item o.there; stamp = o.stamp; has = o.has; is = o.is })
+        (λ new. record { item = x; there = In_right items (x ∷ []) x (inl refl); stamp = new.0; has = new.1; is = new.2 })
+        (noted.from p there);
+  }
+
+  pub fit_part : (number : ℕ) (stamps : List Stamp) → AreNoted number stamps ps qs → number < 2 ^ 64 → HasFitNumbers ps → HasFitNumbers qs
+  fit_part number stamps noted small fit p there = ⊎_elim
+      (λ old. fit p old)
+      (λ new. let own : p.number ≡ number = ap (λ (p : Place). p.number) new.2 in omega (arith, small, own))
+      (noted.from p there)
 
   -- one more place has a fit number
   pub fit_more : (number : ℕ) (s : Stamp) → number < 2 ^ 64 → HasFitNumbers ps → ((p : Place) → has_place qs p ≡ cond (is_at (place_cmp (place_of number s)) p) true (has_place ps p)) → HasFitNumbers qs

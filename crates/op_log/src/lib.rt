@@ -7,6 +7,7 @@ mod chains;
 mod dots;
 mod log;
 mod logged;
+mod parts;
 mod slots;
 mod stamps;
 mod sweep;

@@ -2,12 +2,14 @@
 ghost use Rattle.std.specs.Prelude.{◌≡◌, ◌≤◌, [], false, map, length, IfOk, OnOk, OnErr};
 ghost use Rattle.ids_core.specs.declared.limits.TheConstants.{MOST_UPDATES};
 ghost use Rattle.op_log.specs.Logs.{chain_of, is_inside_at, mine_in, within_of, left_of, has_dot, with_stamp, with_record};
+ghost use Rattle.op_log.specs.RestParts.{AreParts, log_of, parts_of, with_part};
 
 use crate::chains::{Cell, Chains};
 use crate::dots::{Dots, mine_of, name};
 use crate::logged::Logged;
-use crate::slots::{Slots, is_inside_at};
-use crate::stamps::{alias_at, keep_stamped};
+use crate::parts::parts_of;
+use crate::slots::{Slots, is_inside_at, keep};
+use crate::stamps::{alias_at, keep_stamped, note_all};
 use crate::sweep::sweep_chains;
 use crate::take::take_all;
 use crate::within::copies_within;
@@ -17,7 +19,7 @@ use stamp_index::Places;
 use std::alloc::Global;
 use std::collections::{BTreeMap, BTreeSet};
 use std::marker::Model;
-use tx_core::{Record, Tx};
+use tx_core::{Record, RestPart, RestParts, Tx};
 use vv_core::{Stamp, Vector};
 
 /// The transactions that are not folded yet, with all their stamps, seen as their list in the order in
@@ -133,5 +135,60 @@ impl Log {
     {
         sweep_chains(&mut self.chains, &self.slots, &self.places, base);
         take_all(&mut self.slots, &mut self.dots, &mut self.places, base)
+    }
+    /// Its transactions, each with its stamps, in the order of the log. Time: linear in them and their
+    /// stamps.
+    pub fn parts(&self) -> Result<RestParts, NoMemory>
+        ensures told { IfOk result (λ parts. parts ≡ parts_of self.now.items) }
+        ensures parts { IfOk result (λ parts. AreParts parts) }
+    {
+        parts_of(self.alloc, &self.slots)
+    }
+
+    /// The log of which these are the parts: each transaction has its place among them, counted from 0, for
+    /// its number, and the next append goes on from there. Time: linear in the transactions, their stamps
+    /// and their operations, with a logarithm for the tables.
+    pub fn of_parts(alloc: Global, parts: RestParts) -> Result<Log, NoMemory>
+        requires { AreParts parts }
+        ensures made { IfOk result (λ log. log ≡ log_of parts) }
+        ensures back { IfOk result (λ log. parts_of log.items ≡ parts) }
+    {
+        let mut log = Log::new(alloc)?;
+        for part in parts.into_vec() {
+            log = log.with(part)?;
+        }
+        Ok(log)
+    }
+
+    // Puts a part behind the others. Its dot is not in the log.
+    fn with(self, part: RestPart) -> Result<Log, NoMemory>
+        requires new { has_dot part.tx.dot self.items ≡ false }
+        requires few { length part.tx.updates ≤ MOST_UPDATES }
+        ensures { IfOk result (λ log. log ≡ with_part self part) }
+    {
+        let Log {
+            appended: number,
+            mut slots,
+            mut dots,
+            mut chains,
+            mut places,
+            alloc,
+        } = self;
+        let appended = match number.checked_add(1) {
+            Some(appended) => appended,
+            None => return Err(NoMemory),
+        };
+        name(&mut dots, &part.tx.dot, number)?;
+        put_tx(&mut chains, number, &part.tx)?;
+        note_all(&mut places, number, part.stamps.as_slice())?;
+        keep(&mut slots, Logged::of_part(number, part))?;
+        Ok(Log {
+            appended,
+            slots,
+            dots,
+            chains,
+            places,
+            alloc,
+        })
     }
 }

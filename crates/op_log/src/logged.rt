@@ -1,12 +1,13 @@
 // A transaction in the log.
 ghost use Rattle.std.specs.Prelude.{◌≡◌, ◌++◌, ◌∷◌, [], IfOk, OnOk, OnErr};
 ghost use Rattle.op_log.specs.Logs.{is_inside, first_of, with_one};
+ghost use Rattle.op_log.specs.RestParts.{rest_part, logged_part};
 
 use ids_core::NoMemory;
 use list_core::List;
 use stamp_index::is_any_within;
 use std::alloc::Global;
-use tx_core::{Record, Tx};
+use tx_core::{Record, RestPart, Tx};
 use vv_core::{Stamp, Vector};
 
 /// A transaction in the log: which append it was, counted from 0, and all stamps that it has, in the
@@ -29,6 +30,27 @@ impl Logged {
             number,
             tx: item.tx.copy()?,
             stamps,
+        })
+    }
+
+    /// The transaction of a part, under a number. It takes no memory.
+    pub(crate) fn of_part(number: u64, part: RestPart) -> Logged
+        ensures { result ≡ logged_part number part }
+    {
+        Logged {
+            number,
+            tx: part.tx,
+            stamps: part.stamps,
+        }
+    }
+
+    /// The transaction with its stamps, again.
+    pub(crate) fn part(&self) -> Result<RestPart, NoMemory>
+        ensures { IfOk result (λ part. part ≡ rest_part self.now) }
+    {
+        Ok(RestPart {
+            tx: self.tx.copy()?,
+            stamps: self.stamps.copy()?,
         })
     }
 

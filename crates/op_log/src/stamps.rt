@@ -1,9 +1,10 @@
 // The stamps of the transactions, with the transactions and in their order.
-ghost use Rattle.std.specs.Prelude.{◌≡◌, ◌<◌, ◌++◌, ◌∷◌, [], ◌||◌, ◌&&◌, true, false, cond, All, IfOk, OnOk, OnErr};
+ghost use Rattle.std.specs.Prelude.{◌≡◌, ◌<◌, ◌⊎◌, ◌++◌, ◌∷◌, [], ◌||◌, ◌&&◌, true, false, cond, All, IfOk, OnOk, OnErr};
 ghost use Rattle.std.specs.Map.{values_of};
 ghost use Rattle.std.specs.BTreeMap.{is_at};
 ghost use Rattle.list_core.specs.Members.{In};
 ghost use Rattle.ids_core.specs.Ids.{same_dot};
+ghost use Rattle.vv_core.specs.declared.stamp.Stamp.{Stamp as StampOf};
 ghost use Rattle.op_log.specs.declared.logged.Logged.{Logged as LoggedOf};
 ghost use Rattle.stamp_index.specs.declared.places.Place.{Place};
 ghost use Rattle.op_log.specs.Logs.{has_dot, with_stamp};
@@ -68,4 +69,16 @@ pub(crate) fn alias_at(
         lift(places, number, stamp);
     }
     found
+}
+
+// Notes the stamps of the transaction of a number. After an `Err` some are noted.
+pub(crate) fn note_all(places: &mut Places, number: u64, stamps: &[Stamp]) -> Result<(), NoMemory>
+    ensures there { OnOk result ((s : StampOf) → In s stamps.now → has_place places.new.keys (place_of number s) ≡ true) }
+    ensures kept { OnOk result ((p : Place) → has_place places.old.keys p ≡ true → has_place places.new.keys p ≡ true) }
+    ensures from { OnOk result ((p : Place) → has_place places.new.keys p ≡ true → (has_place places.old.keys p ≡ true) ⊎ ((s : StampOf) × In s stamps.now × (p ≡ place_of number s))) }
+{
+    for stamp in stamps {
+        note(places, number, stamp)?;
+    }
+    Ok(())
 }

@@ -1,8 +1,10 @@
 pub mod Inside
 pub mod Splits
 pub mod Growth
+pub mod Ordered
 pub mod Chains
 pub mod LogSplits
 pub mod LogGrowth
 pub mod StandingFor
+pub mod KeptLogs
 pub mod Serving

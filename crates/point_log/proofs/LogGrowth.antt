@@ -27,6 +27,7 @@ use Rattle.op_log.proofs.Items.{stamped_number, stamped_tx}
 use Rattle.point_log.specs.Splits.{first_txs, is_inside, IsSplit}
 use Rattle.point_log.specs.LogSplits.{txs_of, IsLogSplit}
 use Rattle.point_log.proofs.Growth.{split_none, split_first, split_again, split_on}
+use Rattle.point_log.proofs.Ordered.{order_first, order_again, order_on}
 use Rattle.point_log.proofs.LogSplits.{inside_both, txs_inside}
 
 -- ---- one stamp more
@@ -46,7 +47,7 @@ stamped_apart d s (x ∷ items) apart = (
 
 -- with nothing applied the log is empty
 pub log_none : (base : List ℕ) → IsLogSplit [] base [] (record { appended = 0; items = [] })
-log_none base = record { split = split_none base; stamps = λ x i. absurd i; apart = tt; below = λ x i. absurd i }
+log_none base = record { split = split_none base; order = refl; stamps = λ x i. absurd i; apart = tt; below = λ x i. absurd i }
 
 module _ (A : List Record) (base : List ℕ) (folded : List Tx) (kept : log.LogView) (split : IsLogSplit A base folded kept) where
   -- what the log has is the transaction of a record
@@ -78,6 +79,7 @@ module _ (A : List Record) (base : List ℕ) (folded : List Tx) (kept : log.LogV
   pub log_first : (r : Record) → within r.stamp base ≡ false → has r.tx.dot (dots_of A) ≡ false → IsLogSplit (A ++ r ∷ []) base folded (log.with_record kept r)
   log_first r out new = record {
     split = subst (λ l. IsSplit (A ++ r ∷ []) base folded l) (sym (map-append (λ (x : Logged). x.tx) kept.items (last ∷ []))) (split_first A base folded (txs_of kept.items) r split.split out new);
+    order = map-append (λ (x : Logged). x.tx) kept.items (last ∷ []) ∙ order_first A base (txs_of kept.items) split.order r out new;
     stamps = λ x i. ⊎_elim (λ j. split.stamps x j ∙ sym (stamps_more x.tx.dot A r false (other_dot r.tx.dot new x j) ∙ append-nil (stamps_of x.tx.dot A))) (λ same. subst (λ (x : Logged). x.stamps ≡ stamps_of x.tx.dot (A ++ r ∷ [])) (sym same) here) (In_more kept.items last x i);
     apart = apart_append (λ (x : Logged). x.number) kept.items (last ∷ []) split.apart ((λ y i same. i), tt) (λ x y i j same. ⊎_elim (λ e. let lt = split.below x i in let n : y.number ≡ kept.appended = ap (λ (x : Logged). x.number) e in omega (arith, lt, n, same)) (λ none. none) j);
     below = λ x i. ⊎_elim (λ j. let lt = split.below x j in omega (arith, lt)) (λ e. let n : x.number ≡ kept.appended = ap (λ (x : Logged). x.number) e in omega (arith, n)) (In_more kept.items last x i);
@@ -93,6 +95,7 @@ module _ (A : List Record) (base : List ℕ) (folded : List Tx) (kept : log.LogV
   pub log_again : (r : Record) → within r.stamp base ≡ false → has r.tx.dot (dots_of A) ≡ true → IsLogSplit (A ++ r ∷ []) base folded (record kept { items = log.with_stamp r.tx.dot r.stamp kept.items })
   log_again r out known = record {
     split = subst (λ l. IsSplit (A ++ r ∷ []) base folded l) (sym (stamped_txs r.tx.dot r.stamp kept.items)) (split_again A base folded (txs_of kept.items) r split.split out known);
+    order = stamped_txs r.tx.dot r.stamp kept.items ∙ order_again A base (txs_of kept.items) split.order r out known;
     stamps = λ x i. let m = In_from_map (log.stamped r.tx.dot r.stamp) kept.items x i in subst (λ (x : Logged). x.stamps ≡ stamps_of x.tx.dot (A ++ r ∷ [])) (sym m.2) (one m.0 m.1 (same_dot m.0.tx.dot r.tx.dot) refl);
     apart = stamped_apart r.tx.dot r.stamp kept.items split.apart;
     below = λ x i.
@@ -110,6 +113,7 @@ module _ (A : List Record) (base : List ℕ) (folded : List Tx) (kept : log.LogV
   pub log_on : (to : List ℕ) → Covers to base → IsLogSplit A to (folded ++ txs_of (log.within_of to kept.items)) (record kept { items = log.left_of to kept.items })
   log_on to covers = record {
     split = subst (λ l. IsSplit A to (folded ++ l) (txs_of (log.left_of to kept.items))) (sym (txs_inside A base folded kept split to)) (subst (λ l. IsSplit A to (folded ++ filter (is_inside A to) (txs_of kept.items)) l) (sym left) (split_on A base to folded (txs_of kept.items) split.split covers));
+    order = left ∙ order_on A base (txs_of kept.items) split.order to covers;
     stamps = λ x i. split.stamps x (In_from_filter (λ x. not (log.is_inside to x)) kept.items x i).0;
     apart = apart_filter (λ (x : Logged). x.number) (λ x. not (log.is_inside to x)) kept.items split.apart;
     below = λ x i. split.below x (In_from_filter (λ x. not (log.is_inside to x)) kept.items x i).0;

@@ -1,10 +1,10 @@
 -- States that are kept, folded on at a later vector, and after one record more.
-use Rattle.std.proofs.Common.{◌≡◌, ◌≤◌, ◌<◌, ℕ, ◌+◌, Bool, true, false, cond, ◌&&◌, ◌⊎◌, inl, inr, ⊎_elim, Option, Some, None, List, [], ◌∷◌, ◌++◌, length, take, drop, get_or, map, refl, sym, ap, subst, ◌∙◌, arith}
-use Rattle.std.specs.Prelude.{filter, flat_map, not, IfSome, ◌==◌, Result, Ok, Err, OnOk, OnErr, IfOk}
+use Rattle.std.proofs.Common.{◌≡◌, ◌≤◌, ◌<◌, ℕ, ◌+◌, Bool, true, false, cond, ◌&&◌, ◌⊎◌, inl, inr, ⊎_elim, Option, Some, None, List, [], ◌∷◌, ◌++◌, length, take, drop, get_or, sym, ap, subst, ◌∙◌, arith}
+use Rattle.std.specs.Prelude.{filter, not, IfSome, ◌==◌, Result, Ok, Err, OnOk, OnErr, IfOk}
 use Rattle.std.specs.BTreeMap.{is_at}
 use Rattle.std.proofs.Math.Bool.{and-false}
 use Rattle.std.proofs.lemmas.Bool.{cases_Bool, false≢true, or_cases, or_left, or_right, and_parts, and_from}
-use Rattle.std.proofs.lemmas.List.{append-nil, length-append, map-append, take-append-drop, take-append-le, take_more}
+use Rattle.std.proofs.lemmas.List.{append-nil, length-append, take-append-drop, take-append-le, take_more}
 use Rattle.std.proofs.lemmas.List.Elements.{filter-append}
 use Rattle.std.proofs.lemmas.List.Folds.{list_any-append}
 use Rattle.list_core.specs.Members.{In}
@@ -18,76 +18,21 @@ use Rattle.vv_core.specs.declared.stamp.Stamp.{Stamp}
 use Rattle.vv_core.specs.Vectors.{within, Covers}
 use Rattle.vv_core.specs.Stamps.{is_any_within}
 use Rattle.vv_core.proofs.Covering.{Covers_trans}
-use Rattle.tx_core.specs.declared.tx.Tx.{Tx}
 use Rattle.tx_core.specs.declared.tx.Record.{Record}
 use Rattle.tx_core.specs.States.{fold_of}
-use Rattle.tx_core.specs.Operations.{ops_of}
-use Rattle.dc_talk.specs.Records.{has, firsts}
-use Rattle.dc_talk.specs.Dots.{dots_of}
-use Rattle.dc_talk.specs.Objects.{state_at}
-use Rattle.dc_talk.proofs.Firsts.{firsts_more}
 use Rattle.op_log.specs.declared.chains.Cell.{Cell}
 use Rattle.op_log.specs.declared.logged.Logged.{Logged}
 use Rattle.op_log.specs.Logs as log
 use Rattle.op_log.proofs.Items.{chain_of-with_stamp, chain_more}
 use Rattle.check_point.specs.Points.{PointView}
-use Rattle.check_point.specs.Operations.{state_after}
-use Rattle.check_point.proofs.Advancing.{state_after-append}
 use Rattle.point_log.specs.declared.served.Served.{Served}
-use Rattle.point_log.specs.Splits.{first_txs, is_inside}
-use Rattle.point_log.specs.LogSplits.{txs_of, ops_in}
-use Rattle.point_log.specs.StandFor.{StandFor, state_told, with_one}
+use Rattle.point_log.specs.LogSplits.{ops_in}
+use Rattle.point_log.specs.StandFor.{state_told, with_one}
 use Rattle.point_log.specs.Served.{is_since, AreInside, IsServed, AreServed, IsPut, ServedEntries, served_of}
-use Rattle.point_log.proofs.Inside.{state_inside, within_grows}
-use Rattle.point_log.proofs.Splits.{state_of_split}
-use Rattle.point_log.proofs.Growth.{inside_known, inside_stays}
-use Rattle.op_log.proofs.Cells.{chain_passing}
-use Rattle.point_log.proofs.Chains.{number_inside, chain_inside, chain_ops}
-use Rattle.point_log.proofs.LogSplits.{txs_inside}
-use Rattle.point_log.proofs.LogGrowth.{log_on}
-use Rattle.point_log.proofs.StandingFor.{state_stands}
+use Rattle.point_log.specs.KeptLogs.{IsKeptLog}
+use Rattle.point_log.proofs.KeptLogs.{any_later, told_on, told_more}
 
 -- ---- a later vector
-
--- a test after another one
-filter_both : {X : Type 0} (p q : X → Bool) (xs : List X) → filter (λ x. p x && not (q x)) xs ≡ filter p (filter (λ x. not (q x)) xs)
-filter_both p q [] = refl
-filter_both {X} p q (x ∷ xs) = go (p x) refl (q x) (filter_both p q xs)
-  where
-    go : (b : Bool) → p x ≡ b → (c : Bool) → filter (λ x. p x && not (q x)) xs ≡ filter p (filter (λ x. not (q x)) xs) → cond (b && not c) (x ∷ filter (λ x. p x && not (q x)) xs) (filter (λ x. p x && not (q x)) xs) ≡ filter p (cond (not c) (x ∷ filter (λ x. not (q x)) xs) (filter (λ x. not (q x)) xs))
-    go true is true rest = rest
-    go false is true rest = rest
-    go true is false rest = ap (λ l. x ∷ l) rest ∙ sym (ap (λ b. cond b (x ∷ filter p (filter (λ x. not (q x)) xs)) (filter p (filter (λ x. not (q x)) xs))) is)
-    go false is false rest = rest ∙ sym (ap (λ b. cond b (x ∷ filter p (filter (λ x. not (q x)) xs)) (filter p (filter (λ x. not (q x)) xs))) is)
-
-module _ (A : List Record) (point : PointView) (kept : log.LogView) (s : StandFor A point kept) (o : ObjectId) where
-  -- the state at a vector, over what is folded and what of the log is within it
-  told_after : (v : List ℕ) → state_told point kept o v ≡ state_after o (s.folded ++ txs_of (log.within_of v kept.items))
-  told_after v =
-      ap (λ state. fold_of state (ops_in (filter (λ c. log.is_inside_at v c.tx kept.items) (log.chain_of o kept.items)))) (s.at_point.states o)
-      ∙ ap (fold_of (state_after o s.folded)) (chain_inside v o kept.items s.in_log.apart)
-      ∙ sym (state_after-append o s.folded (txs_of (log.within_of v kept.items)))
-
-  -- the operations that came since are those of the transactions that did
-  since_ops : (v w : List ℕ) → ops_in (filter (is_since v w kept.items) (log.chain_of o kept.items)) ≡ flat_map (ops_of o) (txs_of (filter (log.is_inside w) (log.left_of v kept.items)))
-  since_ops v w =
-      ap ops_in (chain_passing (λ number. log.is_inside_at w number kept.items && not (log.is_inside_at v number kept.items)) (λ x. log.is_inside w x && not (log.is_inside v x)) o kept.items (λ x i. both x i))
-      ∙ chain_ops o (filter (λ x. log.is_inside w x && not (log.is_inside v x)) kept.items)
-      ∙ ap (λ l. flat_map (ops_of o) (txs_of l)) (filter_both (log.is_inside w) (log.is_inside v) kept.items)
-    where
-      both : (x : Logged) → In x kept.items → (log.is_inside_at w x.number kept.items && not (log.is_inside_at v x.number kept.items)) ≡ (log.is_inside w x && not (log.is_inside v x))
-      both x i = λ k. number_inside w kept.items x s.in_log.apart i k && not (number_inside v kept.items x s.in_log.apart i k)
-
-  -- what came since, folded into the state at a vector, gives that at a later one
-  pub told_on : (v w : List ℕ) → Covers v point.vector → Covers w v → fold_of (state_told point kept o v) (ops_in (filter (is_since v w kept.items) (log.chain_of o kept.items))) ≡ state_told point kept o w
-  told_on v w above later =
-      let given = s.folded ++ txs_of (log.within_of v kept.items) in
-      let left : log.LogView = record kept { items = log.left_of v kept.items } in
-      let on = log_on A point.vector s.folded kept s.in_log v above in
-      ap (λ state. fold_of state (ops_in (filter (is_since v w kept.items) (log.chain_of o kept.items)))) (told_after v)
-      ∙ ap (fold_of (state_after o given)) (since_ops v w ∙ ap (flat_map (ops_of o)) (txs_inside A v given left on w))
-      ∙ state_of_split A v given (txs_of left.items) on.split w o later
-      ∙ sym (state_stands A point kept s w o (Covers_trans w v point.vector later above))
 
 -- what is within a vector did not come since
 pub since_drop : (v w : List ℕ) (items : List Logged) (n : ℕ) (cells : List Cell) → AreInside v items (take n cells) → filter (is_since v w items) (drop n cells) ≡ filter (is_since v w items) cells
@@ -98,10 +43,6 @@ since_drop v w items n cells first =
     none c i = ap (λ b. log.is_inside_at w c.tx items && not b) (first c i) ∙ and-false (log.is_inside_at w c.tx items)
 
 -- what is within a vector is within a later one
-any_later : (w v : List ℕ) (stamps : List Stamp) → Covers w v → is_any_within v stamps ≡ true → is_any_within w stamps ≡ true
-any_later w v [] later is = is
-any_later w v (s ∷ stamps) later is = ⊎_elim (λ here. or_left (within s w) (is_any_within w stamps) (within_grows w v s later here)) (λ rest. or_right (within s w) (is_any_within w stamps) (any_later w v stamps later rest)) (or_cases (within s v) (is_any_within v stamps) is)
-
 pub inside_later : (w v : List ℕ) (n : ℕ) (items : List Logged) → Covers w v → log.is_inside_at v n items ≡ true → log.is_inside_at w n items ≡ true
 inside_later w v n [] later is = is
 inside_later w v n (x ∷ items) later is = ⊎_elim
@@ -117,15 +58,15 @@ inside_one_more w items cells n c small is before own d i = ⊎_elim
     (In_more (take n cells) (get_or cells n c) d (subst (λ l. In d l) (take_more cells n c small) i))
 
 -- what came since, folded into what is kept of an object, is what is kept of it at a later vector
-pub gone_served : {E : Type 0} (r : Result Served E) (A : List Record) (point : PointView) (kept : log.LogView) (o : ObjectId) (s : Served) (w : List ℕ) (cells : List Cell) → StandFor A point kept → cells ≡ log.chain_of o kept.items → IsServed point kept o s → Covers w s.at → length w ≡ length point.vector → IfOk r (λ t. t.state ≡ fold_of s.state (ops_in (filter (is_since s.at w kept.items) (drop s.done cells)))) → IfOk r (λ t. t.at ≡ w) → IfOk r (λ t. t.done ≤ length cells) → IfOk r (λ t. AreInside w kept.items (take t.done cells)) → IfOk r (IsServed point kept o)
-gone_served (Err e) A point kept o s w cells stands chain is later wide state at few first = tt
-gone_served (Ok t) A point kept o s w cells stands chain is later wide state at few first = record {
+pub gone_served : {E : Type 0} (r : Result Served E) (point : PointView) (kept : log.LogView) (o : ObjectId) (s : Served) (w : List ℕ) (cells : List Cell) → IsKeptLog kept → cells ≡ log.chain_of o kept.items → IsServed point kept o s → Covers w s.at → length w ≡ length point.vector → IfOk r (λ t. t.state ≡ fold_of s.state (ops_in (filter (is_since s.at w kept.items) (drop s.done cells)))) → IfOk r (λ t. t.at ≡ w) → IfOk r (λ t. t.done ≤ length cells) → IfOk r (λ t. AreInside w kept.items (take t.done cells)) → IfOk r (IsServed point kept o)
+gone_served (Err e) point kept o s w cells well chain is later wide state at few first = tt
+gone_served (Ok t) point kept o s w cells well chain is later wide state at few first = record {
   told =
       state
       ∙ ap (λ before. fold_of before (ops_in (filter (is_since s.at w kept.items) (drop s.done cells)))) is.told
       ∙ ap (λ l. fold_of (state_told point kept o s.at) (ops_in (filter (is_since s.at w kept.items) (drop s.done l)))) chain
       ∙ ap (λ l. fold_of (state_told point kept o s.at) (ops_in l)) (since_drop s.at w kept.items s.done (log.chain_of o kept.items) is.first)
-      ∙ told_on A point kept stands o s.at w is.above later
+      ∙ told_on point kept well o s.at w later
       ∙ ap (state_told point kept o) (sym at);
   wide = ap length at ∙ wide;
   above = subst (λ v. Covers v point.vector) (sym at) (Covers_trans w s.at point.vector later is.above);
@@ -134,24 +75,6 @@ gone_served (Ok t) A point kept o s w cells stands chain is later wide state at 
 }
 
 -- ---- one record more
-
--- the record, where it is not known
-abbrev unless : Bool → Record → List Record
-unless known r = cond known [] (r ∷ [])
-
--- the state at a vector that does not have the record's stamp stays
-state_stays : (A : List Record) (w : List ℕ) (o : ObjectId) (r : Record) → within r.stamp w ≡ false → state_at o (A ++ r ∷ []) w ≡ state_at o A w
-state_stays A w o r out =
-    sym (state_inside (A ++ r ∷ []) w o)
-    ∙ ap (state_after o) (ap (λ D. filter (λ (tx : Tx). has tx.dot D) (first_txs (A ++ r ∷ []))) (inside_stays A w r out) ∙ ap (filter (is_inside A w)) txs ∙ filter-append (is_inside A w) (first_txs A) (map (λ (r : Record). r.tx) (unless (has r.tx.dot (dots_of A)) r)) ∙ ap (λ l. filter (is_inside A w) (first_txs A) ++ l) (none (has r.tx.dot (dots_of A)) refl) ∙ append-nil (filter (is_inside A w) (first_txs A)))
-    ∙ state_inside A w o
-  where
-    txs : first_txs (A ++ r ∷ []) ≡ first_txs A ++ map (λ (r : Record). r.tx) (unless (has r.tx.dot (dots_of A)) r)
-    txs = ap (map (λ (r : Record). r.tx)) (firsts_more A r) ∙ map-append (λ (r : Record). r.tx) (firsts A) (unless (has r.tx.dot (dots_of A)) r)
-
-    none : (b : Bool) → has r.tx.dot (dots_of A) ≡ b → filter (is_inside A w) (map (λ (r : Record). r.tx) (unless b r)) ≡ []
-    none true is = refl
-    none false is = ap (λ b. cond b (r.tx ∷ []) []) (inside_known A w r.tx.dot is)
 
 -- a list of stamps within a vector is so with one more
 any_more : (w : List ℕ) (stamps : List Stamp) (s : Stamp) → is_any_within w stamps ≡ true → is_any_within w (stamps ++ s ∷ []) ≡ true
@@ -187,9 +110,9 @@ chain_goes o kept r true = record { more = log.cells_of o (log.first_of kept.app
 chain_goes o kept r false = record { more = []; is = chain_of-with_stamp o r.tx.dot r.stamp kept.items ∙ sym (append-nil (log.chain_of o kept.items)) }
 
 -- what is kept of an object stands, where its vector does not have the record's stamp
-pub served_more : (A : List Record) (point : PointView) (kept : log.LogView) (o : ObjectId) (r : Record) (fresh : Bool) (s : Served) → StandFor A point kept → StandFor (A ++ r ∷ []) point (with_one kept r fresh) → within r.stamp s.at ≡ false → IsServed point kept o s → IsServed point (with_one kept r fresh) o s
-served_more A point kept o r fresh s stood stands out is = record {
-  told = is.told ∙ state_stands A point kept stood s.at o is.above ∙ sym (state_stays A s.at o r out) ∙ sym (state_stands (A ++ r ∷ []) point (with_one kept r fresh) stands s.at o is.above);
+pub served_more : (point : PointView) (kept : log.LogView) (o : ObjectId) (r : Record) (fresh : Bool) (s : Served) → IsKeptLog kept → within r.stamp s.at ≡ false → IsServed point kept o s → IsServed point (with_one kept r fresh) o s
+served_more point kept o r fresh s well out is = record {
+  told = is.told ∙ sym (told_more point kept well o s.at r fresh out);
   wide = is.wide;
   above = is.above;
   few = let few = is.few in omega (arith, few, ap length g.is, length-append (log.chain_of o kept.items) g.more);

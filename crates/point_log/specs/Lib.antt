@@ -1,4 +1,5 @@
 pub mod Splits
 pub mod LogSplits
 pub mod StandFor
+pub mod KeptLogs
 pub mod Served

@@ -14,7 +14,7 @@ ghost use Rattle.dc_talk.specs.Objects.{state_at};
 ghost use Rattle.check_point.specs.Operations.{state_after, greatest};
 ghost use Rattle.op_log.specs.declared.logged.Logged.{Logged};
 ghost use Rattle.op_log.specs.Logs.{LogView, chain_of, is_inside_at, mine_in, has_dot, with_record, with_stamp, within_of, left_of};
-ghost use Rattle.point_log.specs.LogSplits.{txs_of, ops_in};
+ghost use Rattle.point_log.specs.LogSplits.{txs_of, ops_in, rest_txs};
 ghost use Rattle.check_point.specs.Points.{PointView, IsPointOf, state_of, number_of};
 ghost use Rattle.point_log.specs.StandFor.{StandFor, state_told, mine_told, count_told, with_one};
 ghost use Rattle.point_log.specs.Splits.{first_txs, is_inside, IsSplit};
@@ -43,11 +43,14 @@ pub fn law_split_steps()
 /// A point and a log that stand for applied records tell what the whole list tells, at a vector that covers
 /// the point's: the operations of an object's chain whose transaction is inside it give, over the point's
 /// state, the state of the object, which is the same state and not only one with the same value; and so
-/// with the greatest number of a client, and with how many transactions have a stamp within it. What the log has is the transaction of a record, with all stamps of its dot.
+/// with the greatest number of a client, and with how many transactions have a stamp within it. What the log
+/// has are the transactions that are not within the point's vector, in the order of their first records, and
+/// each of these is the transaction of a record, with all stamps of its dot.
 pub fn law_stand_for()
     ensures state { (A : List Record) (point : PointView) (kept : LogView) (w : List ℕ) (o : ObjectId) → StandFor A point kept → Covers w point.vector → state_told point kept o w ≡ state_at o A w }
     ensures mine { (A : List Record) (point : PointView) (kept : LogView) (w : List ℕ) (client : ℕ) → StandFor A point kept → Covers w point.vector → mine_told point kept client w ≡ mine client (inside A w) }
     ensures count { (A : List Record) (point : PointView) (kept : LogView) (w : List ℕ) → StandFor A point kept → Covers w point.vector → count_told point kept w ≡ length (filter (is_inside A w) (first_txs A)) }
+    ensures order { (A : List Record) (point : PointView) (kept : LogView) → StandFor A point kept → txs_of kept.items ≡ rest_txs A point.vector }
     ensures known { (A : List Record) (point : PointView) (kept : LogView) (x : Logged) → StandFor A point kept → In x kept.items → ((r : Record) × In r A × (x.tx ≡ r.tx)) × (x.stamps ≡ stamps_of x.tx.dot A) }
 {}
 

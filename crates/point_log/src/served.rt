@@ -3,11 +3,11 @@ ghost use Rattle.std.specs.Prelude.{◌≡◌, ◌≤◌, ◌⊎◌, ℕ, List, 
 ghost use Rattle.std.specs.Bool.{OnFalse};
 ghost use Rattle.ids_core.specs.declared.object.ObjectId.{ObjectId as ObjectOf};
 ghost use Rattle.vv_core.specs.Vectors.{Covers};
-ghost use Rattle.tx_core.specs.declared.tx.Record.{Record as RecordOf};
 ghost use Rattle.tx_core.specs.States.{fold_of};
 ghost use Rattle.op_log.specs.Logs.{chain_of};
 ghost use Rattle.point_log.specs.LogSplits.{ops_in};
-ghost use Rattle.point_log.specs.StandFor.{StandFor, state_told};
+ghost use Rattle.point_log.specs.StandFor.{state_told};
+ghost use Rattle.point_log.specs.KeptLogs.{IsKeptLog};
 ghost use Rattle.point_log.specs.Served.{is_since, AreInside, IsServed, AreServed, IsPut, served_of};
 
 use crate::standing::state_at;
@@ -50,7 +50,7 @@ pub fn serve(
 ) -> Result<State, NoMemory>
     requires wide { length at.now ≡ length point.now.vector }
     requires covers { Covers at.now point.now.vector }
-    requires stand { (A : List RecordOf) × StandFor A point.now log.now }
+    requires well { IsKeptLog log.now }
     requires served { (o : ObjectOf) → IfSome (served_of kept.old.entries o) (IsServed point.now log.now o) }
     ensures state { IfOk result (λ state. state ≡ state_told point.now log.now object.now at.now) }
     ensures served { (o : ObjectOf) → IfSome (served_of kept.new.entries o) (IsServed point.now log.now o) }
@@ -88,7 +88,7 @@ fn served_on(
 ) -> Result<Served, NoMemory>
     requires wide { length at.now ≡ length point.now.vector }
     requires covers { Covers at.now point.now.vector }
-    requires stand { (A : List RecordOf) × StandFor A point.now log.now }
+    requires well { IsKeptLog log.now }
     requires found { IfSome found (IsServed point.now log.now object.now) }
     requires later { IfSome found (λ s. Covers at.now s.at) }
     ensures served { IfOk result (IsServed point.now log.now object.now) }

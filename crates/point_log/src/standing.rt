@@ -4,7 +4,7 @@ ghost use Rattle.ids_core.specs.declared.limits.TheConstants.{MOST_UPDATES};
 ghost use Rattle.vv_core.specs.Vectors.{Covers};
 ghost use Rattle.tx_core.specs.declared.tx.Record.{Record as RecordOf};
 ghost use Rattle.tx_core.specs.States.{fold_of};
-ghost use Rattle.op_log.specs.Logs.{is_inside_at, has_dot, within_of};
+ghost use Rattle.op_log.specs.Logs.{is_inside_at, has_dot, within_of, left_of};
 ghost use Rattle.check_point.specs.Points.{HasFewUpdates};
 ghost use Rattle.point_log.specs.LogSplits.{txs_of, ops_in};
 ghost use Rattle.point_log.specs.StandFor.{StandFor, state_told, mine_told, with_one};
@@ -76,6 +76,7 @@ pub fn prune(alloc: Global, point: &mut Point, log: &mut Log, to: &Vector) -> Re
     requires updates { All (λ x. HasFewUpdates x.tx) log.old.items }
     ensures vector { OnOk result (point.new.vector ≡ to.now) }
     ensures count { OnOk result (point.new.folded ≡ point.old.folded + length (within_of to.now log.old.items)) }
+    ensures left { OnOk result (log.new ≡ record log.old { items = left_of to.now log.old.items }) }
     ensures stand { OnOk result ((A : List RecordOf) → StandFor A point.old log.old → StandFor A point.new log.new) }
     ensures err { OnErr result ((point.new ≡ point.old) × (log.new ≡ log.old)) }
 {

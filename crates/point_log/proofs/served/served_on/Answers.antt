@@ -18,4 +18,4 @@ returns-in-Some-clause-served c =
     let is = kept_found (IsServed c.args.point.now c.args.log.now c.args.object.now) c.args.found s c.in-Some.is c.requires.found in
     let later = kept_found (λ s. Covers c.args.at.now s.at) c.args.found s c.in-Some.is c.requires.later in
     let e = c.gone_on.ensures in
-    gone_served c.gone_on.result c.requires.stand.0 c.args.point.now c.args.log.now c.args.object.now s c.args.at.now c.chain.result.now c.requires.stand.1 c.chain.ensures is later c.requires.wide e.state e.at e.few e.first
+    gone_served c.gone_on.result c.args.point.now c.args.log.now c.args.object.now s c.args.at.now c.chain.result.now c.requires.well c.chain.ensures is later c.requires.wide e.state e.at e.few e.first

@@ -1,17 +1,17 @@
-use Rattle.std.proofs.Common.{◌≡◌, ◌++◌, ◌∷◌, [], ℕ, Bool, List, length, refl, sym, ap, ◌∙◌, subst}
+use Rattle.std.proofs.Common.{◌≡◌, ◌++◌, ◌∷◌, [], Bool, List, length, sym, ap, ◌∙◌, subst}
 use Rattle.std.specs.Prelude.{not}
-use Rattle.vv_core.proofs.Entrywise.{length-raised}
 use Rattle.tx_core.specs.declared.tx.Record.{Record}
 use Rattle.point_log.specs.StandFor.{with_one}
-use Rattle.dc_centre.specs.Applied.{AppliedView, IsNext, is_fresh, IsApplied}
-use Rattle.dc_centre.proofs.Applying.{Noted, applied_more, not_logged, fresh_is, served_after}
+use Rattle.dc_centre.specs.Applied.{AppliedView, IsNext, is_fresh, IsApplied, IsKept}
+use Rattle.dc_centre.proofs.Applying.{Noted, more_kept, applied_more, fresh_is}
+use Rattle.dc_centre.proofs.Kept.{not_logged, kept_taken}
 use Rattle.dc_centre.proofs.applied.Applied.take.Goals as goal
 
 pub keep-requires-clause-new : goal.keep-requires-clause-new
 keep-requires-clause-new c t =
     let kept : AppliedView = record { counts = c.self.inside.vector; lasts = c.self.inside.guard; greatest = c.self.inside.top; point = c.self.inside.point; log = c.self.inside.log } in
     let next : IsNext kept c.args.item.now = subst (λ (x : AppliedView). IsNext x c.args.item.now) (sym c.self.view_is) c.requires in
-    not_logged (length c.self.inside.vector) kept c.self.invariant.records c.args.item.now c.self.invariant.is next (sym (fresh_is c.seen-fresh.result kept c.args.item.now c.seen-fresh.ensures next.next) ∙ t)
+    not_logged kept c.args.item.now c.self.invariant.numbers (sym (fresh_is c.seen-fresh.result kept c.args.item.now c.seen-fresh.ensures next.next) ∙ t)
 
 module _ (c : goal.After-self-2-1) where
   -- what is kept before, and then
@@ -33,22 +33,21 @@ module _ (c : goal.After-self-2-1) where
   logged : c.keep.new.log ≡ with_one c.self.inside.log c.args.item.now (is_fresh kept c.args.item.now)
   logged = c.in_ok-keep.ensures.ok ∙ ap (λ (f : Bool). with_one c.self.inside.log c.args.item.now f) fresh
 
-  grows : (A : List Record) → IsApplied (length c.self.inside.vector) kept A → IsApplied (length c.self.inside.vector) more (A ++ c.args.item.now ∷ [])
-  grows A h =
-      let made = applied_more (length c.self.inside.vector) kept c.note_if.new.guard A c.args.item.now h next noted in
+  -- what is kept then is what is to be kept
+  made_more : more_kept kept c.args.item.now (is_fresh kept c.args.item.now) c.note_if.new.guard ≡ more
+  made_more =
       let counts = c.raise-self-inside.ensures.entries in
       let greatest = c.max-self-inside.ensures in
       let log = logged in
-      subst (λ (x : AppliedView). IsApplied (length c.self.inside.vector) x (A ++ c.args.item.now ∷ [])) (λ i. record { counts = sym counts i; lasts = c.note_if.new.guard; greatest = sym greatest i; point = c.self.inside.point; log = sym log i }) made
+      λ i. record { counts = sym counts i; lasts = c.note_if.new.guard; greatest = sym greatest i; point = c.self.inside.point; log = sym log i }
+
+  grows : (A : List Record) → IsApplied (length c.self.inside.vector) kept A → IsApplied (length c.self.inside.vector) more (A ++ c.args.item.now ∷ [])
+  grows A h =
+      let made = applied_more (length c.self.inside.vector) kept c.note_if.new.guard A c.args.item.now h next noted in
+      subst (λ (x : AppliedView). IsApplied (length c.self.inside.vector) x (A ++ c.args.item.now ∷ [])) made_more made
 
 pub invariant_of-self-2 : goal.invariant_of-self-2
-invariant_of-self-2 c =
-    let wide : length c.self.inside.vector ≡ length c.raise-self-inside.result = sym (ap (λ (v : List ℕ). length v) c.raise-self-inside.ensures.entries ∙ length-raised c.self.inside.vector c.args.item.now.stamp) in
-    record {
-      records = c.self.invariant.records ++ c.args.item.now ∷ [];
-      is = subst (λ (n : ℕ). IsApplied n (more c) (c.self.invariant.records ++ c.args.item.now ∷ [])) wide (grows c c.self.invariant.records c.self.invariant.is);
-      states = served_after (length c.self.inside.vector) (kept c) (more c) c.self.invariant.records c.args.item.now (is_fresh (kept c) c.args.item.now) c.self.inside.served.entries c.self.invariant.is (grows c c.self.invariant.records c.self.invariant.is) (next c) c.raise-self-inside.ensures.entries refl (logged c) c.self.invariant.states;
-    }
+invariant_of-self-2 c = subst (λ (x : AppliedView). IsKept x c.self.inside.served.entries) (made_more c) (kept_taken (kept c) c.note_if.new.guard c.args.item.now c.self.inside.served.entries c.self.invariant (next c) (noted c))
 
 pub returns-clause-grown : goal.returns-clause-grown
 returns-clause-grown c A h =
