@@ -5,6 +5,7 @@ ghost use Rattle.ids_core.specs.declared.limits.TheConstants.{MOST_CENTRES, MOST
 ghost use Rattle.tx_core.specs.declared.tx.Record.{Record as RecordOf};
 ghost use Rattle.dc_talk.specs.Answers.{answer, fits, is_switch};
 ghost use Rattle.dc_talk.specs.Entries.{Entry};
+ghost use Rattle.dc_talk.specs.Records.{vector};
 ghost use Rattle.dc_talk.specs.Trails.{applied};
 
 use crate::applied::Applied;
@@ -74,6 +75,13 @@ impl Centre {
         ensures { (trail : List Entry) → StandsFor self.now trail → IsTrue result ↔ ((r : RecordOf) × In r (applied self.now.settings.n trail) × (r.stamp ≡ stamp.now)) }
     {
         self.applied.has(stamp)
+    }
+
+    /// How many records of each centre are here, over every trail that the centre stands for.
+    pub fn vector(&self) -> Vector
+        ensures { (trail : List Entry) → StandsFor self.now trail → result ≡ vector self.now.settings.n (applied self.now.settings.n trail) }
+    {
+        self.applied.vector()
     }
 
     /// Answers an ask, in two equal copies: over every trail that the centre stands for, the answer

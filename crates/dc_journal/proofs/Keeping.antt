@@ -8,6 +8,8 @@ use Rattle.journal_disk.specs.Disk.{MayLeave, Ran}
 use Rattle.journal_disk.proofs.Histories.{ran_none}
 use Rattle.journal_file.specs.Journal.{IsEither, IsAt}
 use Rattle.journal_file.specs.declared.journal.Journal.{Journal}
+use Rattle.journal_file.specs.declared.faults.JournalFault.{JournalFault}
+use Rattle.journal_file.specs.declared.faults.JournalFault.TheVariants.{NoMemory}
 use Rattle.journal_file.specs.Open as file
 use Rattle.journal_file.proofs.Items.{at_file}
 use Rattle.dc_talk.specs.declared.ask.Ask.{Ask}
@@ -19,8 +21,6 @@ use Rattle.dc_centre.specs.Centre.{CentreView, StandsFor}
 use Rattle.trail_kept.specs.Kept.{is_kept}
 use Rattle.journal_asks.specs.declared.kept_ask.KeptAsk.{KeptAsk}
 use Rattle.dc_journal.specs.declared.journal_centre.JournalCentre.{JournalCentre}
-use Rattle.dc_journal.specs.declared.faults.AskFault.{AskFault}
-use Rattle.dc_journal.specs.declared.faults.AskFault.TheVariants.{NoMemory}
 use Rattle.journal_asks.specs.Spellings.{by_of, is_kept_by}
 use Rattle.journal_asks.specs.Asks.{spelled}
 use Rattle.dc_journal.specs.Asks.{AreAsksOf}
@@ -35,8 +35,8 @@ module _ {D : Type 0} {disk : Ghosts D} where
   between j h trail c is left = (is.items, (is.asks, at_file spelled (end_of j) h is.items c is.file (is.file.settled.only c left)))
 
   -- no call of the disk was made
-  pub untouched : (j : JournalCentre D disk) (stands : List Moment → Type 0) (h : List Moment) (trail : List Entry) (ask : Ask) (Q : List Moment → Type 0) → stands h → IsJournalOf j h trail → Q h → Ran stands h (IsFileAround (settings_of j) trail ask) Q
-  untouched j stands h trail ask Q stood is q = ran_none stands h (IsFileAround (settings_of j) trail ask) (λ c left. inl (between j h trail c is left)) Q stood q
+  pub untouched : (j : JournalCentre D disk) (stands : List Moment → Type 0) (h : List Moment) (trail : List Entry) (asks : List Ask) (Q : List Moment → Type 0) → stands h → IsJournalOf j h trail → Q h → Ran stands h (IsFileAround (settings_of j) trail asks) Q
+  untouched j stands h trail asks Q stood is q = ran_none stands h (IsFileAround (settings_of j) trail asks) (λ c left. inl (between j h trail c is left)) Q stood q
 
   module _ (old new : JournalCentre D disk) (h l : List Moment) (trail : List Entry) (ask : Ask) (say : Say) (caller : ℕ) (is : IsJournalOf old h trail) (same : settings_of new ≡ settings_of old) (answers : say ≡ answer (settings_of old) trail ask) (stands : StandsFor (centre_of new) (trail ++ entry caller ask say ∷ [])) where
     history_after : History (settings_of new) (trail ++ entry caller ask say ∷ [])
@@ -73,7 +73,7 @@ module _ {D : Type 0} {disk : Ghosts D} where
   }
 
   -- an ask that no journal keeps was answered, or memory ran out
-  pub answered : (old new : JournalCentre D disk) (h : List Moment) (trail : List Entry) (ask : Ask) (r : Result Say AskFault) → new.journal ≡ old.journal → settings_of new ≡ settings_of old → is_kept_by (settings_of old) ask ≡ false
+  pub answered : (old new : JournalCentre D disk) (h : List Moment) (trail : List Entry) (ask : Ask) (r : Result Say JournalFault) → new.journal ≡ old.journal → settings_of new ≡ settings_of old → is_kept_by (settings_of old) ask ≡ false
       → IfOk r (λ say. (t : List Entry) → StandsFor old.centre t → say ≡ answer (settings_of old) t ask) → IfOk r (λ say. (t : List Entry) (caller : ℕ) → StandsFor old.centre t → StandsFor new.centre (t ++ entry caller ask say ∷ []))
       → IfErr r (λ e. (e ≡ NoMemory) × (IsSame old new)) → IsJournalOf old h trail
       → MatchResult r (λ say. (say ≡ answer (settings_of old) trail ask) × ((caller : ℕ) → IsJournalOf new h (trail ++ entry caller ask say ∷ []))) (λ _. is_shut new ≡ false → IsJournalOf new h trail)
@@ -83,6 +83,6 @@ module _ {D : Type 0} {disk : Ghosts D} where
   answered old new h trail ask (Err e) journal same other answers stands err is = λ unshut. same_journal old new h trail err.1.0 err.1.1 is
 
 -- the file of a trail, or that with an ask more
-pub around : (s : Settings) (trail : List Entry) (items : List KeptAsk) (x : KeptAsk) (ask : Ask) (c : List ℕ) → AreAsksOf s.me items trail → x.by ≡ by_of s.me ask → x.ask ≡ ask → is_kept (answer s trail ask) ≡ true → IsEither spelled items (items ++ x ∷ []) c → IsFileAround s trail ask c
+pub around : (s : Settings) (trail : List Entry) (items : List KeptAsk) (x : KeptAsk) (ask : Ask) (c : List ℕ) → AreAsksOf s.me items trail → x.by ≡ by_of s.me ask → x.ask ≡ ask → is_kept (answer s trail ask) ≡ true → IsEither spelled items (items ++ x ∷ []) c → IsFileAround s trail (ask ∷ []) c
 around s trail items x ask c asks by ask_is is_it (inl file) = inl (items, (asks, file))
 around s trail items x ask c asks by ask_is is_it (inr file) = inr (items ++ x ∷ [], (asks_more s.me items x trail (entry 0 ask (answer s trail ask)) by ask_is is_it asks, file))

@@ -7,12 +7,12 @@ use Rattle.dc_talk.specs.declared.ask.Ask.{Ask}
 use Rattle.dc_talk.specs.declared.settings.Settings.{Settings}
 use Rattle.dc_talk.specs.Answers.{History, answer}
 use Rattle.dc_talk.specs.Entries.{Entry}
-use Rattle.machine_trail.specs.History.{entry}
 use Rattle.trail_kept.specs.Kept.{is_kept, kept}
 use Rattle.journal_asks.specs.declared.kept_ask.KeptAsk.{KeptAsk}
 use Rattle.journal_asks.specs.Spellings.{by_of}
 use Rattle.journal_asks.specs.Asks.{spelled}
 use Rattle.dc_journal.specs.Asks.{asked, due, AreAsksOf}
+use Rattle.dc_journal.specs.Answered.{answered}
 
 -- the settings of a centre
 abbrev pub numbers : ℕ → ℕ → ℕ → ℕ → Settings
@@ -22,9 +22,9 @@ numbers me n k limit = record { me = me; n = n; k = k; limit = limit }
 abbrev pub IsFileOf : Settings → List Entry → List ℕ → Type 0
 IsFileOf s trail file = (items : List KeptAsk) × ((AreAsksOf s.me items trail) × (FileOf spelled items file))
 
--- it is that of the trail, or that of the trail with one ask more and its answer
-abbrev pub IsFileAround : Settings → List Entry → Ask → List ℕ → Type 0
-IsFileAround s trail ask file = (IsFileOf s trail file) ⊎ (IsFileOf s (trail ++ entry 0 ask (answer s trail ask) ∷ []) file)
+-- it is that of the trail, or that of the trail with all these asks more and their answers
+abbrev pub IsFileAround : Settings → List Entry → List Ask → List ℕ → Type 0
+IsFileAround s trail asks file = (IsFileOf s trail file) ⊎ (IsFileOf s (trail ++ answered s trail asks) file)
 
 -- a crash might have left the file before, or it is that of the trail
 abbrev pub IsFound : Settings → List Entry → List Moment → List ℕ → Type 0

@@ -1,5 +1,5 @@
 pub mod Asks
+pub mod Answered
 pub mod Files
 pub mod Replays
-pub mod Faults
 pub mod Open

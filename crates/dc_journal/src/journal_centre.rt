@@ -6,19 +6,22 @@ ghost use Rattle.journal_disk.specs.Disk.{seen, is_sound, Ran, HasRisen};
 ghost use Rattle.journal_file.specs.Faults.{IsBad};
 ghost use Rattle.machine_trail.specs.History.{entry};
 ghost use Rattle.dc_talk.specs.Entries.{Entry};
-ghost use Rattle.dc_talk.specs.Answers.{History, answer, fits};
+ghost use Rattle.dc_talk.specs.Records.{vector};
+ghost use Rattle.dc_talk.specs.Trails.{applied};
+ghost use Rattle.dc_talk.specs.Answers.{History, answer};
 ghost use Rattle.dc_centre.specs.Centre.{StandsFor};
-ghost use Rattle.journal_asks.specs.Spellings.{is_kind, by_of, is_kept_by, IsSpelledAsk};
+ghost use Rattle.journal_asks.specs.Spellings.{by_of, is_kept_by};
 ghost use Rattle.dc_journal.specs.Files.{numbers, IsFileOf, IsFileAround, IsFound, IsBadGate};
 
-use crate::AskFault;
 use crate::opening::{is_kept, recover};
+use crate::steps::step;
 use dc_centre::Centre;
 use dc_talk::{Ask, Say};
 use journal_asks::{KeptAsk, is_kind};
 use journal_disk::Disk;
-use journal_file::{Journal, OpenFault, Unopened, spell_all};
+use journal_file::{Journal, JournalFault, OpenFault, Unopened, spell_all};
 use std::alloc::Global;
+use vv_core::Vector;
 
 /// A data centre whose journal on a disk has all that may change it. Contracts see its centre, its disk, and whether it is
 /// shut. It keeps no trail.
@@ -31,7 +34,8 @@ pub struct JournalCentre<D: Disk> {
     journal: Journal<D>,
     ghost own: { centre.settings.me ≡ me },
     ghost among: { centre.settings.n ≡ n },
-    ghost few: { (1 ≤ n) × (n ≤ MOST_CENTRES) },
+    ghost there: { (1 ≤ me) × (me ≤ n) },
+    ghost few: { n ≤ MOST_CENTRES },
 }
 
 impl<D: Disk> JournalCentre<D> {
@@ -120,34 +124,37 @@ impl<D: Disk> JournalCentre<D> {
     }
 
     /// Answers an ask. A crash at any moment of the call leaves the journal of the trail as it was or with this ask, and
-    /// after an `Ok` the centre stands for the trail with it. `Unspelled` comes only where the ask fits, is of a kind
-    /// that a journal keeps, and has no bytes there.
-    pub fn ask(&mut self, ask: &Ask) -> Result<Say, AskFault>
+    /// after an `Ok` the centre stands for the trail with it.
+    pub fn ask(&mut self, ask: &Ask) -> Result<Say, JournalFault>
         ensures moments { (h : List Moment) (trail : List Entry) → is_shut self.old ≡ false → D.stands (disk_of self.old) h → IsJournalOf self.old h trail
-            → Ran (D.stands (disk_of self.new)) h (IsFileAround (settings_of self.old) trail ask.now) (λ later. MatchResult result
+            → Ran (D.stands (disk_of self.new)) h (IsFileAround (settings_of self.old) trail (ask.now ∷ [])) (λ later. MatchResult result
             (λ say. (say ≡ answer (settings_of self.old) trail ask.now) × ((caller : ℕ) → IsJournalOf self.new later (trail ++ entry caller ask.now say ∷ [])))
             (λ _. is_shut self.new ≡ false → IsJournalOf self.new later trail)) }
         ensures settings { settings_of self.new ≡ settings_of self.old }
         ensures open { IsOk result → is_shut self.new ≡ false }
-        ensures shut { is_shut self.old ≡ true → (result ≡ Err AskFault.Shut) × (IsSame self.old self.new) }
-        ensures only_shut { IsErrOf result AskFault.Shut → is_shut self.old ≡ true }
-        ensures failed { IsErrOf result AskFault.Disk → HasRisen (D.faults (disk_of self.old)) (D.faults (disk_of self.new)) }
-        ensures closes { IsErrOf result AskFault.Disk → is_shut self.new ≡ true }
-        ensures short { IsErrOf result AskFault.NoMemory → is_shut self.old ≡ false → is_shut self.new ≡ true → HasRisen (D.shortages (disk_of self.old)) (D.shortages (disk_of self.new)) }
-        ensures same { IsErrOf result AskFault.NoMemory → is_shut self.new ≡ false → IsSame self.old self.new }
-        ensures unspelled { IsErrOf result AskFault.Unspelled → (IsSame self.old self.new) × (fits (settings_of self.old).n ask.now ≡ true) × (is_kind ask.now ≡ true) × (IsSpelledAsk (by_of (settings_of self.old).me ask.now) ask.now → ⊥) }
+        ensures shut { is_shut self.old ≡ true → (result ≡ Err JournalFault.Shut) × (IsSame self.old self.new) }
+        ensures only_shut { IsErrOf result JournalFault.Shut → is_shut self.old ≡ true }
+        ensures failed { IsErrOf result JournalFault.Disk → HasRisen (D.faults (disk_of self.old)) (D.faults (disk_of self.new)) }
+        ensures closes { IsErrOf result JournalFault.Disk → is_shut self.new ≡ true }
+        ensures short { IsErrOf result JournalFault.NoMemory → is_shut self.old ≡ false → is_shut self.new ≡ true → HasRisen (D.shortages (disk_of self.old)) (D.shortages (disk_of self.new)) }
+        ensures same { IsErrOf result JournalFault.NoMemory → is_shut self.new ≡ false → IsSame self.old self.new }
         ensures honest { D.is_honest (disk_of self.new) → D.is_honest (disk_of self.old) }
     {
         if self.journal.is_shut() {
-            return Err(AskFault::Shut);
+            return Err(JournalFault::Shut);
         }
         if !self.may_keep(ask) {
             return self.answer(ask);
         }
-        match KeptAsk::of(self.me, ask)? {
-            Some(item) => self.keep(ask, item),
-            None => Err(AskFault::Unspelled),
-        }
+        let item = KeptAsk::of(self.me, self.n, ask)?;
+        self.keep(ask, item)
+    }
+
+    /// How many records of each centre it has, over every trail that it stands for. It takes no memory.
+    pub fn vector(&self) -> Vector
+        ensures { (h : List Moment) (trail : List Entry) → IsJournalOf self.now h trail → result ≡ vector (settings_of self.now).n (applied (settings_of self.now).n trail) }
+    {
+        self.centre.vector()
     }
 
     /// How long its file is, in bytes.
@@ -172,15 +179,15 @@ impl<D: Disk> JournalCentre<D> {
     }
 
     // Answers an ask that no journal keeps.
-    fn answer(&mut self, ask: &Ask) -> Result<Say, AskFault>
+    fn answer(&mut self, ask: &Ask) -> Result<Say, JournalFault>
         requires { is_kept_by (settings_of self.old) ask.now ≡ false }
         ensures journal { self.new.journal ≡ self.old.journal }
         ensures settings { settings_of self.new ≡ settings_of self.old }
         ensures answer { IfOk result (λ say. (trail : List Entry) → StandsFor self.old.centre trail → say ≡ answer (settings_of self.old) trail ask.now) }
         ensures stands { IfOk result (λ say. (trail : List Entry) (caller : ℕ) → StandsFor self.old.centre trail → StandsFor self.new.centre (trail ++ entry caller ask.now say ∷ [])) }
-        ensures err { IfErr result (λ e. (e ≡ AskFault.NoMemory) × (IsSame self.old self.new)) }
+        ensures err { IfErr result (λ e. (e ≡ JournalFault.NoMemory) × (IsSame self.old self.new)) }
     {
-        let (say, _) = self.centre.step(self.alloc, ask)?;
+        let say = step(self.alloc, &mut self.centre, ask)?;
         Ok(say)
     }
 
@@ -192,30 +199,29 @@ impl<D: Disk> JournalCentre<D> {
     }
 
     // Answers an ask, and puts it in the journal where its reply is kept. Its bytes are there before the centre takes it.
-    fn keep(&mut self, ask: &Ask, item: KeptAsk) -> Result<Say, AskFault>
+    fn keep(&mut self, ask: &Ask, item: KeptAsk) -> Result<Say, JournalFault>
         requires open { is_shut self.old ≡ false }
         requires by { item.by ≡ by_of (settings_of self.old).me ask.now }
         requires ask { item.ask ≡ ask.now }
         ensures moments { (h : List Moment) (trail : List Entry) → D.stands (disk_of self.old) h → IsJournalOf self.old h trail
-            → Ran (D.stands (disk_of self.new)) h (IsFileAround (settings_of self.old) trail ask.now) (λ later. MatchResult result
+            → Ran (D.stands (disk_of self.new)) h (IsFileAround (settings_of self.old) trail (ask.now ∷ [])) (λ later. MatchResult result
             (λ say. (say ≡ answer (settings_of self.old) trail ask.now) × ((caller : ℕ) → IsJournalOf self.new later (trail ++ entry caller ask.now say ∷ [])))
             (λ _. is_shut self.new ≡ false → IsJournalOf self.new later trail)) }
         ensures settings { settings_of self.new ≡ settings_of self.old }
         ensures open { IsOk result → is_shut self.new ≡ false }
-        ensures no_shut { IsErrOf result AskFault.Shut → ⊥ }
-        ensures no_unspelled { IsErrOf result AskFault.Unspelled → ⊥ }
-        ensures failed { IsErrOf result AskFault.Disk → HasRisen (D.faults (disk_of self.old)) (D.faults (disk_of self.new)) }
-        ensures closes { IsErrOf result AskFault.Disk → is_shut self.new ≡ true }
-        ensures short { IsErrOf result AskFault.NoMemory → is_shut self.new ≡ true → HasRisen (D.shortages (disk_of self.old)) (D.shortages (disk_of self.new)) }
-        ensures same { IsErrOf result AskFault.NoMemory → is_shut self.new ≡ false → IsSame self.old self.new }
+        ensures no_shut { IsErrOf result JournalFault.Shut → ⊥ }
+        ensures failed { IsErrOf result JournalFault.Disk → HasRisen (D.faults (disk_of self.old)) (D.faults (disk_of self.new)) }
+        ensures closes { IsErrOf result JournalFault.Disk → is_shut self.new ≡ true }
+        ensures short { IsErrOf result JournalFault.NoMemory → is_shut self.new ≡ true → HasRisen (D.shortages (disk_of self.old)) (D.shortages (disk_of self.new)) }
+        ensures same { IsErrOf result JournalFault.NoMemory → is_shut self.new ≡ false → IsSame self.old self.new }
         ensures honest { D.is_honest (disk_of self.new) → D.is_honest (disk_of self.old) }
     {
         if !self.journal.has_room() {
-            return Err(AskFault::NoMemory);
+            return Err(JournalFault::NoMemory);
         }
         let items = [item];
         let out = spell_all(self.alloc, &items)?;
-        let (say, _) = self.centre.step(self.alloc, ask)?;
+        let say = step(self.alloc, &mut self.centre, ask)?;
         if !is_kept(&say) {
             return Ok(say);
         }

@@ -1,11 +1,10 @@
 //! A data centre whose steps are kept in a journal on a disk: what it answered outlives a crash at any moment.
 #![tactic(auto)]
 
-mod faults;
 mod journal_centre;
 mod laws;
 mod opening;
+mod steps;
 
-pub use faults::AskFault;
 pub use journal_centre::JournalCentre;
 pub use laws::law_between_calls;

@@ -1,11 +1,10 @@
 // The frames of the asks that a journal keeps.
-ghost use Rattle.std.specs.Prelude.{◌≡◌, ◌++◌, ◌↔◌, ℕ, List, length, drop, Some, IfOk, IfSome, OnOk, IsTrue};
+ghost use Rattle.std.specs.Prelude.{◌≡◌, ◌++◌, ℕ, List, length, drop, Some, IfOk, IfSome, OnOk};
 ghost use Rattle.wire_codec.specs.declared.item.Item.{Item as FrameOf};
 ghost use Rattle.wire_codec.specs.declared.item.TheConstants.{VERSION as WRITTEN};
 ghost use Rattle.wire_codec.specs.Spelling.{spelled, IsSpelled};
-ghost use Rattle.journal_asks.specs.Spellings.{by_of, kind_of, commit_of, frame_of, IsSpelledAsk};
+ghost use Rattle.journal_asks.specs.Spellings.{kind_of, commit_of, frame_of};
 
-use crate::kept_ask::is_kind;
 use dc_talk::Ask;
 use ids_core::NoMemory;
 use std::alloc::{AllocError, Global};
@@ -56,20 +55,6 @@ fn commit_of(by: u8, tx: &Tx) -> Result<Frame, NoMemory>
         tx: tx.copy()?,
     };
     Ok(Frame::Rec { item, hops: 0 })
-}
-
-/// Whether the ask of a centre has bytes in a journal.
-pub fn is_spelled(by: u8, ask: &Ask) -> Result<bool, NoMemory>
-    requires { by ≡ by_of by ask.now }
-    ensures { IfOk result (λ is. IsTrue is ↔ IsSpelledAsk by ask.now) }
-{
-    if !is_kind(ask) {
-        return Ok(false);
-    }
-    match frame_of(by, ask)? {
-        Some(frame) => Ok(frame.fits()),
-        None => Ok(true),
-    }
 }
 
 /// The frame of the written version with which these bytes begin, and how many it has.

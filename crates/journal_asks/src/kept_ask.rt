@@ -2,9 +2,9 @@
 ghost use Rattle.std.specs.Prelude.{◌≡◌};
 ghost use Rattle.journal_asks.specs.Spellings.{is_kind, by_of, IsSpelledAsk, IsSpelledAsk-prop};
 
-use crate::frames::is_spelled;
+use crate::fits::see_ask;
 use dc_talk::Ask;
-use ids_core::NoMemory;
+use std::alloc::AllocError;
 
 /// An ask that has bytes in a journal, with the centre that these name: that of a commit, and 0 for all others.
 #[derive(Drop)]
@@ -15,21 +15,24 @@ pub struct KeptAsk {
 }
 
 impl KeptAsk {
-    ghost use Rattle.std.specs.Prelude.{◌≡◌, IfOk, IfSome, IsNone};
+    ghost use Rattle.std.specs.Prelude.{◌≡◌, ◌≤◌, true, IfOk};
+    ghost use Rattle.ids_core.specs.declared.limits.TheConstants.{MOST_CENTRES};
+    ghost use Rattle.dc_talk.specs.Answers.{fits};
 
-    /// An ask of centre `me`. None exactly where it has no bytes in a journal.
-    pub fn of(me: u8, ask: &Ask) -> Result<Option<KeptAsk>, NoMemory>
-        ensures some { IfOk result (λ kept. IfSome kept (λ x. (x.by ≡ by_of me ask.now) × (x.ask ≡ ask.now))) }
-        ensures none { IfOk result (λ kept. IsNone kept → IsSpelledAsk (by_of me ask.now) ask.now → ⊥) }
+    /// An ask of centre `me` among `n` that fits and is of a kind that a journal keeps. It has bytes there.
+    pub fn of(me: u8, n: u8, ask: &Ask) -> Result<KeptAsk, AllocError>
+        requires centre { (1 ≤ me) × (me ≤ n) }
+        requires width { n ≤ MOST_CENTRES }
+        requires kind { is_kind ask.now ≡ true }
+        requires fits { fits n ask.now ≡ true }
+        ensures by { IfOk result (λ x. x.by ≡ by_of me ask.now) }
+        ensures ask { IfOk result (λ x. x.ask ≡ ask.now) }
     {
-        let by = by_of(me, ask);
-        if !is_spelled(by, ask)? {
-            return Ok(None);
-        }
-        Ok(Some(KeptAsk {
-            by,
-            ask: ask.copy()?,
-        }))
+        see_ask(me, n, ask);
+        Ok(KeptAsk {
+            by: by_of(me, ask),
+            ask: ask.clone()?,
+        })
     }
 }
 

@@ -1,6 +1,7 @@
 //! The asks that the journal of a centre keeps, and their bytes.
 #![tactic(auto)]
 
+mod fits;
 mod frames;
 mod item;
 mod kept_ask;
