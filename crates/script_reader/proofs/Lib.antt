@@ -8,6 +8,8 @@ pub mod CellTests
 pub mod Fitting
 pub mod Sieving
 pub mod FirstWords
+pub mod Counted
+pub mod Straight
 pub mod Saying
 pub mod Onward
 pub mod CutOff

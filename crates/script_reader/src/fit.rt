@@ -1,7 +1,7 @@
 // The form of the words of a line.
-ghost use Rattle.std.specs.Prelude.{◌≡◌, IfSome};
+ghost use Rattle.std.specs.Prelude.{◌≡◌, length, IfOk, IfSome};
 ghost use Rattle.script_reader.specs.Fits.{is_near, is_whole};
-ghost use Rattle.script_reader.specs.Forms.{agrees, fits, form_among, form_of, is_client_word, may_be};
+ghost use Rattle.script_reader.specs.Forms.{agrees, fits, form_among, form_of, is_client_word, may_be, parts_of};
 ghost use Rattle.script_reader.specs.Words.{texts_of, words_of};
 
 use crate::fault::Cause;
@@ -119,7 +119,8 @@ fn form_by_verb(words: &[&[u8]]) -> Option<Result<Form, Cause>>
 
 /// The form of words; or why they have none.
 pub fn form_in(words: &[&[u8]]) -> Result<Form, Cause>
-    ensures { result ≡ form_of (texts_of words.now) }
+    ensures form { result ≡ form_of (texts_of words.now) }
+    ensures count { IfOk result (λ one. length words.now ≡ length (parts_of one)) }
 {
     match form_by_verb(words) {
         Some(found) => found,

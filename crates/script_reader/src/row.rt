@@ -1,6 +1,6 @@
 // What a line says that is not skipped.
-ghost use Rattle.std.specs.Prelude.{◌≡◌, IsTrue, take, true};
-ghost use Rattle.script_reader.specs.Rows.{change_row, client_row, inc_row, is_of_its_kind, is_of_kind, link_row, operator_row, row_behind, row_in, row_in_text, row_in_words, row_of};
+ghost use Rattle.std.specs.Prelude.{◌≡◌, IsTrue, Ok, take, true};
+ghost use Rattle.script_reader.specs.Rows.{change_row, client_row, inc_row, is_of_its_kind, is_of_kind, link_row, operator_row, row_behind, row_in, row_in_text, row_in_words, row_of, row_spelled};
 ghost use Rattle.script_reader.specs.Words.{is_plain_text, texts_of, words_of};
 
 use crate::fault::Cause;
@@ -8,6 +8,7 @@ use crate::fit::form_in;
 use crate::form::{Form, parts};
 use crate::leads::first_letter;
 use crate::said::{Said, say_all};
+use crate::steps::{is_bare, put_bare, put_inc, put_read};
 use crate::words::{MOST_WORDS, cut_words, is_plain_text, without_return};
 use dc_talk::{Change, LinkFault};
 use script_core::{AskFault, ClientStep, Header, MAX_LINE, MAX_LINES, OperatorStep, Step};
@@ -254,11 +255,15 @@ fn is_of_its_kind(row: &Row) -> bool
     }
 }
 
-// Puts what words say behind this header, or before one, in the place of a row.
-fn row_in_words(header: Option<Header>, words: &[&[u8]], row: &mut Row) -> Result<bool, Cause>
-    ensures { row_behind result row.new ≡ row_in_words header (texts_of words.now) }
+// Puts what the words of a line of any form say in the place of a row, and says that they say something.
+fn put_any(
+    header: Option<Header>,
+    form: Form,
+    words: &[&[u8]],
+    row: &mut Row,
+) -> Result<bool, Cause>
+    ensures { row_behind result row.new ≡ row_spelled header (texts_of words.now) (Ok form) }
 {
-    let form = form_in(words)?;
     let mut said = Said::nothing();
     say_all(header, parts(form), words, &mut said)?;
     *row = row_of(form, &said);
@@ -266,6 +271,25 @@ fn row_in_words(header: Option<Header>, words: &[&[u8]], row: &mut Row) -> Resul
         Ok(true)
     } else {
         Err(Cause::Kind)
+    }
+}
+
+// Puts what words say behind this header, or before one, in the place of a row.
+#[tactic(auto, using(crate::proofs::Straight::bare_count))]
+fn row_in_words(header: Option<Header>, words: &[&[u8]], row: &mut Row) -> Result<bool, Cause>
+    ensures { row_behind result row.new ≡ row_in_words header (texts_of words.now) }
+{
+    let form = form_in(words)?;
+    match form {
+        Form::Inc => put_inc(header, words, row),
+        Form::Read => put_read(header, words, row),
+        _ => {
+            if is_bare(form) {
+                put_bare(header, form, words, row)
+            } else {
+                put_any(header, form, words, row)
+            }
+        }
     }
 }
 
