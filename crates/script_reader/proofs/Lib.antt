@@ -2,6 +2,7 @@ mod Examples
 pub mod Blanks
 pub mod Cutting
 pub mod Plain
+pub mod LineCuts
 pub mod Digits
 pub mod NameTests
 pub mod CellTests

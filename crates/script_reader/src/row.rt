@@ -1,6 +1,6 @@
 // What a line says that is not skipped.
-ghost use Rattle.std.specs.Prelude.{◌≡◌, IsTrue, Ok, take, true};
-ghost use Rattle.script_reader.specs.Rows.{change_row, client_row, inc_row, is_of_its_kind, is_of_kind, link_row, operator_row, row_behind, row_in, row_in_text, row_in_words, row_of, row_spelled};
+ghost use Rattle.std.specs.Prelude.{◌≡◌, ◌≤◌, IsTrue, Ok, Option, Result as ResultOf, length, take, true};
+ghost use Rattle.script_reader.specs.Rows.{change_row, client_row, inc_row, is_of_its_kind, is_of_kind, link_row, operator_row, row_behind, row_in, row_in_text, row_in_words, row_of, row_spelled, unless_refused, within_limits};
 ghost use Rattle.script_reader.specs.Words.{is_plain_text, texts_of, words_of};
 
 use crate::fault::Cause;
@@ -321,34 +321,18 @@ fn row_with_words(
 }
 
 // The same of a text of which no words were cut off.
-fn row_in_text(
-    header: Option<Header>,
-    text: &[u8],
-    plain: bool,
-    row: &mut Row,
-) -> Result<bool, Cause>
-    requires { IsTrue plain → is_plain_text text.now ≡ true }
+fn row_in_text(header: Option<Header>, text: &[u8], row: &mut Row) -> Result<bool, Cause>
     ensures { row_behind result row.new ≡ row_in_text header text.now }
 {
     let none: &[u8] = b"";
     let mut places = [none; MOST_WORDS];
     let count = cut_words(text, &mut places);
-    row_with_words(header, text, plain, &places[..count], row)
+    row_with_words(header, text, false, &places[..count], row)
 }
 
-/// Puts what the line of this number says, behind this header, or before one, in the place of a row, and says whether
-/// it says anything: it does not where it is skipped. An `Err` says why it is refused wherever it stands. A line that is
-/// said to be plain has such bytes alone as one has that is not skipped.
-#[tactic(auto, unfolding(crate::specs::Rows::row_in), using(crate::proofs::Plain::plain_without_return))]
-pub fn row_in(
-    header: Option<Header>,
-    number: u32,
-    line: &[u8],
-    plain: bool,
-    row: &mut Row,
-) -> Result<bool, Cause>
-    requires { IsTrue plain → is_plain_text line.now ≡ true }
-    ensures { row_behind result row.new ≡ row_in header number line.now }
+// Whether a line of this number is within the limits of a script.
+fn within(number: u32, line: &[u8]) -> Result<(), Cause>
+    ensures { (said : ResultOf (Option Row) Cause) → unless_refused result said ≡ within_limits number line.now said }
 {
     if number > MAX_LINES {
         return Err(Cause::Many);
@@ -356,5 +340,42 @@ pub fn row_in(
     if line.len() > MAX_LINE as usize {
         return Err(Cause::Long);
     }
-    row_in_text(header, without_return(line), plain, row)
+    Ok(())
+}
+
+/// Puts what the line of this number says, behind this header, or before one, in the place of a row, and says whether
+/// it says anything: it does not where it is skipped. An `Err` says why it is refused wherever it stands.
+#[tactic(auto, unfolding(crate::specs::Rows::row_in))]
+pub fn row_in(
+    header: Option<Header>,
+    number: u32,
+    line: &[u8],
+    row: &mut Row,
+) -> Result<bool, Cause>
+    ensures { row_behind result row.new ≡ row_in header number line.now }
+{
+    match within(number, line) {
+        Ok(()) => row_in_text(header, without_return(line), row),
+        Err(why) => Err(why),
+    }
+}
+
+/// The same of a line that has such bytes alone as one has that is not skipped, and that was cut into these words.
+#[tactic(auto, unfolding(crate::specs::Rows::row_in), using(crate::proofs::Plain::plain_has_no_return, crate::proofs::Cutting::all_cut))]
+pub fn row_in_cut(
+    header: Option<Header>,
+    number: u32,
+    line: &[u8],
+    words: &[&[u8]],
+    row: &mut Row,
+) -> Result<bool, Cause>
+    requires plain { is_plain_text line.now ≡ true }
+    requires few { length words.now ≤ MOST_WORDS }
+    requires words { texts_of words.now ≡ words_of line.now }
+    ensures { row_behind result row.new ≡ row_in header number line.now }
+{
+    match within(number, line) {
+        Ok(()) => row_with_words(header, line, true, words, row),
+        Err(why) => Err(why),
+    }
 }
