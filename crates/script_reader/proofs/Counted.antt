@@ -1,6 +1,6 @@
 -- Words of a form are as many as its parts.
 use Rattle.std.proofs.Common.{◌≡◌, ℕ, Bool, true, false, List, [], ◌∷◌, Bor, length, refl, ap, sym, ◌∙◌}
-use Rattle.std.specs.Prelude.{cond, find, Option, Some, None, Result, Ok, Err, IfOk}
+use Rattle.std.specs.Prelude.{cond, find, Some, Result, Ok, Err, IfOk}
 use Rattle.std.specs.List.{list_any}
 use Rattle.std.proofs.lemmas.List.{length-map}
 use Rattle.std.proofs.lemmas.Bool.{and_parts, eqb-true}

@@ -1,7 +1,6 @@
 -- Lines whose bytes may stand in one that is not skipped.
-use Rattle.std.proofs.Common.{◌≡◌, ◌≢◌, ◌-◌, ◌==◌, ℕ, Bool, true, false, List, [], ◌∷◌, zero, suc, length, take, refl, ap, ◌∙◌, arith}
-use Rattle.std.specs.Prelude.{All, cond, slice_index}
-use Rattle.std.specs.List.{list_all}
+use Rattle.std.proofs.Common.{◌≡◌, ◌≢◌, ◌-◌, ◌==◌, ℕ, true, false, List, [], ◌∷◌, length, take, refl, ap, ◌∙◌, arith}
+use Rattle.std.specs.Prelude.{All, slice_index}
 use Rattle.std.proofs.lemmas.Bool.{and_parts, and_from, cond-false}
 use Rattle.std.proofs.lemmas.List.Elements.{All-nil, All-cons, All-head, All-tail, All-weaker}
 use Rattle.script_reader.specs.Words.{is_blank, is_plain, is_plain_text, is_hidden, is_shown, without_return}

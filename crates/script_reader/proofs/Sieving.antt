@@ -1,6 +1,6 @@
 -- The form of words, found among some of all forms: none of the others has its fixed words in their places.
 use Rattle.std.proofs.Common.{◌≡◌, ℕ, Bool, true, false, ◌≤◌, ◌-◌, List, [], ◌∷◌, Bor, drop, get_or, length, take, refl, ap, sym, ◌∙◌, suc, arith}
-use Rattle.std.specs.Prelude.{◌&&◌, ◌||◌, ◌==◌, not, cond, find, filter, slice_index, Option, Some, None, Result, Ok, Err, bytes_eq}
+use Rattle.std.specs.Prelude.{◌&&◌, ◌||◌, ◌==◌, not, cond, find, filter, slice_index, Some, None, Ok, Err, bytes_eq}
 use Rattle.std.specs.List.{list_any, list_all}
 use Rattle.std.proofs.lemmas.Bool.{false≢true, eq-eqb, and_from}
 use Rattle.std.proofs.lemmas.List.{length-drop, length-map, take_all}

@@ -1,17 +1,15 @@
 -- What lines say whose words are read straight.
-use Rattle.std.proofs.Common.{◌≡◌, ◌<◌, ℕ, ℤ, zero, suc, Bool, true, false, List, [], ◌∷◌, Bor, length, get_or, refl, ap, sym, ◌∙◌, arith}
+use Rattle.std.proofs.Common.{◌≡◌, ℕ, ℤ, true, List, [], ◌∷◌, Bor, length, get_or, refl, ap, sym, ◌∙◌, arith}
 use Rattle.std.specs.Prelude.{Option, Some, None, Result, Ok, Err}
 use Rattle.std.proofs.lemmas.Bool.{false≢true}
-use Rattle.dc_talk.specs.declared.calls.Change.TheVariants.{Inc as inc_by}
 use Rattle.ids_core.specs.declared.object.ObjectId.{ObjectId}
 use Rattle.script_core.specs.declared.script.Header.{Header}
-use Rattle.script_core.specs.declared.steps.ClientStep.TheVariants.{Change, Read as read_of}
+use Rattle.script_core.specs.declared.steps.ClientStep.TheVariants.{Read as read_of}
 use Rattle.script_core.specs.declared.steps.Step.TheVariants.{Client as step_of}
 use Rattle.script_reader.specs.declared.fault.Cause.{Cause}
 use Rattle.script_reader.specs.declared.fault.Cause.TheVariants.{Name}
 use Rattle.script_reader.specs.declared.form.Word.{Word}
 use Rattle.script_reader.specs.declared.form.Word.TheVariants as word
-use Rattle.script_reader.specs.declared.form.Part.{Part}
 use Rattle.script_reader.specs.declared.form.Part.TheVariants.{Fixed, Client, Summand, Delta, Object}
 use Rattle.script_reader.specs.declared.form.Form.{Form}
 use Rattle.script_reader.specs.declared.form.Form.TheVariants as form
