@@ -1,7 +1,8 @@
 -- Words that are put in their places one after another.
 use Rattle.std.proofs.Common.{◌≡◌, ◌<◌, ◌≤◌, ◌+◌, ℕ, List, [], ◌∷◌, ◌++◌, Bor, length, set, take, refl, ap, sym, ◌∙◌, arith, append_assoc, append-nil}
 use Rattle.std.proofs.lemmas.List.{length-take, length-map, map-append, take_all, take-append-le, take_more_set}
-use Rattle.script_reader.specs.Words.{texts_of}
+use Rattle.script_reader.specs.declared.words.TheConstants.{MOST_WORDS}
+use Rattle.script_reader.specs.Words.{texts_of, words_of}
 
 -- one more word
 pub cut_more : (all : List (List ℕ)) (places : List (Bor (List ℕ))) (count : ℕ) (word : Bor (List ℕ)) (rest more : List (List ℕ)) → count < length places → all ≡ texts_of (take count places) ++ rest → rest ≡ word.now ∷ more → all ≡ texts_of (take (count + 1) (set places count word)) ++ more
@@ -27,3 +28,9 @@ cut_full all places rest is =
 pub texts_none : (words : List (Bor (List ℕ))) → length words < 1 → texts_of words ≡ []
 texts_none [] none = refl
 texts_none (word ∷ words) none = absurd (omega arith)
+
+-- words that are all of a text are the first of them, where they are few
+pub all_cut : (words : List (Bor (List ℕ))) (text : List ℕ) → length words ≤ MOST_WORDS → texts_of words ≡ words_of text → texts_of words ≡ take MOST_WORDS (words_of text)
+all_cut words text few is =
+    let size : length (words_of text) ≤ MOST_WORDS = let same = ap length is in let long = length-map words (λ (w : Bor (List ℕ)). w.now) in omega arith in
+    is ∙ sym (take_all MOST_WORDS (words_of text) size)

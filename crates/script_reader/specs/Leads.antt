@@ -1,5 +1,5 @@
--- The forms that words may have, by the letter that their first fixed word begins with.
-use Rattle.std.specs.Prelude.{◌==◌, ◌&&◌, ℕ, Bool, true, false, not, List, [], ◌∷◌, slice_index, filter}
+-- The forms that words may have, by the letter that their first fixed word begins with, or by that word.
+use Rattle.std.specs.Prelude.{◌==◌, ◌&&◌, ℕ, Bool, true, false, not, List, [], ◌∷◌, slice_index, filter, bytes_eq}
 use Rattle.script_reader.specs.declared.form.Part.{Part}
 use Rattle.script_reader.specs.declared.form.Part.TheVariants.{Fixed, Client, Holder}
 use Rattle.script_reader.specs.declared.form.Form.{Form}
@@ -28,3 +28,15 @@ forms_from letter = filter (λ one. not (names_client (parts_of one)) && lead (p
 -- those with a client in front that have this letter
 unfoldable pub client_forms : ℕ → List Form
 client_forms letter = filter (λ one. names_client (parts_of one) && lead (parts_of one) == letter) forms
+
+-- those with a client in front that have this word
+unfoldable pub verb_forms : List ℕ → List Form
+verb_forms verb = filter (λ one. names_client (parts_of one) && bytes_eq verb (first_fixed (parts_of one))) forms
+
+-- any words may stand in the places of these parts
+abbrev pub are_open : List Part → Bool
+are_open [] = true
+are_open (Fixed own ∷ parts) = false
+are_open (Client ∷ parts) = false
+are_open (Holder ∷ parts) = false
+are_open (part ∷ parts) = are_open parts

@@ -127,7 +127,15 @@ abbrev pub row_behind : Result Bool Cause → Row → Result (Option Row) Cause
 row_behind (Ok found) line = Ok (if found then Some line else None)
 row_behind (Err why) line = Err why
 
+-- what a line of this number says that is within the limits, and else why it is refused
+abbrev pub within_limits : ℕ → List ℕ → Result (Option Row) Cause → Result (Option Row) Cause
+within_limits number line said = if nat_lt MAX_LINES number then Err cause.Many else (if nat_lt MAX_LINE (length line) then Err cause.Long else said)
+
+-- what is said, where nothing stands against it
+abbrev pub unless_refused : {U : Type 0} → Result U Cause → Result (Option Row) Cause → Result (Option Row) Cause
+unless_refused (Ok u) said = said
+unless_refused (Err why) said = Err why
+
 -- what the line of this number says, behind this header, or why it is refused wherever it stands
 unfoldable pub row_in : Option Header → ℕ → List ℕ → Result (Option Row) Cause
-row_in header number line =
-    if nat_lt MAX_LINES number then Err cause.Many else (if nat_lt MAX_LINE (length line) then Err cause.Long else row_in_text header (without_return line))
+row_in header number line = within_limits number line (row_in_text header (without_return line))

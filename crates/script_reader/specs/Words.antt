@@ -32,6 +32,10 @@ is_plain b = b == 9 || (nat_le 32 b && nat_le b 126)
 abbrev pub is_hidden : ℕ → Bool
 is_hidden b = nat_lt b 32 || nat_lt 126 b
 
+-- a byte of a word of such a line: from 0x21 to 0x7E
+abbrev pub is_shown : ℕ → Bool
+is_shown b = nat_lt 32 b && nat_lt b 127
+
 -- all bytes of a line that is not skipped are such
 abbrev pub is_plain_text : List ℕ → Bool
 is_plain_text text = list_all is_plain text

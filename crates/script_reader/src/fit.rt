@@ -1,12 +1,12 @@
 // The form of the words of a line.
-ghost use Rattle.std.specs.Prelude.{◌≡◌};
+ghost use Rattle.std.specs.Prelude.{◌≡◌, length, IfOk, IfSome};
 ghost use Rattle.script_reader.specs.Fits.{is_near, is_whole};
-ghost use Rattle.script_reader.specs.Forms.{agrees, fits, form_among, form_of, is_client_word, may_be};
+ghost use Rattle.script_reader.specs.Forms.{agrees, fits, form_among, form_of, is_client_word, may_be, parts_of};
 ghost use Rattle.script_reader.specs.Words.{texts_of, words_of};
 
 use crate::fault::Cause;
 use crate::form::{FORMS, Form, Part, parts, spelled};
-use crate::leads::{client_forms, first_letter, forms_from};
+use crate::leads::{client_forms, first_letter, form_of_verb, forms_from};
 use crate::numbers::are_digits;
 use crate::words::{MOST_WORDS, cut_words};
 
@@ -96,11 +96,36 @@ fn near_forms(words: &[&[u8]]) -> &'static [Form]
     }
 }
 
+// The form of the words of a client's step, where the word behind the client tells it, or why they have none; nothing
+// where the other words have a say.
+fn form_by_verb(words: &[&[u8]]) -> Option<Result<Form, Cause>>
+    ensures { IfSome result (λ found. found ≡ form_of (texts_of words.now)) }
+{
+    match words {
+        [first, verb, ..] => {
+            if !is_client_word(first) {
+                return None;
+            }
+            let form = form_of_verb(verb)?;
+            if parts(form).len() == words.len() {
+                Some(Ok(form))
+            } else {
+                Some(Err(Cause::Count))
+            }
+        }
+        _ => None,
+    }
+}
+
 /// The form of words; or why they have none.
 pub fn form_in(words: &[&[u8]]) -> Result<Form, Cause>
-    ensures { result ≡ form_of (texts_of words.now) }
+    ensures form { result ≡ form_of (texts_of words.now) }
+    ensures count { IfOk result (λ one. length words.now ≡ length (parts_of one)) }
 {
-    form_among(near_forms(words), words)
+    match form_by_verb(words) {
+        Some(found) => found,
+        None => form_among(near_forms(words), words),
+    }
 }
 
 /// The form of the words of a text; or why they have none.

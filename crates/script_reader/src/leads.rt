@@ -1,6 +1,7 @@
-// The forms that words may have, by the letter that their first fixed word begins with.
-ghost use Rattle.std.specs.Prelude.{◌≡◌, slice_index};
-ghost use Rattle.script_reader.specs.Leads.{client_forms, forms_from};
+// The forms that words may have, by the letter that their first fixed word begins with, or by that word.
+ghost use Rattle.std.specs.Prelude.{◌≡◌, ◌∷◌, [], drop, true, slice_index, IfSome};
+ghost use Rattle.script_reader.specs.Forms.{parts_of};
+ghost use Rattle.script_reader.specs.Leads.{are_open, client_forms, forms_from, verb_forms};
 
 use crate::form::Form;
 
@@ -55,5 +56,36 @@ pub fn client_forms(letter: u8) -> &'static [Form]
         b's' => &[Form::Set],
         b't' => &[Form::Take, Form::AskTwice],
         _ => &[],
+    }
+}
+
+/// The form of a client's steps that has this word behind the client, where one form alone has it and no other fixed
+/// word.
+pub fn form_of_verb(verb: &[u8]) -> Option<Form>
+    ensures one { IfSome result (λ one. verb_forms verb.now ≡ one ∷ []) }
+    ensures open { IfSome result (λ one. are_open (drop 2 (parts_of one)) ≡ true) }
+{
+    match verb {
+        b"connect" => Some(Form::Connect),
+        b"begin" => Some(Form::Begin),
+        b"inc" => Some(Form::Inc),
+        b"set" => Some(Form::Set),
+        b"add" => Some(Form::Add),
+        b"del" => Some(Form::Del),
+        b"put" => Some(Form::Put),
+        b"drop" => Some(Form::Drop),
+        b"read" => Some(Form::Read),
+        b"grant" => Some(Form::Grant),
+        b"give" => Some(Form::Give),
+        b"take" => Some(Form::Take),
+        b"rights" => Some(Form::Rights),
+        b"commit" => Some(Form::Commit),
+        b"abort" => Some(Form::Abort),
+        b"push" => Some(Form::Push),
+        b"flush" => Some(Form::Flush),
+        b"refresh" => Some(Form::Refresh),
+        b"again" => Some(Form::Again),
+        b"twice" => Some(Form::AskTwice),
+        _ => None,
     }
 }

@@ -15,6 +15,7 @@ mod row;
 mod said;
 mod scripts;
 mod shares;
+mod steps;
 mod words;
 
 pub use fault::{Cause, ScriptFault};

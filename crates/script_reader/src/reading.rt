@@ -1,15 +1,17 @@
 // How far the lines of a script came.
-ghost use Rattle.std.specs.Prelude.{◌≡◌, ◌++◌, ◌∷◌, [], true, Ok, Err, IfOk, IsTrue, OnOk};
+ghost use Rattle.std.specs.Prelude.{◌≡◌, ◌≤◌, ◌++◌, ◌∷◌, [], length, true, Ok, Err, IfOk, OnOk};
 ghost use Rattle.std.specs.Option.{option_map};
 ghost use Rattle.script_reader.specs.declared.fault.Cause.{Cause as CauseOf};
 ghost use Rattle.script_reader.specs.declared.reading.LineFault.TheVariants.{NoMemory as no_memory};
-ghost use Rattle.script_reader.specs.Lines.{line_taken};
+ghost use Rattle.script_reader.specs.Lines.{line_taken, taken};
 ghost use Rattle.script_reader.specs.Readings.{header_in, may_do, may_set, may_stand, nothing_read, phase_read, read_more, step_read};
-ghost use Rattle.script_reader.specs.Words.{is_plain_text};
+ghost use Rattle.script_reader.specs.Rows.{row_behind};
+ghost use Rattle.script_reader.specs.Words.{is_plain_text, texts_of, words_of};
 ghost use Rattle.script_core.specs.Rows.{may_do_in_phase, section_of};
 
 use crate::fault::Cause;
-use crate::row::{Row, row_in};
+use crate::row::{Row, row_in, row_in_cut};
+use crate::words::MOST_WORDS;
 use dc_talk::Change;
 use list_core::List;
 use script_core::{ClientStep, Header, OperatorStep, Section, Sections, Step, Steps};
@@ -171,28 +173,46 @@ impl Reading {
         ensures taken { OnOk result (line_taken self.old number line.now ≡ Ok self.new) }
         ensures refused { (why : CauseOf) → result ≡ Err (LineFault.Refused why) → line_taken self.old number line.now ≡ Err why }
     {
-        self.read_said(alloc, number, line, false)
+        let mut row = Row::Phase;
+        let found = row_in(self.header(), number, line, &mut row);
+        self.keep(alloc, found, &row)
     }
 
-    /// The same, of a line that may be said to be plain: then it has such bytes alone as one has that is not skipped.
-    pub(crate) fn read_said(
+    /// The same of a line that has such bytes alone as one has that is not skipped, and that was cut into these words.
+    pub(crate) fn read_cut(
         &mut self,
         alloc: Global,
         number: u32,
         line: &[u8],
-        plain: bool,
+        words: &[&[u8]],
     ) -> Result<(), LineFault>
-        requires { IsTrue plain → is_plain_text line.now ≡ true }
+        requires plain { is_plain_text line.now ≡ true }
+        requires few { length words.now ≤ MOST_WORDS }
+        requires words { texts_of words.now ≡ words_of line.now }
         ensures taken { OnOk result (line_taken self.old number line.now ≡ Ok self.new) }
         ensures refused { (why : CauseOf) → result ≡ Err (LineFault.Refused why) → line_taken self.old number line.now ≡ Err why }
     {
         let mut row = Row::Phase;
-        match row_in(self.header(), number, line, plain, &mut row) {
+        let found = row_in_cut(self.header(), number, line, words, &mut row);
+        self.keep(alloc, found, &row)
+    }
+
+    // Takes what was found in a line with this row in its place, where it is skipped or may stand here.
+    fn keep(
+        &mut self,
+        alloc: Global,
+        found: Result<bool, Cause>,
+        row: &Row,
+    ) -> Result<(), LineFault>
+        ensures taken { OnOk result (taken self.old (row_behind found row.now) ≡ Ok self.new) }
+        ensures refused { (why : CauseOf) → result ≡ Err (LineFault.Refused why) → taken self.old (row_behind found row.now) ≡ Err why }
+    {
+        match found {
             Ok(true) => {
-                if !self.may_stand(&row) {
+                if !self.may_stand(row) {
                     return Err(LineFault::Refused(Cause::Place));
                 }
-                self.take(alloc, &row)?;
+                self.take(alloc, row)?;
                 Ok(())
             }
             Ok(false) => Ok(()),

@@ -1,6 +1,6 @@
 // What a line says that is not skipped.
-ghost use Rattle.std.specs.Prelude.{◌≡◌, IsTrue, take, true};
-ghost use Rattle.script_reader.specs.Rows.{change_row, client_row, inc_row, is_of_its_kind, is_of_kind, link_row, operator_row, row_behind, row_in, row_in_text, row_in_words, row_of};
+ghost use Rattle.std.specs.Prelude.{◌≡◌, ◌≤◌, IsTrue, Ok, Option, Result as ResultOf, length, take, true};
+ghost use Rattle.script_reader.specs.Rows.{change_row, client_row, inc_row, is_of_its_kind, is_of_kind, link_row, operator_row, row_behind, row_in, row_in_text, row_in_words, row_of, row_spelled, unless_refused, within_limits};
 ghost use Rattle.script_reader.specs.Words.{is_plain_text, texts_of, words_of};
 
 use crate::fault::Cause;
@@ -8,6 +8,7 @@ use crate::fit::form_in;
 use crate::form::{Form, parts};
 use crate::leads::first_letter;
 use crate::said::{Said, say_all};
+use crate::steps::{is_bare, put_bare, put_inc, put_read};
 use crate::words::{MOST_WORDS, cut_words, is_plain_text, without_return};
 use dc_talk::{Change, LinkFault};
 use script_core::{AskFault, ClientStep, Header, MAX_LINE, MAX_LINES, OperatorStep, Step};
@@ -254,11 +255,15 @@ fn is_of_its_kind(row: &Row) -> bool
     }
 }
 
-// Puts what words say behind this header, or before one, in the place of a row.
-fn row_in_words(header: Option<Header>, words: &[&[u8]], row: &mut Row) -> Result<bool, Cause>
-    ensures { row_behind result row.new ≡ row_in_words header (texts_of words.now) }
+// Puts what the words of a line of any form say in the place of a row, and says that they say something.
+fn put_any(
+    header: Option<Header>,
+    form: Form,
+    words: &[&[u8]],
+    row: &mut Row,
+) -> Result<bool, Cause>
+    ensures { row_behind result row.new ≡ row_spelled header (texts_of words.now) (Ok form) }
 {
-    let form = form_in(words)?;
     let mut said = Said::nothing();
     say_all(header, parts(form), words, &mut said)?;
     *row = row_of(form, &said);
@@ -266,6 +271,25 @@ fn row_in_words(header: Option<Header>, words: &[&[u8]], row: &mut Row) -> Resul
         Ok(true)
     } else {
         Err(Cause::Kind)
+    }
+}
+
+// Puts what words say behind this header, or before one, in the place of a row.
+#[tactic(auto, using(crate::proofs::Straight::bare_count))]
+fn row_in_words(header: Option<Header>, words: &[&[u8]], row: &mut Row) -> Result<bool, Cause>
+    ensures { row_behind result row.new ≡ row_in_words header (texts_of words.now) }
+{
+    let form = form_in(words)?;
+    match form {
+        Form::Inc => put_inc(header, words, row),
+        Form::Read => put_read(header, words, row),
+        _ => {
+            if is_bare(form) {
+                put_bare(header, form, words, row)
+            } else {
+                put_any(header, form, words, row)
+            }
+        }
     }
 }
 
@@ -297,34 +321,18 @@ fn row_with_words(
 }
 
 // The same of a text of which no words were cut off.
-fn row_in_text(
-    header: Option<Header>,
-    text: &[u8],
-    plain: bool,
-    row: &mut Row,
-) -> Result<bool, Cause>
-    requires { IsTrue plain → is_plain_text text.now ≡ true }
+fn row_in_text(header: Option<Header>, text: &[u8], row: &mut Row) -> Result<bool, Cause>
     ensures { row_behind result row.new ≡ row_in_text header text.now }
 {
     let none: &[u8] = b"";
     let mut places = [none; MOST_WORDS];
     let count = cut_words(text, &mut places);
-    row_with_words(header, text, plain, &places[..count], row)
+    row_with_words(header, text, false, &places[..count], row)
 }
 
-/// Puts what the line of this number says, behind this header, or before one, in the place of a row, and says whether
-/// it says anything: it does not where it is skipped. An `Err` says why it is refused wherever it stands. A line that is
-/// said to be plain has such bytes alone as one has that is not skipped.
-#[tactic(auto, unfolding(crate::specs::Rows::row_in), using(crate::proofs::Plain::plain_without_return))]
-pub fn row_in(
-    header: Option<Header>,
-    number: u32,
-    line: &[u8],
-    plain: bool,
-    row: &mut Row,
-) -> Result<bool, Cause>
-    requires { IsTrue plain → is_plain_text line.now ≡ true }
-    ensures { row_behind result row.new ≡ row_in header number line.now }
+// Whether a line of this number is within the limits of a script.
+fn within(number: u32, line: &[u8]) -> Result<(), Cause>
+    ensures { (said : ResultOf (Option Row) Cause) → unless_refused result said ≡ within_limits number line.now said }
 {
     if number > MAX_LINES {
         return Err(Cause::Many);
@@ -332,5 +340,42 @@ pub fn row_in(
     if line.len() > MAX_LINE as usize {
         return Err(Cause::Long);
     }
-    row_in_text(header, without_return(line), plain, row)
+    Ok(())
+}
+
+/// Puts what the line of this number says, behind this header, or before one, in the place of a row, and says whether
+/// it says anything: it does not where it is skipped. An `Err` says why it is refused wherever it stands.
+#[tactic(auto, unfolding(crate::specs::Rows::row_in))]
+pub fn row_in(
+    header: Option<Header>,
+    number: u32,
+    line: &[u8],
+    row: &mut Row,
+) -> Result<bool, Cause>
+    ensures { row_behind result row.new ≡ row_in header number line.now }
+{
+    match within(number, line) {
+        Ok(()) => row_in_text(header, without_return(line), row),
+        Err(why) => Err(why),
+    }
+}
+
+/// The same of a line that has such bytes alone as one has that is not skipped, and that was cut into these words.
+#[tactic(auto, unfolding(crate::specs::Rows::row_in), using(crate::proofs::Plain::plain_has_no_return, crate::proofs::Cutting::all_cut))]
+pub fn row_in_cut(
+    header: Option<Header>,
+    number: u32,
+    line: &[u8],
+    words: &[&[u8]],
+    row: &mut Row,
+) -> Result<bool, Cause>
+    requires plain { is_plain_text line.now ≡ true }
+    requires few { length words.now ≤ MOST_WORDS }
+    requires words { texts_of words.now ≡ words_of line.now }
+    ensures { row_behind result row.new ≡ row_in header number line.now }
+{
+    match within(number, line) {
+        Ok(()) => row_with_words(header, line, true, words, row),
+        Err(why) => Err(why),
+    }
 }

@@ -192,8 +192,8 @@ fn say_to(header: Option<Header>, text: &[u8], said: &mut Said) -> Result<(), Ca
     Ok(())
 }
 
-// What stands behind the first byte.
-fn behind_first(text: &[u8]) -> &[u8]
+/// What stands behind the first byte.
+pub fn behind_first(text: &[u8]) -> &[u8]
     ensures { result.now ≡ drop 1 text.now }
 {
     if text.is_empty() {

@@ -1,13 +1,17 @@
 // Reads a script.
-ghost use Rattle.std.specs.Prelude.{◌≡◌, ◌≢◌, ◌++◌, ℕ, List, Err, IfOk};
+ghost use Rattle.std.specs.Prelude.{◌≡◌, ◌≢◌, ◌≤◌, ◌++◌, ℕ, List, Ok, Err, length, take, true, IfOk, IfSome, OnOk};
 ghost use Rattle.script_core.specs.Limits.{PassesLimits};
 ghost use Rattle.script_core.specs.Scripts.{IsInRange};
+ghost use Rattle.script_reader.specs.declared.fault.Cause.{Cause as CauseOf};
+ghost use Rattle.script_reader.specs.Lines.{line_taken};
 ghost use Rattle.script_reader.specs.Readings.{header_in};
 ghost use Rattle.script_reader.specs.Scripts.{ended, script_read, script_with};
+ghost use Rattle.script_reader.specs.Words.{is_plain_text, texts_of, words_of};
 
 use crate::fault::{Cause, ScriptFault};
-use crate::lines::first_line_said;
+use crate::lines::next_line;
 use crate::reading::{LineFault, Reading};
+use crate::words::MOST_WORDS;
 use ids_core::MOST_RECORDS;
 use script_core::{DEFAULT_CACHE, DEFAULT_ROUNDS, DEFAULT_THREADS, Header, Script};
 use std::alloc::Global;
@@ -32,8 +36,10 @@ fn read_lines(alloc: Global, bytes: &[u8]) -> Result<Script, ScriptFault>
     let mut reading = Reading::nothing(alloc);
     let mut number: u32 = 1;
     let mut rest = bytes;
-    'lines: while let Some((line, more, plain)) = first_line_said(rest) {
-        match reading.read_said(alloc, number, line, plain) {
+    let none: &[u8] = b"";
+    let mut places = [none; MOST_WORDS];
+    'lines: while let Some((line, more, cut)) = next_line(rest, &mut places) {
+        match take_line(&mut reading, alloc, number, line, &places, cut) {
             Ok(()) => {}
             Err(LineFault::Refused(cause)) => {
                 return Err(ScriptFault::Refused {
@@ -47,6 +53,29 @@ fn read_lines(alloc: Global, bytes: &[u8]) -> Result<Script, ScriptFault>
         rest = more;
     }
     ended(number, reading)
+}
+
+// Takes the line of this number, where it is skipped or may stand behind those that were taken. Where it was cut, so many
+// words of it are in their places.
+fn take_line(
+    reading: &mut Reading,
+    alloc: Global,
+    number: u32,
+    line: &[u8],
+    places: &[&[u8]],
+    cut: Option<usize>,
+) -> Result<(), LineFault>
+    requires places { length places.now ≡ MOST_WORDS }
+    requires few { IfSome cut (λ count. count ≤ length places.now) }
+    requires plain { IfSome cut (λ count. is_plain_text line.now ≡ true) }
+    requires words { IfSome cut (λ count. texts_of (take count places.now) ≡ words_of line.now) }
+    ensures taken { OnOk result (line_taken reading.old number line.now ≡ Ok reading.new) }
+    ensures refused { (why : CauseOf) → result ≡ Err (LineFault.Refused why) → line_taken reading.old number line.now ≡ Err why }
+{
+    match cut {
+        Some(count) => reading.read_cut(alloc, number, line, &places[..count]),
+        None => reading.read(alloc, number, line),
+    }
 }
 
 // What ends before the line of this number: a script, or a header or a phase that is not complete.
