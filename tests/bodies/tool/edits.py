@@ -3,12 +3,17 @@
 An edit is a file with a line 'file: PATH', PATH being relative to the crate's folder, and then pairs of lines
 'old: TEXT' and 'new: TEXT'. Each old text stands once in the file, as the earlier pairs have left it. Lines that
 begin with '#' or '--' are remarks. These are the rules that `rt must-fail` has for its edits.
+
+A wrong body of tests/bodies may also have a line 'control: TEXT' behind each 'new:' line. With these texts in the place of
+the new ones it is a control: a body of the same form that does the right thing.
 """
 import hashlib
 import os
 from typing import NamedTuple
 
 PARTS = ("src/", "specs/", "proofs/")
+# What the name of a control has behind that of its body.
+CONTROL = "+control"
 
 
 class BadEdit(Exception):
@@ -16,7 +21,7 @@ class BadEdit(Exception):
 
 
 class Edit(NamedTuple):
-    """A file with an edit: the crate that it is for, its name without the ending, and its text."""
+    """An edit: the crate that it is for, its name, which is that of its file without the ending, and its text."""
 
     crate: str
     name: str
@@ -25,6 +30,15 @@ class Edit(NamedTuple):
     @property
     def label(self):
         return f"{self.crate}/{self.name}"
+
+    @property
+    def is_control(self):
+        return self.name.endswith(CONTROL)
+
+    @property
+    def body(self):
+        """The name of the body that this is, or that it is the control of."""
+        return self.name.removesuffix(CONTROL)
 
     @property
     def sum(self):
@@ -98,6 +112,21 @@ def edits_in(folder, crate):
         with open(os.path.join(folder, name), encoding="utf-8") as it:
             found.append(Edit(crate, name.removesuffix(".edit"), it.read()))
     return found
+
+
+def bodies_in(folder, crate):
+    """The wrong bodies of a folder and their controls, by name."""
+    return [it for edit in edits_in(folder, crate) for it in body_and_control(edit)]
+
+
+def body_and_control(edit):
+    """The wrong body of a file without the lines of its control, and the control where it has one."""
+    lines = edit.text.splitlines(keepends=True)
+    body = edit._replace(text="".join(it for it in lines if not it.startswith("control:")))
+    if body == edit:
+        return [body]
+    own = (it.replace("control:", "new:", 1) for it in lines if not it.startswith("new:"))
+    return [body, Edit(edit.crate, edit.name + CONTROL, "".join(own))]
 
 
 def changes_of(edit):

@@ -8,9 +8,12 @@ from functions import Function, answers_of
 # What refuses a body, the strongest first; docs/tests.md says what each shows. Or that nothing did.
 FALSE_GOAL, OPEN_GOAL, WRITTEN_PROOF, LOST_NAME = "false-goal", "open-goal", "written-proof", "lost-name"
 NOT_REFUSED, BAD_EDIT = "NOT-REFUSED", "BAD-EDIT"
+# What the try of a control comes to: the search proves it, or a goal stands open.
+CONTROL_PROVED, CONTROL_OPEN = "control-proved", "control-open"
 # The goals that the search did not prove, in the verdict on a function that has no file with answers.
 SEARCHED = re.compile(r"expected answers in .*?; `search` did not prove (.*)")
 REFUSALS = (FALSE_GOAL, OPEN_GOAL, WRITTEN_PROOF, LOST_NAME)
+CONTROLS = (CONTROL_PROVED, CONTROL_OPEN)
 # Those where only what is written of the proof refused the body.
 BY_WRITING = (WRITTEN_PROOF, LOST_NAME)
 

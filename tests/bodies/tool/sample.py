@@ -1,7 +1,7 @@
 """A small repository with wrong bodies and harmless ones, and what the tries of them have to come to."""
 import os
 
-from judgement import BAD_EDIT, FALSE_GOAL, NOT_REFUSED
+from judgement import BAD_EDIT, CONTROL_OPEN, CONTROL_PROVED, FALSE_GOAL, NOT_REFUSED
 
 FILES = {
     "crates.txt": "sample:\n",
@@ -68,6 +68,16 @@ BODIES = {
     "double_by_two": (DOUBLE, "u16::from(a) * 2", NOT_REFUSED),
     # The written proof does not fit it, and without that some values make the goal false.
     "double_and_one": (DOUBLE, "u16::from(a) + 1", FALSE_GOAL),
+    # These two have controls.
+    "sum_with_0_is_0": (SUM, f"if a == 0 {{ return 0; }} {SUM}", FALSE_GOAL),
+    "greater_is_the_second": (GREATER, "b", FALSE_GOAL),
+}
+
+# The controls: the text of each, and what its try has to come to.
+CONTROLS = {
+    "sum_with_0_is_0": (f"if a == 0 {{ return u16::from(b); }} {SUM}", CONTROL_PROVED),
+    # It does not do the right thing.
+    "greater_is_the_second": ("if a < b { a } else { b }", CONTROL_OPEN),
 }
 
 
@@ -81,7 +91,9 @@ def make_repository(folder):
 
 def put_body(folder, name):
     old, new, _ = BODIES[name]
-    put(os.path.join(folder, f"tests/bodies/sample/{name}.edit"), f"file: src/lib.rt\nold: {old}\nnew: {new}\n")
+    control = f"control: {CONTROLS[name][0]}\n" if name in CONTROLS else ""
+    text = f"file: src/lib.rt\nold: {old}\nnew: {new}\n{control}"
+    put(os.path.join(folder, f"tests/bodies/sample/{name}.edit"), text)
 
 
 def put(file, text):

@@ -1,10 +1,12 @@
-"""The trial of all wrong bodies of a crate, in batches of at most one body a function."""
+"""The trial of all wrong bodies of a crate and of their controls, in batches of at most one body a function."""
 from typing import NamedTuple
 
 from edits import BadEdit, Edit, Sources, changes_of
 from functions import Function, function_at
 from judgement import (
     BAD_EDIT,
+    CONTROL_OPEN,
+    CONTROL_PROVED,
     NOT_REFUSED,
     Result,
     answered_goals,
@@ -19,7 +21,7 @@ from judgement import (
 
 
 class Body(NamedTuple):
-    """A wrong body, and the functions that it changes: none where it changes a constant, say."""
+    """A wrong body or a control, and the functions that it changes: none where it changes a constant, say."""
 
     edit: Edit
     changes: tuple
@@ -117,8 +119,10 @@ class Trial:
         if not said.is_judged:
             return Result(BAD_EDIT, remark=said.complaint or f"no verdict: {said.last}") if is_alone else None
         functions = body.functions or functions_with_goals(sources, said)
-        found = [self.refusal(it, said, is_alone) for it in functions]
-        return strongest(it for it in found if it) or (missed(body, said) if is_alone else None)
+        found = strongest(filter(None, [self.refusal(it, said, is_alone) for it in functions]))
+        if body.edit.is_control:
+            return judge_control(body, functions, found, said, is_alone)
+        return found or (missed(body, said) if is_alone else None)
 
     def refusal(self, function, said, is_alone):
         """What refuses a function for itself, or None. Beside a callee that is not proved either, what is said of a
@@ -154,6 +158,15 @@ class Trial:
         if not self.true_without_answers:
             self.true_without_answers = self.room.check_with({}, folders, self.answered)
         return refusal_without_answers(function, said, self.true_without_answers)
+
+
+def judge_control(body, functions, refusal, said, is_alone):
+    """What the try of a control came to, or None where it has to be tried by itself."""
+    if refusal:
+        return refusal._replace(kind=CONTROL_OPEN)
+    if all(is_proved(it, said) for it in functions):
+        return Result(CONTROL_PROVED, *functions[:1])
+    return missed(body, said)._replace(kind=CONTROL_OPEN) if is_alone else None
 
 
 def body_of(edit, folder):
