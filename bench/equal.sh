@@ -3,8 +3,10 @@
 # phase of 4 centres and 256 clients, 64 at each, with as many rounds of each worker as a client has steps, so that
 # both forms make one round a turn. Each client makes 40 transactions of several objects and pushes each, with a
 # snapshot and reads after each fourth. It counts the entries of the trails, and prints the rows of the table in
-# docs/benchmarks.md: the whole time and the time of the phase, in which the program has threads. Each time is the
-# least of five runs, by the clock. The status is 1 where the entries of `run` and of `serial` differ by more than a
+# docs/benchmarks.md: the whole time and the time of the phase, in which the program has threads, and how many
+# processors were at work in it. Each time is the least of five runs, by the clock, and the processors are those of the
+# run with the shortest phase. The phase of `serial` is what is left of its time without what `run` with 1 thread takes
+# beside its phase. The status is 1 where the entries of `run` and of `serial` differ by more than a
 # twentieth, where the phase with 4 threads is not 1.8 times as fast as with 1, where the whole with 4 threads is not
 # 1.4 times as fast as `serial`, or where the program gives a wrong end.
 #   bench/equal.sh             times crates/swift_sim/out/swift_sim
@@ -42,33 +44,39 @@ entries() {
     "$program" "$1" --trail <"$room/script" | grep -c '^trail '
 }
 
-# best FORM: the least microseconds of five plays of the script, of the whole and of the phase.
+# best FORM: the least microseconds of five plays of the script, of the whole and of the phase, and those that the
+# processors worked in that phase.
 best() {
-    whole= phase=
+    whole= phase= work=
     for _ in 1 2 3 4 5; do
         took=$("$root/bench/phase_time.py" "$program" "$1" "$room/script" "$room/out") || return 1
         [ "$(tail -n 1 "$room/out")" = "c1 read c.total $total" ] || return 1
-        if [ -z "$whole" ] || [ "${took% *}" -lt "$whole" ]; then whole=${took% *}; fi
-        if [ -z "$phase" ] || [ "${took#* }" -lt "$phase" ]; then phase=${took#* }; fi
+        # shellcheck disable=SC2086
+        set -- "$1" $took
+        if [ -z "$whole" ] || [ "$2" -lt "$whole" ]; then whole=$2; fi
+        if [ -z "$phase" ] || [ "$3" -lt "$phase" ]; then phase=$3 work=$4; fi
     done
-    echo "$whole $phase"
+    echo "$whole $phase $work"
 }
 
-head_of form threads entries seconds 'seconds of the phase' 'times as fast as serial' 'the phase as with 1 thread'
+head_of form threads entries seconds 'seconds of the phase' 'processors at work in it' 'times as fast as serial' \
+    'the phase as in serial' 'the phase as with 1 thread'
 equal 1 >"$room/script"
 took=$(best serial) || wrong serial
-serial=${took% *}
+serial=${took%% *}
 counted=$(entries serial)
-awk -v took="$serial" -v counted="$counted" 'BEGIN { printf "| serial | - | %d | %.4f | - | - | - |\n", counted, took / 1000000 }'
-alone=
+awk -v took="$serial" -v counted="$counted" 'BEGIN { printf "| serial | - | %d | %.4f | - | - | - | - | - |\n", counted, took / 1000000 }'
+alone= beside=
 for threads in 1 2 4; do
     equal "$threads" >"$room/script"
     took=$(best run) || wrong run with "$threads" threads
-    phase=${took#* }
-    alone=${alone:-$phase}
-    awk -v threads="$threads" -v entries="$(entries run)" -v counted="$counted" -v took="${took% *}" -v phase="$phase" \
-        -v serial="$serial" -v alone="$alone" 'BEGIN {
-        printf "| run | %d | %d | %.4f | %.4f | %.2f | %.2f |\n", threads, entries, took / 1000000, phase / 1000000, serial / took, alone / phase
+    # shellcheck disable=SC2086
+    set -- $took
+    alone=${alone:-$2}
+    beside=${beside:-$(($1 - $2))}
+    awk -v threads="$threads" -v entries="$(entries run)" -v counted="$counted" -v took="$1" -v phase="$2" -v work="$3" \
+        -v serial="$serial" -v alone="$alone" -v beside="$beside" 'BEGIN {
+        printf "| run | %d | %d | %.4f | %.4f | %.2f | %.2f | %.2f | %.2f |\n", threads, entries, took / 1000000, phase / 1000000, work / phase, serial / took, (serial - beside) / phase, alone / phase
         differ = entries > counted ? entries - counted : counted - entries
         slow = threads == 4 && (alone < 1.8 * phase || serial < 1.4 * took)
         exit differ > counted / 20 || slow

@@ -5,9 +5,15 @@ use samples::Gate;
 use std::alloc::Global;
 use std::sync::atomic::{AtomicU64, Ordering};
 use std::sync::{Arc, Wait};
-use std::thread;
+use std::time::Duration;
 
-/// A gate that says when it has begun to answer, and then waits until it may go on.
+// So often a wait looks, with so many milliseconds between: ten seconds in all.
+const LOOKS: u32 = 10000;
+
+const MILLIS_BETWEEN: u64 = 1;
+
+/// A gate that says when it has begun to answer (1), and then waits until it may go on, ten seconds at most. It says
+/// whether it might (2).
 #[derive(Drop)]
 pub struct Held<R: Wait + Send + Drop> {
     pub rt: R,
@@ -33,7 +39,9 @@ impl<R: Wait + Send + Drop> Machine for Held<R> {
 
     fn step(&mut self, guest: &u32) -> Result<(bool, bool), NoMemory> {
         self.begun.store(1, Ordering::SeqCst);
-        wait_for(&self.rt, &self.may);
+        if comes(&self.rt, &self.may) {
+            self.begun.store(2, Ordering::SeqCst);
+        }
         self.gate.step(guest)
     }
 
@@ -42,12 +50,13 @@ impl<R: Wait + Send + Drop> Machine for Held<R> {
     }
 }
 
-/// Waits until the flag is not 0.
-pub fn wait_for<R: Wait>(rt: &R, flag: &Arc<AtomicU64, Global>) {
-    for _ in rt.forever() {
+/// Waits until the flag is not 0, ten seconds at most, and says whether it is.
+pub fn comes<R: Wait>(rt: &R, flag: &Arc<AtomicU64, Global>) -> bool {
+    for _ in 0..LOOKS {
         if flag.load(Ordering::SeqCst) != 0 {
-            break;
+            return true;
         }
-        thread::yield_now();
+        flag.park_timeout(rt, 0, Duration::from_millis(MILLIS_BETWEEN));
     }
+    false
 }

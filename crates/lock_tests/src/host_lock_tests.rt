@@ -1,10 +1,10 @@
-// A host with two passes, each in a thread of its own.
+// Hosts whose passes are each in a thread of its own: one host with two of them, and two with one each.
 ghost use Rattle.std.specs.Prelude.{◌≡◌};
 ghost use Rattle.machine_trail.specs.History.{IsKept};
 ghost use Rattle.host_lock.specs.Hosts.{IsOf};
 ghost use Rattle.lock_tests.specs.Gates.{gate_reply, gate_stands};
 
-use crate::held::{Held, wait_for};
+use crate::held::{Held, comes};
 use host_lock::{Host, Pass, Tried};
 use ids_core::NoMemory;
 use machine_trail::{Kept, Machine};
@@ -53,7 +53,7 @@ fn meanwhile<R: Wait + Send + Drop>(
     requires { IsOf host.now pass }
     ensures { IsOf host.now result.1 × (result.1.number ≡ pass.number) }
 {
-    wait_for(rt, begun);
+    comes(rt, begun);
     let tried = tries(host, pass, &71);
     may.store(1, Ordering::SeqCst);
     tried
@@ -130,5 +130,62 @@ fn a_try_finds_the_call_of_the_other_pass(rt: HostRuntime) -> Result<(), Fail> {
     assert_eq!(rt; then, 0);
     assert_eq!(rt; before, 2);
     assert_eq!(rt; after, 3);
+    Ok(())
+}
+
+// What came out of two hosts, each asked once with its pass in a thread of its own: how many entries each one has.
+fn two_hosts<R: Threads + Wait + Send + Sync + Drop>(
+    rt: &R,
+    alloc: Global,
+    here: Held<R>,
+    there: Held<R>,
+) -> Option<(usize, usize)>
+    requires { (here.gate.inside ≡ 0) × (there.gate.inside ≡ 0) }
+{
+    let (one, mut ones) = Host::new(alloc, Kept::new(alloc, here), 1).ok()?;
+    let (other, mut others) = Host::new(alloc, Kept::new(alloc, there), 1).ok()?;
+    let first = ones.pop()?;
+    let second = others.pop()?;
+    let (mine, yours) = (&one, &other);
+    let (asked, also) = join(
+        rt,
+        move || -> (Option<bool>, Pass<Held<R>>)
+            requires { IsOf mine.now first }
+            ensures { IsOf mine.entry.now result.1 × (result.1.number ≡ first.number) }
+        { calls(rt, mine, first, &70) },
+        move || -> (Option<bool>, Pass<Held<R>>)
+            requires { IsOf yours.now second }
+            ensures { IsOf yours.entry.now result.1 × (result.1.number ≡ second.number) }
+        { calls(rt, yours, second, &71) },
+    );
+    ones.push(asked.1).ok()?;
+    others.push(also.1).ok()?;
+    let one = one.close(ones);
+    let other = other.close(others);
+    Some((one.trail.len(), other.trail.len()))
+}
+
+// One lock around all asks would keep each of the two from the answer that the other one waits in.
+#[test]
+fn two_hosts_answer_at_once(rt: HostRuntime) -> Result<(), Fail> {
+    let one = Arc::new(rt.alloc(), AtomicU64::new(0))?;
+    let other = Arc::new(rt.alloc(), AtomicU64::new(0))?;
+    let here = Held {
+        rt,
+        begun: Arc::try_clone(&one)?,
+        may: Arc::try_clone(&other)?,
+        gate: Gate::new(1),
+    };
+    let there = Held {
+        rt,
+        begun: Arc::try_clone(&other)?,
+        may: Arc::try_clone(&one)?,
+        gate: Gate::new(1),
+    };
+    let (asked, also) = two_hosts(&rt, rt.alloc(), here, there).ok_or("memory")?;
+    assert_eq!(rt; asked, 1);
+    assert_eq!(rt; also, 1);
+    assert_eq!(rt; one.load(Ordering::SeqCst), 2);
+    assert_eq!(rt; other.load(Ordering::SeqCst), 2);
     Ok(())
 }
