@@ -96,3 +96,14 @@ fn a_point_adds_up(rt: HostRuntime) -> Result<(), Fail> {
     let mut point = Point::new(rt.alloc(), 2)?;
     Ok(fold_all(&rt, rt.alloc(), &mut point, &a, &b)?)
 }
+
+#[test]
+fn a_point_is_made_again_of_its_parts(rt: HostRuntime) -> Result<(), Fail> {
+    let (a, b) = (counter("a")?, counter("b")?);
+    let mut point = Point::new(rt.alloc(), 2)?;
+    fold_all(&rt, rt.alloc(), &mut point, &a, &b)?;
+    let again = Point::of_parts(rt.alloc(), point.parts(rt.alloc())?)?;
+    assert!(rt; is_whole(&again));
+    assert!(rt; has(rt.alloc(), &again, &a, 7)? && has(rt.alloc(), &again, &b, 7)?);
+    Ok(())
+}

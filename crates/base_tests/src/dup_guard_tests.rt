@@ -40,3 +40,17 @@ fn dots_are_noted_by_client(rt: HostRuntime) -> Result<(), Fail> {
     assert!(rt; has(&guard, 0, 0, None) && has(&guard, 4, 0, None) && has(&guard, 1_025, 0, None));
     Ok(())
 }
+
+#[test]
+fn a_guard_is_made_again_of_its_parts(rt: HostRuntime) -> Result<(), Fail> {
+    let mut guard = Guard::new(rt.alloc())?;
+    let early = Stamp { centre: 1, seq: 5 };
+    let late = Stamp { centre: 2, seq: 7 };
+    assert!(rt; note(&mut guard, &early, &late));
+    let parts = guard.parts(rt.alloc())?;
+    assert!(rt; parts.len() == 2);
+    let again = Guard::of_parts(rt.alloc(), &parts)?;
+    assert!(rt; has(&again, 3, 2, Some(late)) && has(&again, 1_024, 1, Some(early)));
+    assert!(rt; has(&again, 4, 0, None));
+    Ok(())
+}

@@ -114,3 +114,12 @@ fn another_stamp_counts_too(rt: HostRuntime) -> Result<(), Fail> {
     take_all(&rt, &mut log, &a);
     Ok(())
 }
+
+#[test]
+fn a_log_is_made_again_of_its_parts(rt: HostRuntime) -> Result<(), Fail> {
+    let (a, b, c) = (counter("a")?, counter("b")?, counter("c")?);
+    let log = filled(rt.alloc(), &a, &b)?;
+    let again = Log::of_parts(rt.alloc(), log.parts()?)?;
+    show(&rt, &again, &a, &b, &c);
+    Ok(())
+}
