@@ -58,12 +58,12 @@ instructions() {
 head_of kind lines 'instructions of one' 'at most'
 for kind in ${*:-begin inc read aborts blocks mixed}; do
     case $kind in
-    begin) instructions '`c1 begin`' begin 1 900 ;;
-    inc) instructions '`c1 inc c.total 1`' inc 1 1150 ;;
-    read) instructions '`c1 read s.object_12`' read_set 1 1100 ;;
-    aborts) instructions aborts aborts 3 950 ;;
-    blocks) instructions blocks blocks 6 950 ;;
-    mixed) instructions mixed mixed 1 1200 ;;
+    begin) instructions '`c1 begin`' begin 1 550 ;;
+    inc) instructions '`c1 inc c.total 1`' inc 1 1200 ;;
+    read) instructions '`c1 read s.object_12`' read_set 1 1150 ;;
+    aborts) instructions aborts aborts 3 750 ;;
+    blocks) instructions blocks blocks 6 750 ;;
+    mixed) instructions mixed mixed 1 950 ;;
     *)
         echo "$kind is no kind of row" >&2
         exit 1
