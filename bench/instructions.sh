@@ -52,10 +52,10 @@ instructions() {
 head_of kind 'lines or asks' 'instructions of one' 'at most'
 for kind in ${*:-aborts blocks mixed settle}; do
     case $kind in
-    aborts) instructions aborts 1000 2000 3 2400 ;;
-    blocks) instructions blocks 1000 2000 6 6400 ;;
-    mixed) instructions mixed 4000 8000 1 5000 ;;
-    settle) instructions settle 1 11 224 3900 ;;
+    aborts) instructions aborts 1000 2000 3 2050 ;;
+    blocks) instructions blocks 1000 2000 6 6200 ;;
+    mixed) instructions mixed 4000 8000 1 4600 ;;
+    settle) instructions settle 1 11 224 3650 ;;
     *)
         echo "$kind is no kind of row" >&2
         exit 1
