@@ -1,4 +1,5 @@
 pub mod Work
+pub mod Reports
 pub mod Sends
 pub mod Inlets
 pub mod Brings

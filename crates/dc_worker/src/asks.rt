@@ -44,7 +44,8 @@ pub fn ask_only<D: Door>(door: &mut D, centre: u8, ask: Ask, log: &mut Log) -> R
 }
 
 // Notes an ask with an answer that no session hears. Nothing changes where memory is refused.
-fn note_unheard(log: &mut Log, centre: u8, ask: Ask, said: Say) -> Result<(), NoMemory>
+#[inline(always)]
+pub(crate) fn note_unheard(log: &mut Log, centre: u8, ask: Ask, said: Say) -> Result<(), NoMemory>
     ensures ok { OnOk result (log.new ≡ noted log.old (Asked centre ask (Unheard said))) }
     ensures err { OnErr result (log.new ≡ log.old) }
 {

@@ -11,6 +11,7 @@ mod laws;
 mod mails;
 mod news;
 mod relays;
+mod reports;
 mod rounds;
 mod sends;
 mod settling;

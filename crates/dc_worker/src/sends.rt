@@ -9,6 +9,7 @@ ghost use Rattle.dc_worker.specs.Sends.{AsksFor, IsNumbered, need_of, own_part, 
 
 use crate::asks::ask_unheard;
 use crate::ends::{send_end, stopped_end};
+use crate::reports::{Reported, ask_report};
 use dc_talk::{Ask, Door, Log, MOST_SENT, Records, Say, ShipEnd};
 use ids_core::NoMemory;
 use vv_core::Vector;
@@ -66,13 +67,13 @@ pub(crate) fn hand_on<D: Door>(
     ensures asks { IfOk result (λ handed. AddsSuch (λ deeds. AsksFor (route from to) (need_of need from) deeds handed) (acting (D.shown door.old) log.old) (acting (D.shown door.new) log.new)) }
     ensures short { OnErr result (IsCutShort (acting (D.shown door.old) log.old) (acting (D.shown door.new) log.new)) }
 {
-    match ask_unheard(door, to, Ask::Report, log)? {
-        Say::Vector { vector } => {
+    match ask_report(door, to, log)? {
+        Reported::Has(vector) => {
             let ask = ask_of(need, from, &vector);
             let say = ask_unheard(door, from, ask, log)?;
             Ok(handed_of(from, say))
         }
-        say => Ok(Handed::Ended(stopped_end(to, &say))),
+        Reported::Else(say) => Ok(Handed::Ended(stopped_end(to, &say))),
     }
 }
 

@@ -7,7 +7,8 @@ ghost use Rattle.dc_worker.specs.Work.{CarriesSuch};
 
 use crate::asks::ask_unheard;
 use crate::ends::tell_line;
-use dc_talk::{Ask, Door, Line, Log, Say};
+use crate::reports::{Reported, ask_report};
+use dc_talk::{Ask, Door, Line, Log};
 use ids_core::NoMemory;
 
 /// Tells a centre what another one has. Both are behind the door. Answers the line that this has, which is none
@@ -25,11 +26,11 @@ pub fn tell<D: Door>(
     ensures tells { IfOk result (λ line. CarriesSuch (λ deeds. Tells (route from to) deeds line) (acting (D.shown door.old) log.old) (acting (D.shown door.new) log.new)) }
     ensures short { OnErr result (IsCutShort (acting (D.shown door.old) log.old) (acting (D.shown door.new) log.new)) }
 {
-    match ask_unheard(door, from, Ask::Report, log)? {
-        Say::Vector { vector } => {
+    match ask_report(door, from, log)? {
+        Reported::Has(vector) => {
             let say = ask_unheard(door, to, Ask::Learn { from, vector }, log)?;
             Ok(tell_line(from, to, to, &say))
         }
-        say => Ok(tell_line(from, to, from, &say)),
+        Reported::Else(say) => Ok(tell_line(from, to, from, &say)),
     }
 }
