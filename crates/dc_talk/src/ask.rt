@@ -48,6 +48,8 @@ pub enum Ask {
 impl Clone for Ask {
     ghost is_clone = { λ old new. new ≡ old };
 
+    // Inlined, so that a copy is written to the place where it is kept: an ask is large to hand over.
+    #[inline(always)]
     fn clone(&self) -> Result<Ask, AllocError> {
         match self {
             Ask::Hello { client, need } => Ok(Ask::Hello {
@@ -96,6 +98,7 @@ impl Ask {
     ghost use Rattle.dc_talk.specs.Answers.{fits};
 
     /// An equal ask. Nothing changes where memory is refused.
+    #[inline(always)]
     pub fn copy(&self) -> Result<Ask, NoMemory>
         ensures { IfOk result (λ copy. copy ≡ self.now) }
     {

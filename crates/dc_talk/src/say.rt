@@ -117,6 +117,8 @@ pub enum Say {
 impl Clone for Say {
     ghost is_clone = { λ old new. new ≡ old };
 
+    // Inlined, so that a copy is written to the place where it is kept: an answer is large to hand over.
+    #[inline(always)]
     fn clone(&self) -> Result<Say, AllocError> {
         match self {
             Say::Misfit => Ok(Say::Misfit),
@@ -179,6 +181,7 @@ impl Clone for Say {
 
 impl Say {
     /// An equal answer. Nothing changes where memory is refused.
+    #[inline(always)]
     pub fn copy(&self) -> Result<Say, NoMemory>
         ensures { IfOk result (λ copy. copy ≡ self.now) }
     {

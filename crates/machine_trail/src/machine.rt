@@ -115,12 +115,15 @@ impl<A: Drop, Y: Drop> Trail<A, Y> {
 
     /// Puts an entry at the end. Where there is room it takes no memory. After an `Err` the entries are as they
     /// were.
+    // Where the ask and the reply are made they are written to their place at once: both are large to hand over.
+    #[inline(always)]
     pub fn push(&mut self, caller: u32, ask: A, say: Y) -> Result<(), NoMemory>
         ensures added { OnOk result (self.new.entries ≡ self.old.entries ++ entry caller ask say ∷ []) }
         ensures sure { 0 < self.old.spare → IsOk result }
         ensures none { OnErr result (self.new.entries ≡ self.old.entries) }
     {
-        self.items.push(Entry { caller, ask, say })?;
+        self.items.reserve(1)?;
+        self.items.push_reserved(Entry { caller, ask, say });
         Ok(())
     }
 }
