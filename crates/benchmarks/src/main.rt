@@ -1,5 +1,5 @@
-//! What the benchmarks time, by the first word: `sets`, `session`, `centre`, `log`, `frames` or `lock`. Each of these modules
-//! says which words follow. A number is printed, by which a script knows that the work was done.
+//! What the benchmarks time, by the first word: `sets`, `session`, `centre`, `log`, `frames`, `lock` or `taps`. Each of these
+//! modules says which words follow. A number is printed, by which a script knows that the work was done.
 #![tactic(auto)]
 
 mod centre;
@@ -10,6 +10,7 @@ mod lock;
 mod log;
 mod session;
 mod sets;
+mod taps;
 
 use fault::Fault;
 use std::alloc::Global;
@@ -35,6 +36,7 @@ fn worked<R: Threads + Wait + Sync>(
                 session::worked(alloc, form.as_str(), pending.as_str(), rounds.as_str())
             }
             "lock" => { lock::worked(rt, alloc, form.as_str(), pending.as_str(), rounds.as_str()) }
+            "taps" => { taps::worked(rt, alloc, form.as_str(), pending.as_str(), rounds.as_str()) }
             "log" => log::worked(alloc, form.as_str(), pending.as_str(), rounds.as_str()),
             "frames" => { frames::worked(alloc, form.as_str(), pending.as_str(), rounds.as_str()) }
             _ => None,
