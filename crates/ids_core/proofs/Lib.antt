@@ -3,3 +3,4 @@ pub mod Ascending
 pub mod Distinct
 pub mod Folds
 pub mod Dots
+pub mod Names

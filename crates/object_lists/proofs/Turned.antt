@@ -1,5 +1,5 @@
 -- The lists of objects after one of them changed.
-use Rattle.std.proofs.Common.{◌≡◌, ◌⊎◌, inl, inr, Bool, true, false, cond, Option, Some, None, List, [], sym, ap, ◌∙◌, subst}
+use Rattle.std.proofs.Common.{◌≡◌, ◌⊎◌, inl, inr, Bool, true, false, cond, Option, None, List, [], sym, ap, ◌∙◌, subst}
 use Rattle.std.specs.List.Retain.{IsFiltered}
 use Rattle.std.specs.Map.{lookup}
 use Rattle.std.specs.BTreeMap.{is_at}
@@ -27,11 +27,11 @@ module _ {T : Type 0} where
   turned_apart es fs k w t q apart = ap items_of (t q ∙ ap (λ b. cond b w (lookup (is_at (object_cmp q)) es)) apart)
 
   -- a list without items that is taken away
-  pub cleared : (es fs : List (ObjectId × List T)) (k : ObjectId) (items : List T) → lookup (is_at (object_cmp k)) es ≡ Some items → items ≡ [] → Turns es fs k None → (q : ObjectId) → listed fs q ≡ listed es q
-  cleared es fs k items there bare t q = at (cases_Bool (is_at (object_cmp k) q))
+  pub cleared : (es fs : List (ObjectId × List T)) (k : ObjectId) → listed es k ≡ [] → Turns es fs k None → (q : ObjectId) → listed fs q ≡ listed es q
+  cleared es fs k bare t q = at (cases_Bool (is_at (object_cmp k) q))
     where
       at : (is_at (object_cmp k) q ≡ true) ⊎ (is_at (object_cmp k) q ≡ false) → listed fs q ≡ listed es q
-      at (inl e) = ap items_of (t q ∙ ap (λ b. cond b None (lookup (is_at (object_cmp q)) es)) e) ∙ sym (ap (λ p. items_of (lookup (is_at (object_cmp p)) es)) (sym (same_at k q e)) ∙ ap items_of there ∙ bare)
+      at (inl e) = ap items_of (t q ∙ ap (λ b. cond b None (lookup (is_at (object_cmp q)) es)) e) ∙ sym (ap (listed es) (sym (same_at k q e)) ∙ bare)
       at (inr e) = turned_apart es fs k None t q e
 
 -- what is left of a list, said of lists that are the same

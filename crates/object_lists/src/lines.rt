@@ -1,5 +1,6 @@
 // The items of all objects, found by the object.
 ghost use Rattle.std.specs.Prelude.{◌≡◌, ◌++◌, ◌∷◌, ◌-◌, [], false, drop, take, length, OnOk, OnErr};
+ghost use Rattle.std.specs.Bool.{OnTrue};
 ghost use Rattle.std.specs.Fn.{CalledAt};
 ghost use Rattle.std.specs.List.Retain.{IsFiltered};
 ghost use Rattle.std.specs.BTreeMap.{is_at};
@@ -47,50 +48,60 @@ pub(crate) fn put_at<T: Drop>(
     }
 }
 
-// Takes the first item of an object away, where there is one.
-pub(crate) fn drop_first_at<T: Drop>(lines: &mut Lines<T>, object: &ObjectId)
+// Takes the first item of an object away, where there is one: whether it has a line that is left with none.
+pub(crate) fn drop_first_at<T: Drop>(lines: &mut Lines<T>, object: &ObjectId) -> bool
+    ensures bare { OnTrue result (listed lines.new.entries object.now ≡ []) }
     ensures there { listed lines.new.entries object.now ≡ drop 1 (listed lines.old.entries object.now) }
     ensures apart { (o : ObjectId) → is_at (object_cmp object.now) o ≡ false → listed lines.new.entries o ≡ listed lines.old.entries o }
 {
-    if let Some(line) = lines.get_mut(object) {
-        line.drop_first();
+    match lines.get_mut(object) {
+        Some(line) => {
+            line.drop_first();
+            line.is_empty()
+        }
+        None => false,
     }
 }
 
-// Takes the last item of an object away, where there is one.
-pub(crate) fn drop_last_at<T: Drop>(lines: &mut Lines<T>, object: &ObjectId)
+// Takes the last item of an object away, where there is one: whether it has a line that is left with none.
+pub(crate) fn drop_last_at<T: Drop>(lines: &mut Lines<T>, object: &ObjectId) -> bool
+    ensures bare { OnTrue result (listed lines.new.entries object.now ≡ []) }
     ensures there { listed lines.new.entries object.now ≡ take (length (listed lines.old.entries object.now) - 1) (listed lines.old.entries object.now) }
     ensures apart { (o : ObjectId) → is_at (object_cmp object.now) o ≡ false → listed lines.new.entries o ≡ listed lines.old.entries o }
 {
-    if let Some(line) = lines.get_mut(object) {
-        line.drop_last();
+    match lines.get_mut(object) {
+        Some(line) => {
+            line.drop_last();
+            line.is_empty()
+        }
+        None => false,
     }
 }
 
-// Leaves of the items of an object those that pass.
+// Leaves of the items of an object those that pass: whether it has a line that is left with none.
 pub(crate) fn retain_at<T: Drop, F: FnMut(&T) -> bool>(
     lines: &mut Lines<T>,
     object: &ObjectId,
     keeps: F,
-)
+) -> bool
     requires { F.IsAlwaysCallable keeps }
+    ensures bare { OnTrue result (listed lines.new.entries object.now ≡ []) }
     ensures there { IsFiltered (CalledAt F.FnMut) keeps (listed lines.old.entries object.now) (listed lines.new.entries object.now) }
     ensures apart { (o : ObjectId) → is_at (object_cmp object.now) o ≡ false → listed lines.new.entries o ≡ listed lines.old.entries o }
 {
-    if let Some(line) = lines.get_mut(object) {
-        line.retain(keeps);
+    match lines.get_mut(object) {
+        Some(line) => {
+            line.retain(keeps);
+            line.is_empty()
+        }
+        None => false,
     }
 }
 
-// Takes the line of an object away, where it has no item.
-pub(crate) fn clear_at<T: Drop>(lines: &mut Lines<T>, object: &ObjectId)
+// Takes the line of an object away, which has no item.
+pub(crate) fn remove_at<T: Drop>(lines: &mut Lines<T>, object: &ObjectId)
+    requires { listed lines.old.entries object.now ≡ [] }
     ensures { (o : ObjectId) → listed lines.new.entries o ≡ listed lines.old.entries o }
 {
-    let empty = match lines.get(object) {
-        Some(line) => line.is_empty(),
-        None => false,
-    };
-    if empty {
-        lines.remove(object);
-    }
+    lines.remove(object);
 }

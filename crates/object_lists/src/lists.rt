@@ -6,7 +6,7 @@ ghost use Rattle.ids_core.specs.Ids.{same_object};
 ghost use Rattle.ids_core.specs.declared.object.ObjectId.{ObjectId};
 ghost use Rattle.object_lists.specs.Listed.{listed};
 
-use crate::lines::{Lines, clear_at, drop_first_at, drop_last_at, items_at, put_at, retain_at};
+use crate::lines::{Lines, drop_first_at, drop_last_at, items_at, put_at, remove_at, retain_at};
 use ids_core::{NoMemory, ObjectId};
 use std::alloc::Global;
 use std::collections::BTreeMap;
@@ -64,8 +64,9 @@ impl<T: Drop> ObjectLists<T> {
         ensures there { listed self.new object.now ≡ drop 1 (listed self.old object.now) }
         ensures apart { (o : ObjectId) → same_object object.now o ≡ false → listed self.new o ≡ listed self.old o }
     {
-        drop_first_at(&mut self.lines, object);
-        clear_at(&mut self.lines, object);
+        if drop_first_at(&mut self.lines, object) {
+            remove_at(&mut self.lines, object);
+        }
     }
 
     /// Takes the last item of an object away, where there is one. It takes no memory.
@@ -74,8 +75,9 @@ impl<T: Drop> ObjectLists<T> {
         ensures there { listed self.new object.now ≡ take (length (listed self.old object.now) - 1) (listed self.old object.now) }
         ensures apart { (o : ObjectId) → same_object object.now o ≡ false → listed self.new o ≡ listed self.old o }
     {
-        drop_last_at(&mut self.lines, object);
-        clear_at(&mut self.lines, object);
+        if drop_last_at(&mut self.lines, object) {
+            remove_at(&mut self.lines, object);
+        }
     }
 
     /// Leaves of the items of an object those that pass. It takes no memory. Time: a step for each item of
@@ -86,7 +88,8 @@ impl<T: Drop> ObjectLists<T> {
         ensures there { IsFiltered (CalledAt F.FnMut) keeps (listed self.old object.now) (listed self.new object.now) }
         ensures apart { (o : ObjectId) → same_object object.now o ≡ false → listed self.new o ≡ listed self.old o }
     {
-        retain_at(&mut self.lines, object, keeps);
-        clear_at(&mut self.lines, object);
+        if retain_at(&mut self.lines, object, keeps) {
+            remove_at(&mut self.lines, object);
+        }
     }
 }

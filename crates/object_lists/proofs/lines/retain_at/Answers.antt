@@ -17,7 +17,7 @@ returns-in-Some-clause-apart g c =
     let t = (c.get_mut.follows.holds c.retain.new.self).3 (subst IsSome (sym there) refl) in
     turned_apart _ _ _ _ t.0
 
-pub returns-in_default-clause-there : goal.returns-in_default-clause-there
-returns-in_default-clause-there g c =
-    let none = ap items_of (sym c.in_default.ensures.value) in
+pub returns-in-None-clause-there : goal.returns-in-None-clause-there
+returns-in-None-clause-there g c =
+    let none = ap items_of (sym c.in-None.ensures.value) in
     filtered_same (CalledAt g.F.FnMut) c.args.keeps _ _ [] [] none (ap (λ lines. listed lines.entries c.args.object.now) c.get_mut.follows.holds-at-none ∙ none) ([], c.args.keeps, refl, refl, refl)
