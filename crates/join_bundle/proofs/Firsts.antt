@@ -2,7 +2,7 @@
 use Rattle.std.proofs.Common.{◌≡◌, Bool, true, false, not, cond, inl, inr, ⊎_elim, Some, None, List, [], ◌∷◌, ◌++◌, All, refl, sym, ap, ◌∙◌, subst}
 use Rattle.std.specs.Bool.{Decides}
 use Rattle.std.proofs.lemmas.Bool.{false≢true}
-use Rattle.std.proofs.lemmas.List.Elements.{All-nil, All-cons}
+use Rattle.std.proofs.lemmas.List.Elements.{All-nil, All-cons, All-head, All-tail}
 use Rattle.list_core.specs.Members.{In}
 use Rattle.list_core.specs.Firsts.{first_that}
 use Rattle.join_bundle.specs.declared.condition.Condition.{Condition}
@@ -74,3 +74,16 @@ pub broken_of : (p : BundleParts) (condition : Condition) → first_failed p ≡
 broken_of p condition some =
     let f = first_fails (λ c. passes c p) (λ c. Meets c p) (λ c. tells c p) order condition some in
     record { before = f.before; after = f.after; place = f.place; met = f.met; broken = f.broken }
+
+-- in one list, two elements that do not hold, behind elements that do, are the same
+one_first : {X : Type 0} (P : X → Type 0) (before others after rest : List X) (x y : X) → before ++ x ∷ after ≡ others ++ y ∷ rest → All P before → (P x → ⊥) → All P others → (P y → ⊥) → x ≡ y
+one_first P [] [] after rest x y is met broken also fails = cc
+one_first P [] (z ∷ others) after rest x y is met broken also fails = let same : x ≡ z = cc in absurd (broken (subst P (sym same) (All-head P z others also)))
+one_first P (z ∷ before) [] after rest x y is met broken also fails = let same : z ≡ y = cc in absurd (fails (subst P same (All-head P z before met)))
+one_first P (z ∷ before) (w ∷ others) after rest x y is met broken also fails =
+    let behind : before ++ x ∷ after ≡ others ++ y ∷ rest = cc in
+    one_first P before others after rest x y behind (All-tail P z before met) broken (All-tail P w others also) fails
+
+-- parts break one condition first
+pub one_broken : (p : BundleParts) (condition other : Condition) → IsFirstBroken p condition → IsFirstBroken p other → condition ≡ other
+one_broken p condition other a b = one_first (λ c. Meets c p) a.before b.before a.after b.after condition other (sym a.place ∙ b.place) a.met a.broken b.met b.broken

@@ -6,6 +6,7 @@ mod bundle;
 mod clients;
 mod condition;
 mod conditions;
+mod laws;
 mod part;
 mod rest;
 mod states;
@@ -13,4 +14,5 @@ mod vectors;
 
 pub use bundle::{Bundle, Cause, Refused};
 pub use condition::{CONDITIONS, Condition, MOST_DEPTH};
+pub use laws::law_first_broken;
 pub use part::{BundleParts, ClientPart, ClientParts, Rows};
