@@ -11,6 +11,8 @@ mod ids_core_tests;
 #[cfg(test)]
 mod io_edge_tests;
 #[cfg(test)]
+mod join_bundle_tests;
+#[cfg(test)]
 mod journal_file_tests;
 #[cfg(test)]
 mod k_stable_tests;
