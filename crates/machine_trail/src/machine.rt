@@ -104,10 +104,11 @@ impl<A: Drop, Y: Drop> Trail<A, Y> {
         }
     }
 
-    /// Takes room for one more entry. The entries stay as they are, also after an `Err`.
+    /// Takes room for one more entry, where there is none. The entries stay as they are, also after an `Err`.
     pub fn room(&mut self) -> Result<(), NoMemory>
         ensures same { self.new.entries ≡ self.old.entries }
         ensures room { OnOk result (0 < self.new.spare) }
+        ensures sure { 0 < self.old.spare → IsOk result }
     {
         self.items.reserve(1)?;
         Ok(())
@@ -122,7 +123,7 @@ impl<A: Drop, Y: Drop> Trail<A, Y> {
         ensures sure { 0 < self.old.spare → IsOk result }
         ensures none { OnErr result (self.new.entries ≡ self.old.entries) }
     {
-        self.items.reserve(1)?;
+        self.room()?;
         self.items.push_reserved(Entry { caller, ask, say });
         Ok(())
     }
