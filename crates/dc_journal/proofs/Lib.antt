@@ -4,3 +4,5 @@ pub mod Replaying
 pub mod Reading
 pub mod Keeping
 pub mod Opened
+pub mod Stepping
+pub mod Published

@@ -27,11 +27,11 @@ use vv_core::Vector;
 /// shut. It keeps no trail.
 #[derive(Drop)]
 pub struct JournalCentre<D: Disk> {
-    alloc: Global,
-    me: u8,
-    n: u8,
-    centre: Centre,
-    journal: Journal<D>,
+    pub(crate) alloc: Global,
+    pub(crate) me: u8,
+    pub(crate) n: u8,
+    pub(crate) centre: Centre,
+    pub(crate) journal: Journal<D>,
     ghost own: { centre.settings.me ≡ me },
     ghost among: { centre.settings.n ≡ n },
     ghost there: { (1 ≤ me) × (me ≤ n) },
@@ -179,7 +179,7 @@ impl<D: Disk> JournalCentre<D> {
     }
 
     // Answers an ask that no journal keeps.
-    fn answer(&mut self, ask: &Ask) -> Result<Say, JournalFault>
+    pub(crate) fn answer(&mut self, ask: &Ask) -> Result<Say, JournalFault>
         requires { is_kept_by (settings_of self.old) ask.now ≡ false }
         ensures journal { self.new.journal ≡ self.old.journal }
         ensures settings { settings_of self.new ≡ settings_of self.old }
@@ -192,7 +192,7 @@ impl<D: Disk> JournalCentre<D> {
     }
 
     // Whether the ask may have a reply that is kept.
-    fn may_keep(&self, ask: &Ask) -> bool
+    pub(crate) fn may_keep(&self, ask: &Ask) -> bool
         ensures { result ≡ is_kept_by (settings_of self.now) ask.now }
     {
         is_kind(ask) && ask.fits(self.n)

@@ -1,6 +1,8 @@
 //! A data centre whose steps are kept in a journal on a disk: what it answered outlives a crash at any moment.
 #![tactic(auto)]
 
+mod asking;
+mod batch;
 mod journal_centre;
 mod laws;
 mod opening;
