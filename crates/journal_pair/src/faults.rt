@@ -1,0 +1,51 @@
+// Why two files were not opened.
+ghost use Rattle.std.specs.Prelude.{◌≡◌};
+ghost use Rattle.journal_pair.specs.declared.faults.PairFault.TheVariants.{NoMemory};
+ghost use Rattle.journal_pair.specs.Faults.{IsBadPair};
+
+use journal_file::{JournalFault, OpenFault};
+use std::alloc::{AllocError, AllocFailed};
+
+/// One of two files, in the order in which they were given.
+#[derive(Clone, Copy, Debug, PartialEq, Eq)]
+pub enum Side {
+    First,
+    Second,
+}
+
+/// Why two files were not opened: one is no journal, or its entries are no generation; neither has a generation, or both
+/// have that of one number; or memory was not found.
+#[derive(Clone, Copy, Debug, PartialEq, Eq)]
+pub enum PairFault {
+    File(Side, OpenFault),
+    Mixed(Side),
+    Empty,
+    Same,
+    NoMemory,
+}
+
+impl From<AllocError> for PairFault {
+    ghost from_gives = { λ _ e. e ≡ NoMemory };
+
+    fn from(_: AllocError) -> Self {
+        PairFault::NoMemory
+    }
+}
+
+impl<T: Drop> From<AllocFailed<T>> for PairFault {
+    ghost from_gives = { λ _ e. e ≡ NoMemory };
+
+    fn from(_: AllocFailed<T>) -> Self {
+        PairFault::NoMemory
+    }
+}
+
+/// What a fault of the first entry of the first file makes of a pair: the files are not bad.
+pub fn start_fault(fault: JournalFault) -> PairFault
+    ensures { IsBadPair result → ⊥ }
+{
+    match fault {
+        JournalFault::Disk => PairFault::File(Side::First, OpenFault::Disk),
+        JournalFault::NoMemory | JournalFault::Shut => PairFault::NoMemory,
+    }
+}
