@@ -5,4 +5,4 @@ pub returns-clause-long : goal.returns-clause-long
 returns-clause-long g c = λ mark end other_end size h k checkpoint behind at. live_long g.T.Item.spelled mark end other_end size h k checkpoint behind at
 
 pub returns-clause-most : goal.returns-clause-most
-returns-clause-most g c = λ mark end other_end size next h k l checkpoint behind items at later most. most_long g.T.Item.spelled mark end other_end size next h k l checkpoint behind items at later most
+returns-clause-most g c = λ mark end other_end size next h k l checkpoint behind items at later most. most_long g.T.Item.spelled mark end other_end size next h k l checkpoint behind items 4096 at later most
