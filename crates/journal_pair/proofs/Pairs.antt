@@ -1,8 +1,8 @@
 -- Two files, of which one goes on while the other stays.
 use Rattle.std.proofs.Common.{◌≡◌, ◌<◌, ◌+◌, ◌⊎◌, inl, inr, ℕ, Bool, true, false, ◌||◌, List, [], ◌∷◌, ◌++◌, map, Result, Ok, Err, MatchResult, OnErr, IfOk, IfErr, refl, sym, ◌∙◌, ap, subst, arith}
 use Rattle.journal_disk.specs.declared.disk.Moment.{Moment}
-use Rattle.journal_disk.specs.Disk.{seen, MayLeave, Always, IsSettled, Ran}
-use Rattle.journal_disk.proofs.Histories.{ran_none, ran_more, ran_weaker, always_weaker}
+use Rattle.journal_disk.specs.Disk.{MayLeave, Always, Ran}
+use Rattle.journal_disk.proofs.Histories.{ran_none, ran_weaker, always_weaker}
 use Rattle.journal_file.specs.Journal.{IsAt, IsEither, FileOf, Found}
 use Rattle.journal_file.proofs.Items.{at_file}
 use Rattle.journal_pair.specs.declared.mark.Mark.{Mark}
@@ -139,35 +139,26 @@ module _ {T : Type 0} (spelled : T → List ℕ) where
     found_one one two Q S stands ends first = found_both one two Q (λ m. m ≡ k) S (λ l m q is. subst (S l) (sym is) (ends l q)) first
         (ran_none two k (Found (entry_bytes spelled) ys k) (λ c left. inl left) (λ m. m ≡ k) stands refl)
 
--- both were made, and then the first generation was begun in the one
-pub created : (mid_live mid_other live other : List Moment → Type 0) (h k : List Moment) (S : List Moment → List Moment → Type 0)
-    → Ran mid_live h (λ _. Unit {0}) (λ l. (IsSettled l) × (seen l ≡ 0 ∷ [])) → Ran mid_other k (λ _. Unit {0}) (λ l. (IsSettled l) × (seen l ≡ 0 ∷ []))
-    → ((h1 k1 : List Moment) → mid_live h1 → mid_other k1 → (IsSettled h1) × (seen h1 ≡ 0 ∷ []) → (IsSettled k1) × (seen k1 ≡ 0 ∷ []) → (Ran live h1 (λ _. Unit {0}) (λ l. S l k1)) × (other k1))
-    → RanBoth live other h k (λ _ _. Unit {0}) S
-created mid_live mid_other live other h k S first second then =
-    let k1 = second.later ++ k in
-    let both = then (first.later ++ h) k1 first.stands_for second.stands_for first.ends second.ends in
-    ran_weaker live h (λ _. Unit {0}) (λ x. (y : List ℕ) → MayLeave k y → Unit {0}) (λ l. S l k1) (λ l. RanBeside other k l (λ _ _. Unit {0}) (λ m. S l m)) (λ c _ y _. tt)
-    (λ l s. record {
-      later = second.later;
-      stands_for = both.1;
-      always = always_weaker (λ _. Unit {0}) (λ y. (x : List ℕ) → MayLeave l x → Unit {0}) second.later k (λ c _ x _. tt) second.always;
-      ends = s;
-    })
-    (ran_more mid_live live h (λ _. Unit {0}) (λ l. (IsSettled l) × (seen l ≡ 0 ∷ [])) (λ l. S l k1) first (λ h1 s q. (then h1 k1 s second.stands_for q second.ends).0))
+-- the one was begun, and the other one was made
+pub created : (live other : List Moment → Type 0) (h k : List Moment) (Q R : List Moment → Type 0) (S : List Moment → List Moment → Type 0) → ((l m : List Moment) → Q l → R m → S l m)
+    → Ran live h (λ _. Unit {0}) Q → Ran other k (λ _. Unit {0}) R → RanBoth live other h k (λ _ _. Unit {0}) S
+created live other h k Q R S ends first second = record {
+  later = first.later;
+  stands_for = first.stands_for;
+  always = always_weaker (λ _. Unit {0}) (λ x. (y : List ℕ) → MayLeave k y → Unit {0}) first.later h (λ c _ y _. tt) first.always;
+  ends = ran_weaker other k (λ _. Unit {0}) (λ y. (x : List ℕ) → MayLeave (first.later ++ h) x → Unit {0}) R (λ m. S (first.later ++ h) m) (λ c _ x _. tt) (λ m made. ends (first.later ++ h) m first.ends made) second;
+}
 
 -- the first generation was begun
-pub started : {T : Type 0} (spelled : T → List ℕ) (mark : Mark) (put : List (Entry T)) → put ≡ generation mark [] [] → (last other_end long : ℕ) (l k : List Moment) → long ≡ last + 1
-    → IsAt (entry_bytes spelled) other_end k [] → IsAt (entry_bytes spelled) last l put → AreAt spelled mark last other_end long l k [] []
-started spelled mark put put_is last other_end long l k is other file =
-    let live : IsAt (entry_bytes spelled) last l (generation mark [] []) = subst (IsAt (entry_bytes spelled) last l) put_is file in
-    record {
-      earlier = [];
-      live = live;
-      other = other;
-      before = inl refl;
-      size_is = omega (arith, is, live.place, entries_length (entry_bytes spelled) (generation mark [] []) live.front live.entries);
-    }
+pub started : {T : Type 0} (spelled : T → List ℕ) (mark : Mark) (last other_end long : ℕ) (l k : List Moment) → long ≡ last + 1
+    → IsAt (entry_bytes spelled) last l (generation mark [] []) → IsAt (entry_bytes spelled) other_end k [] → AreAt spelled mark last other_end long l k [] []
+started spelled mark last other_end long l k is live other = record {
+  earlier = [];
+  live = live;
+  other = other;
+  before = inl refl;
+  size_is = omega (arith, is, live.place, entries_length (entry_bytes spelled) (generation mark [] []) live.front live.entries);
+}
 
 -- what an answer has has what follows
 pub on_if_ok : {A E : Type 0} (P Q : A → Type 0) (r : Result A E) → ((x : A) → P x → Q x) → IfOk r P → IfOk r Q

@@ -1,5 +1,5 @@
 -- Two files stand for one state, and how long the live one is.
-use Rattle.std.proofs.Common.{◌≡◌, ◌<◌, ◌≤◌, ◌+◌, ◌*◌, inl, inr, ℕ, List, [], ◌++◌, length, map, refl, sym, ◌∙◌, ap, subst, arith, length-append}
+use Rattle.std.proofs.Common.{◌≡◌, ◌<◌, ◌≤◌, ◌+◌, ◌*◌, ◌⊎◌, inl, inr, ℕ, List, [], ◌++◌, length, map, refl, sym, ◌∙◌, ap, subst, arith, length-append}
 use Rattle.std.proofs.lemmas.List.{map-append}
 use Rattle.journal_disk.specs.declared.disk.Moment.{Moment}
 use Rattle.journal_disk.specs.Disk.{seen, MayLeave}
@@ -52,10 +52,15 @@ module _ {T : Type 0} where
         omega (arith, at.live.place, whole, split, at.size_is, length-append (opened (entry_bytes spelled) begun) (opened (entry_bytes spelled) (map Behind behind)))
 
   module _ (spelled : T → List ℕ) (mark : Mark) (end other_end size next : ℕ) (h k l : List Moment) (checkpoint behind items : List T) where
-    pub most_long : AreAt spelled mark end other_end size h k checkpoint behind → AreAt spelled mark next other_end size l k checkpoint (behind ++ items) → end + 1 ≤ 2 * size → next + 1 ≤ 2 * size + size_of spelled (map Behind items)
-    most_long at later most =
+    more_long : AreAt spelled mark end other_end size h k checkpoint behind → AreAt spelled mark next other_end size l k checkpoint (behind ++ items) → next + 1 ≡ (end + 1) + size_of spelled (map Behind items)
+    more_long at later =
         let old : end + 1 ≡ size + size_of spelled (map Behind behind) = live_long spelled mark end other_end size h k checkpoint behind at in
         let new : next + 1 ≡ size + size_of spelled (map Behind (behind ++ items)) = live_long spelled mark next other_end size l k checkpoint (behind ++ items) later in
         let split : size_of spelled (map Behind (behind ++ items)) ≡ length (opened (entry_bytes spelled) (map Behind behind) ++ opened (entry_bytes spelled) (map Behind items)) =
         ap (size_of spelled) (map-append Behind behind items) ∙ ap length (opened_append (entry_bytes spelled) (map Behind behind) (map Behind items)) in
-        omega (arith, old, new, split, most, length-append (opened (entry_bytes spelled) (map Behind behind)) (opened (entry_bytes spelled) (map Behind items)))
+        omega (arith, old, new, split, length-append (opened (entry_bytes spelled) (map Behind behind)) (opened (entry_bytes spelled) (map Behind items)))
+
+    pub most_long : (floor : ℕ) → AreAt spelled mark end other_end size h k checkpoint behind → AreAt spelled mark next other_end size l k checkpoint (behind ++ items) → (end + 1 ≤ floor) ⊎ (end + 1 ≤ 2 * size)
+        → (next + 1 ≤ floor + size_of spelled (map Behind items)) ⊎ (next + 1 ≤ 2 * size + size_of spelled (map Behind items))
+    most_long floor at later (inl most) = inl (omega (arith, more_long at later, most))
+    most_long floor at later (inr most) = inr (omega (arith, more_long at later, most))

@@ -1,9 +1,8 @@
 // Why two files were not opened.
 ghost use Rattle.std.specs.Prelude.{◌≡◌};
 ghost use Rattle.journal_pair.specs.declared.faults.PairFault.TheVariants.{NoMemory};
-ghost use Rattle.journal_pair.specs.Faults.{IsBadPair};
 
-use journal_file::{JournalFault, OpenFault};
+use journal_file::OpenFault;
 use std::alloc::{AllocError, AllocFailed};
 
 /// One of two files, in the order in which they were given.
@@ -37,15 +36,5 @@ impl<T: Drop> From<AllocFailed<T>> for PairFault {
 
     fn from(_: AllocFailed<T>) -> Self {
         PairFault::NoMemory
-    }
-}
-
-/// What a fault of the first entry of the first file makes of a pair: the files are not bad.
-pub fn start_fault(fault: JournalFault) -> PairFault
-    ensures { IsBadPair result → ⊥ }
-{
-    match fault {
-        JournalFault::Disk => PairFault::File(Side::First, OpenFault::Disk),
-        JournalFault::NoMemory | JournalFault::Shut => PairFault::NoMemory,
     }
 }

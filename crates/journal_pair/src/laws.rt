@@ -1,10 +1,11 @@
 // What a pair is between its calls, and how long its live file is.
-ghost use Rattle.std.specs.Prelude.{◌≡◌, ◌+◌, ◌*◌, ◌≤◌, ◌++◌, [], true, List, ℕ, map};
+ghost use Rattle.std.specs.Prelude.{◌≡◌, ◌+◌, ◌*◌, ◌≤◌, ◌⊎◌, ◌++◌, [], true, List, ℕ, map};
 ghost use Rattle.journal_disk.specs.declared.disk.Moment.{Moment};
 ghost use Rattle.journal_disk.specs.Disk.{seen, is_sound, MayLeave};
 ghost use Rattle.journal_pair.specs.declared.mark.Mark.{Mark};
 ghost use Rattle.journal_pair.specs.declared.entry.Entry.{Entry};
 ghost use Rattle.journal_pair.specs.declared.entry.Entry.TheVariants.{Behind};
+ghost use Rattle.journal_pair.specs.declared.pair.TheConstants.{FLOOR};
 ghost use Rattle.journal_pair.specs.Entries.{generation, ArePair};
 ghost use Rattle.journal_pair.specs.Files.{AreAt, PairOf, HasEntries, FoundBoth, size_of};
 
@@ -23,8 +24,8 @@ pub fn law_one_state<T: Item>()
 {}
 
 /// The live file is as long as it was with its checkpoint alone, and the entries behind that. Where it was not due, it is
-/// at most twice as long as with its checkpoint alone, and the entries of one more append.
+/// at most as long as `FLOOR` or twice as long as with its checkpoint alone, and the entries of one more append.
 pub fn law_live_size<T: Item>()
     ensures long { (mark : Mark) (end other_end size : ℕ) (h k : List Moment) (checkpoint behind : List T) → AreAt T.spelled mark end other_end size h k checkpoint behind → end + 1 ≡ size + size_of T.spelled (map Behind behind) }
-    ensures most { (mark : Mark) (end other_end size next : ℕ) (h k l : List Moment) (checkpoint behind items : List T) → AreAt T.spelled mark end other_end size h k checkpoint behind → AreAt T.spelled mark next other_end size l k checkpoint (behind ++ items) → end + 1 ≤ 2 * size → next + 1 ≤ 2 * size + size_of T.spelled (map Behind items) }
+    ensures most { (mark : Mark) (end other_end size next : ℕ) (h k l : List Moment) (checkpoint behind items : List T) → AreAt T.spelled mark end other_end size h k checkpoint behind → AreAt T.spelled mark next other_end size l k checkpoint (behind ++ items) → (end + 1 ≤ FLOOR) ⊎ (end + 1 ≤ 2 * size) → (next + 1 ≤ FLOOR + size_of T.spelled (map Behind items)) ⊎ (next + 1 ≤ 2 * size + size_of T.spelled (map Behind items)) }
 {}

@@ -1,15 +1,13 @@
 // Two files, of which one is live.
 ghost use Rattle.std.specs.Prelude.{◌≡◌, ◌+◌, [], false, List, IfOk, IfErr};
 ghost use Rattle.journal_disk.specs.declared.disk.Moment.{Moment};
-ghost use Rattle.journal_disk.specs.Disk.{Ran};
-ghost use Rattle.journal_file.specs.Journal.{IsAt};
-ghost use Rattle.journal_file.specs.Open.{disk_of, end_of, is_shut as journal_shut};
-ghost use Rattle.journal_pair.specs.Entries.{entry_bytes, generation};
+ghost use Rattle.journal_file.specs.Open.{disk_of};
+ghost use Rattle.journal_pair.specs.Entries.{generation};
 ghost use Rattle.journal_pair.specs.Faults.{IsBadPair};
 ghost use Rattle.journal_pair.specs.Files.{size_of};
 ghost use Rattle.journal_pair.specs.Pairs.{live_disk, other_disk, is_shut, Has, IsSeated};
 
-use crate::faults::start_fault;
+use crate::beginning::start;
 use crate::generations::{Taken, begun, behind_all, checkpoint_size};
 use crate::opening::choose;
 use crate::{Entry, Mark, PairFault, Side};
@@ -17,6 +15,9 @@ use journal_disk::Disk;
 use journal_file::{Item, Journal, JournalFault, OpenFault};
 use std::alloc::Global;
 use std::mem;
+
+/// A live file of at most so many bytes is never due: one block of most disks.
+pub const FLOOR: u64 = 4096;
 
 /// A journal in two files that is open for more items. Contracts see the disks of its live file and of the other one,
 /// how long its live file is and was with its checkpoint alone, and whether it is shut. After a call in which a disk
@@ -50,6 +51,7 @@ impl<D: Disk> Pair<D> {
     ghost use Rattle.std.specs.Prelude.{◌++◌, ◌*◌, ◌<◌, ◌⊎◌, ◌↔◌, true, Err, IsOk, IsErrOf, IsTrue, MatchResult, OnOk, OnErr};
     ghost use Rattle.journal_disk.specs.Disk.{seen, is_sound, HasRisen};
     ghost use Rattle.journal_pair.specs.declared.entry.Entry.{Entry as EntryOf};
+    ghost use Rattle.journal_pair.specs.declared.pair.TheConstants.{FLOOR};
     ghost use Rattle.journal_pair.specs.Entries.{ArePair};
     ghost use Rattle.journal_pair.specs.Files.{HasEntries, RanBeside, RanBoth, IsEitherPair, PairOf, FoundBoth};
     ghost use Rattle.journal_pair.specs.Causes.{HasCauseIn};
@@ -61,28 +63,37 @@ impl<D: Disk> Pair<D> {
         ensures ok { IfOk result (λ pair. (h k : List Moment) → D.stands first h → D.stands second k → is_sound h ≡ true → is_sound k ≡ true → RanBoth (D.stands (live_disk pair)) (D.stands (other_disk pair)) h k (λ _ _. Unit {0}) (λ l m. Has T.spelled pair l m [] [])) }
         ensures open { IfOk result (λ pair. is_shut pair ≡ false) }
         ensures err { IfErr result (λ e. IsBadPair e.why → ⊥) }
+        ensures failed_first { IfErr result (λ e. e.why ≡ PairFault.File Side.First OpenFault.Disk → HasRisen (D.faults first) (D.faults e.first)) }
+        ensures failed_second { IfErr result (λ e. e.why ≡ PairFault.File Side.Second OpenFault.Disk → HasRisen (D.faults second) (D.faults e.second)) }
     {
         let other = match Journal::create(alloc, second) {
             Ok(other) => other,
-            Err(e) => {
+            Err(failed) => {
                 return Err(Unopened {
-                    why: PairFault::File(Side::Second, e.why),
+                    why: PairFault::File(Side::Second, failed.why),
                     first,
-                    second: e.disk,
+                    second: failed.disk,
                 });
             }
         };
-        let live = match Journal::create(alloc, first) {
-            Ok(live) => live,
-            Err(e) => {
-                return Err(Unopened {
-                    why: PairFault::File(Side::First, e.why),
-                    first: e.disk,
-                    second: other.part(),
-                });
+        let mark = Mark::first();
+        match start::<D, T>(alloc, mark, first) {
+            Ok(live) => {
+                let size = live.size();
+                Ok(Pair {
+                    alloc,
+                    live,
+                    other,
+                    mark,
+                    size,
+                })
             }
-        };
-        start::<D, T>(alloc, live, other)
+            Err(failed) => Err(Unopened {
+                why: PairFault::File(Side::First, failed.why),
+                first: failed.disk,
+                second: other.part(),
+            }),
+        }
     }
 
     /// Opens the pair of two disks on which a call may have been cut short, and reads its checkpoint and the items behind.
@@ -139,6 +150,8 @@ impl<D: Disk> Pair<D> {
         ensures closes { IsErrOf result JournalFault.Disk → is_shut self.new ≡ true }
         ensures short { IsErrOf result JournalFault.NoMemory → is_shut self.new ≡ true → HasRisen (D.shortages (live_disk self.old)) (D.shortages (live_disk self.new)) }
         ensures same { IsErrOf result JournalFault.NoMemory → is_shut self.new ≡ false → self.new ≡ self.old }
+        ensures honest { D.is_honest (live_disk self.new) → D.is_honest (live_disk self.old) }
+        ensures other { other_disk self.new ≡ other_disk self.old }
     {
         if self.is_shut() {
             return Err(JournalFault::Shut);
@@ -162,6 +175,8 @@ impl<D: Disk> Pair<D> {
         ensures closes { IsErrOf result JournalFault.Disk → is_shut self.new ≡ true }
         ensures short { IsErrOf result JournalFault.NoMemory → is_shut self.new ≡ true → HasRisen (D.shortages (other_disk self.old)) (D.shortages (other_disk self.new)) }
         ensures same { IsErrOf result JournalFault.NoMemory → is_shut self.new ≡ false → self.new ≡ self.old }
+        ensures honest { MatchResult result (λ _. D.is_honest (live_disk self.new) → D.is_honest (other_disk self.old)) (λ _. D.is_honest (other_disk self.new) → D.is_honest (other_disk self.old)) }
+        ensures other { MatchResult result (λ _. other_disk self.new ≡ live_disk self.old) (λ _. live_disk self.new ≡ live_disk self.old) }
     {
         if self.is_shut() {
             return Err(JournalFault::Shut);
@@ -198,11 +213,12 @@ impl<D: Disk> Pair<D> {
         self.size
     }
 
-    /// Whether its live file is more than twice as long as it was with its checkpoint alone.
+    /// Whether its live file is longer than `FLOOR`, and more than twice as long as it was with its checkpoint alone.
     pub fn is_due(&self) -> bool
-        ensures { IsTrue result ↔ (2 * checkpoint_size self.now < live_size self.now) }
+        ensures { IsTrue result ↔ ((FLOOR < live_size self.now) × (2 * checkpoint_size self.now < live_size self.now)) }
     {
-        self.live.size().saturating_sub(self.size) > self.size
+        let size = self.live.size();
+        size > FLOOR && size.saturating_sub(self.size) > self.size
     }
 
     /// Gives up the pair and keeps its disks, that of its live file first.
@@ -211,50 +227,6 @@ impl<D: Disk> Pair<D> {
         ensures other { result.1 ≡ other_disk self }
     {
         (self.live.part(), self.other.part())
-    }
-}
-
-// Puts the number of the first generation into an empty file.
-fn start<D: Disk, T: Item>(
-    alloc: Global,
-    live: Journal<D>,
-    other: Journal<D>,
-) -> Result<Pair<D>, Unopened<D>>
-    requires live { journal_shut live ≡ false }
-    requires other { journal_shut other ≡ false }
-    ensures ok { IfOk result (λ pair. (h k : List Moment) → D.stands (disk_of live) h → D.stands (disk_of other) k → IsAt (entry_bytes T.spelled) (end_of live) h [] → IsAt (entry_bytes T.spelled) (end_of other) k []
-        → (Ran (D.stands (live_disk pair)) h (λ _. Unit {0}) (λ l. Has T.spelled pair l k [] [])) × (D.stands (other_disk pair) k)) }
-    ensures open { IfOk result (λ pair. is_shut pair ≡ false) }
-    ensures err { IfErr result (λ e. IsBadPair e.why → ⊥) }
-{
-    let mut live = live;
-    let mark = Mark::first();
-    let entries = match begun::<T>(alloc, mark, Vec::new(alloc)) {
-        Ok(entries) => entries,
-        Err(_) => {
-            return Err(Unopened {
-                why: PairFault::NoMemory,
-                first: live.part(),
-                second: other.part(),
-            });
-        }
-    };
-    match live.append(&entries) {
-        Ok(()) => {
-            let size = live.size();
-            Ok(Pair {
-                alloc,
-                live,
-                other,
-                mark,
-                size,
-            })
-        }
-        Err(fault) => Err(Unopened {
-            why: start_fault(fault),
-            first: live.part(),
-            second: other.part(),
-        }),
     }
 }
 

@@ -1,11 +1,11 @@
-use Rattle.journal_pair.proofs.Pairs.{on_if_ok, created}
+use Rattle.journal_pair.proofs.Pairs.{created, started}
 use Rattle.journal_pair.proofs.Seating.{empty_at}
 use Rattle.journal_pair.proofs.pair.Pair.create.Goals as goal
 
-pub returns-clause-ok : goal.returns-clause-ok
-returns-clause-ok g c =
-    let live = c.in-Ok-create.live in
+pub returns-in-Ok-start-clause-ok : goal.returns-in-Ok-start-clause-ok
+returns-in-Ok-start-clause-ok g c = λ h k one two sound_h sound_k.
+    let live = c.in-Ok-start.live in
     let other = c.in-Ok.other in
-    on_if_ok _ _ c.start.result (λ pair starts. λ h k one two sound_h sound_k.
-    created (g.D.Disk.stands live.disk) (g.D.Disk.stands other.disk) (g.D.Disk.stands pair.live.disk) (g.D.Disk.stands pair.other.disk) h k _ (c.in-Ok-create.ensures.ok h one sound_h) (c.in-Ok.ensures.ok k two sound_k)
-    (λ h1 k1 first second began made. starts h1 k1 first second (empty_at g.T.Item.spelled live.end h1 c.in-Ok-create.ensures.end began) (empty_at g.T.Item.spelled other.end k1 c.in-Ok.ensures.end made))) c.start.ensures.ok
+    created (g.D.Disk.stands live.disk) (g.D.Disk.stands other.disk) h k _ _ _
+    (λ l m began made. started g.T.Item.spelled c.first-mark.result live.end other.end c.size-size.result l m c.size-size.ensures began (empty_at g.T.Item.spelled other.end m c.in-Ok.ensures.end made))
+    (c.in-Ok-start.ensures.ok h one sound_h) (c.in-Ok.ensures.ok k two sound_k)
