@@ -7,8 +7,8 @@ ghost use Rattle.dc_journal.specs.Answered.{said_in, answered, AreSame};
 ghost use Rattle.dc_journal.specs.Files.{IsFileAround};
 ghost use Rattle.dc_journal.specs.Steps.{TakesOne, TakesSome};
 
-use crate::JournalCentre;
 use crate::batch::{Batch, entry_of};
+use crate::journal_centre::JournalCentre;
 use crate::opening::is_kept;
 use crate::steps::step;
 use dc_talk::{Ask, Say};
