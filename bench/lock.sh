@@ -16,22 +16,7 @@ run() {
     timed lock "$1" "$2" "$3" && [ "$(cat "$room/out")" = $(($2 * $3)) ]
 }
 
-# table FORM CALLS THREADS..: a row for each number of threads.
-table() {
-    form=$1 calls=$2
-    shift 2
-    head_of "$form, $calls calls each: threads" microseconds 'calls a second' 'nanoseconds a call'
-    for threads in "$@"; do
-        none=$(least 9 "$form" "$threads" 0) || wrong "$form" "$threads" 0
-        took=$(least 9 "$form" "$threads" "$calls") || wrong "$form" "$threads" "$calls"
-        took=$((took > none ? took - none : 1))
-        all=$((threads * calls))
-        echo "| $threads | $took | $((all * 1000000 / took)) | $((took * 1000 / all)) |"
-    done
-    echo
-}
-
-table kept 2000000 1
-table host 20000 1 2 4 8
-table host 200000 1 2 4 8
+beside kept 2000000 call threads 1
+beside host 20000 call threads 1 2 4 8
+beside host 200000 call threads 1 2 4 8
 exit "$status"

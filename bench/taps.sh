@@ -16,21 +16,6 @@ run() {
     timed taps "$1" "$2" "$3" && [ "$(cat "$room/out")" = $(($2 * $3)) ]
 }
 
-# table FORM LOOKS READERS..: a row for each number of readers.
-table() {
-    form=$1 looks=$2
-    shift 2
-    head_of "$form, $looks looks each: readers" microseconds 'looks a second' 'nanoseconds a look'
-    for readers in "$@"; do
-        none=$(least 9 "$form" "$readers" 0) || wrong "$form" "$readers" 0
-        took=$(least 9 "$form" "$readers" "$looks") || wrong "$form" "$readers" "$looks"
-        took=$((took > none ? took - none : 1))
-        all=$((readers * looks))
-        echo "| $readers | $took | $((all * 1000000 / took)) | $((took * 1000 / all)) |"
-    done
-    echo
-}
-
-table shown 200000 1 2 4 8
-table asked 20000 1 2 4 8
+beside shown 200000 look readers 1 2 4 8
+beside asked 20000 look readers 1 2 4 8
 exit "$status"

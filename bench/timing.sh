@@ -33,6 +33,23 @@ least() {
     echo "$best"
 }
 
+# beside FORM COUNT CALL THREADS NUMBER..: a table with a row for each number of threads, which make so many calls each.
+# CALL is the word for one call, and THREADS that for those that make them. A run of COUNT 0 makes the threads alone, and
+# its time is taken off; a difference of less than 1 microsecond is told as 1.
+beside() {
+    form=$1 count=$2 call=$3 who=$4
+    shift 4
+    head_of "$form, $count ${call}s each: $who" microseconds "${call}s a second" "nanoseconds a $call"
+    for number in "$@"; do
+        none=$(least 9 "$form" "$number" 0) || wrong "$form" "$number" 0
+        took=$(least 9 "$form" "$number" "$count") || wrong "$form" "$number" "$count"
+        took=$((took > none ? took - none : 1))
+        all=$((number * count))
+        echo "| $number | $took | $((all * 1000000 / took)) | $((took * 1000 / all)) |"
+    done
+    echo
+}
+
 # processor RUNS WORD..: the least processor time of so many runs by these words over the file 'script', in
 # microseconds. What a run prints is in the file 'out'.
 processor() {
