@@ -89,6 +89,8 @@ impl Centre {
     /// entry. Memory is taken before anything changes. Time: a fetch takes that of its object's
     /// operations that are not folded yet, a prune that of what it folds and lets go, and no other ask
     /// any that grows with the history.
+    // Where the entry is put both answers are written to their place at once: they are large to hand over.
+    #[inline(always)]
     pub fn step(&mut self, alloc: Global, ask: &Ask) -> Result<(Say, Say), NoMemory>
         ensures answer { IfOk result (λ says. (trail : List Entry) → StandsFor self.old trail → says.0 ≡ answer self.old.settings trail ask.now) }
         ensures copy { IfOk result (λ says. says.1 ≡ says.0) }
@@ -165,11 +167,13 @@ impl Machine for Centre {
 
     ghost stands = { StandsFor };
 
+    #[inline(always)]
     fn step(&mut self, ask: &Ask) -> Result<(Say, Say), NoMemory> {
         let alloc = self.outbox.allocator();
         Centre::step(self, alloc, ask)
     }
 
+    #[inline(always)]
     fn copy_ask(ask: &Ask) -> Result<Ask, NoMemory> {
         ask.copy()
     }

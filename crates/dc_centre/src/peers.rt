@@ -104,6 +104,7 @@ impl Centre {
     }
 
     /// The answer to what another centre reported, in two copies.
+    #[inline(always)]
     pub(crate) fn learn(&mut self, from: u8, vector: &Vector) -> (Say, Say)
         requires from { (1 ≤ from) × (from ≤ self.old.settings.n) }
         requires width { length vector.now ≡ self.old.settings.n }

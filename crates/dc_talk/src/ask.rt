@@ -109,6 +109,8 @@ impl Ask {
     /// in 1 to `n`, its client in 1 to `MOST_CLIENTS`, and its transaction passes `Tx::check`; a send
     /// or a relay asks for 1 to `MOST_SENT` records; a delivery has at most `MOST_HOPS` hops; and what
     /// is delivered or learned has numbers of at most `MOST_RECORDS`.
+    // A centre tests each ask before it answers: the form of the ask is then told apart once for both.
+    #[inline(always)]
     pub fn fits(&self, n: u8) -> bool
         requires { (1 ≤ n) × (n ≤ MOST_CENTRES) }
         ensures { result ≡ fits n self.now }

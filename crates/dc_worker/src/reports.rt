@@ -42,6 +42,7 @@ pub(crate) fn ask_report<D: Door>(
 }
 
 // The vector of an answer, or else the answer again.
+#[inline(always)]
 fn reported_by(said: &Say) -> Result<Reported, NoMemory>
     ensures apart { IfOk result IsToldApart }
     ensures said { IfOk result (λ reported. said_by reported ≡ said.now) }
