@@ -1,6 +1,6 @@
 -- A step of a client or of the operator, as a section of its own.
 use Rattle.std.proofs.Common.{◌≡◌, ◌≢◌, ⊎_elim, ℕ, ◌+◌, ◌-◌, Bool, true, false, cond, fold, List, [], ◌∷◌, ◌++◌, map, length, Option, Some, None, refl, sym, ap, ◌∙◌, subst, arith}
-use Rattle.std.specs.Prelude.{slice_get, slice_set, IfSome, unwrap_or, ◌==◌, ◌&&◌}
+use Rattle.std.specs.Prelude.{slice_get, slice_set, IfSome, Result, OnOk, unwrap_or, ◌==◌, ◌&&◌}
 use Rattle.std.specs.Option.{option_map}
 use Rattle.std.specs.List.{cons_option}
 use Rattle.std.proofs.lemmas.Bool.{cases_eq, eq-eqb, ne_eqb}
@@ -26,13 +26,16 @@ use Rattle.script_core.specs.declared.script.Script.{Script}
 use Rattle.script_core.specs.declared.steps.ClientStep.{ClientStep}
 use Rattle.script_core.specs.declared.steps.OperatorStep.{OperatorStep}
 use Rattle.script_core.specs.declared.steps.OperatorStep.TheVariants.{Link}
+use Rattle.script_core.specs.declared.steps.Step.{Step}
 use Rattle.script_core.specs.declared.steps.Step.TheVariants.{Client as ByClient, Operator as ByOperator}
 use Rattle.script_core.specs.Deeds.{Progress, StepDeeds, armed_after, stepped}
 use Rattle.script_core.specs.Links.{inlet_set}
 use Rattle.script_core.specs.Mail.{Post, post_set}
 use Rattle.script_core.specs.Orders.{OperatorDeeds}
 use Rattle.script_core.specs.Rows.{section_of}
-use Rattle.script_core.specs.Steps.{IsCount}
+use Rattle.script_core.specs.Scripts.{header_of}
+use Rattle.script_core.specs.Steps.{IsCount, IsStep, IsStepOf, IsOwn}
+use Rattle.dc_worker.proofs.Work.{on_turn}
 use Rattle.client_stub.specs.Playing.{StubView, IsLinkBehind}
 use Rattle.run_book.specs.Setups.{setup_of, settings_among}
 use Rattle.run_book.specs.Happenings.{ClientDoes, IsLinkWithin}
@@ -207,3 +210,18 @@ module _ (script : Script) (number : ℕ) (step : OperatorStep) (old new : Table
       (order_one (OperatorGoes script.n) number tt tt (step ∷ []) step (its.notes 1) (notes_of_deeds number ordered) refl (left_own script number 1 ordered old new is it_acts it_alone) (all_at number 1 ordered) such)
       (λ from to f t. ap (λ (post : Post). post.inlet) (h.posts from to (f.0, omega (arith, f.1, count)) (t.0, omega (arith, t.1, count))) ∙ order_inlet step ordered from to (post_at old.posts from to))
       (λ client range. subst (ClientDoes ((between_of script old).come client).client (notes_at old (client + 1))) (sym (client_none client range)) tt)
+
+-- ---- whichever it was
+
+-- what a client's step leaves where it ends well: it was played as a section
+pub client_taken : {T E : Type 0} (r : Result T E) (script : Script) (number client : ℕ) (own : ClientStep) (step : Step) (old new : Table) → step ≡ ByClient client own → IsStepOf (header_of script) step → IsTableOf script old → OnOk r (HasStepped (turn_in number (client + 1)) own old new) → OnOk r (HasPlayed script number (section_of step) old new)
+client_taken r script number client own step old new is fits table =
+    let parts : IsCount script.clients client × IsStep script.n own × IsOwn script.clients client own = subst (IsStepOf (header_of script)) is fits in
+    on_turn r (HasStepped (turn_in number (client + 1)) own old new) (HasPlayed script number (section_of step) old new)
+    (λ took. subst (λ it. HasPlayed script number (section_of it) old new) (sym is) (client_line script number client own old new table parts.0 took))
+
+-- so with the operator's
+pub order_taken : {T E : Type 0} (r : Result T E) (script : Script) (number : ℕ) (own : OperatorStep) (step : Step) (old new : Table) → step ≡ ByOperator own → IsTableOf script old → OnOk r (HasOperated (turn_in number 1) own old new) → OnOk r (HasPlayed script number (section_of step) old new)
+order_taken r script number own step old new is table =
+    on_turn r (HasOperated (turn_in number 1) own old new) (HasPlayed script number (section_of step) old new)
+    (λ ordered. subst (λ it. HasPlayed script number (section_of it) old new) (sym is) (order_line script number own old new table ordered))

@@ -1,5 +1,5 @@
 // A script, section by section.
-ghost use Rattle.std.specs.Prelude.{IfOk, OnOk};
+ghost use Rattle.std.specs.Prelude.{◌≡◌, map, IfOk, OnOk};
 ghost use Rattle.dc_door.specs.KeptDoors.{trail_at};
 ghost use Rattle.script_core.specs.Rows.{section_of, IsLine, IsSection};
 ghost use Rattle.script_core.specs.Scripts.{header_of, IsInRange};
@@ -10,9 +10,10 @@ ghost use Rattle.thread_run.specs.Tables.{notes_at, IsTableOf, AreLinked, HasPla
 ghost use Rattle.thread_run.specs.Played.{HasRun};
 
 use crate::phases::play_phase;
+use dc_door::KeptDoor;
 use ids_core::NoMemory;
 use io_edge::Gate;
-use run_book::{Book, Logs};
+use run_book::{Book, Logs, Trails};
 use run_progress::{Extent, Progress};
 use run_table::{Table, trails_of};
 use script_core::{Script, Section, Step, StepsSeen};
@@ -21,6 +22,7 @@ use std::sync::Wait;
 use std::thread::Threads;
 
 // Has the step's actor take it, as the only one of the section of a number.
+#[tactic(auto, using(crate::proofs::Taking::client_taken, crate::proofs::Taking::order_taken))]
 fn take_one(
     alloc: Global,
     script: &Script,
@@ -108,13 +110,20 @@ fn play_all<R: Threads + Wait + Sync, G: Gate + Progress>(
     Ok(table)
 }
 
+// The trails of the centres behind a door.
+fn trails_in(alloc: Global, door: KeptDoor) -> Result<Trails, NoMemory>
+    ensures { IfOk result (λ trails. trails ≡ map (λ centre. centre.entries) door.centres) }
+{
+    trails_of(alloc, door.part())
+}
+
 // The book of a run of a script.
 fn book_of(alloc: Global, script: &Script, table: Table) -> Result<Book, NoMemory>
     requires { IsTableOf script.now table }
     ensures { IfOk result (λ book. IsBookWith script.now book (notes_at table) (trail_at table.door.centres)) }
 {
     let Table { door, logs, .. } = table;
-    let trails = trails_of(alloc, door.part())?;
+    let trails = trails_in(alloc, door)?;
     Ok(Book {
         n: script.n,
         k: script.k,
