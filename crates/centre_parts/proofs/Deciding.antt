@@ -22,7 +22,7 @@ use Rattle.dup_guard.specs.Parts.{Ascends, AreParts}
 use Rattle.k_stable.specs.Tables.{stable_of, all_known_of}
 use Rattle.join_bundle.specs.Conditions.{IsCentre}
 use Rattle.join_bundle.specs.Tests.{ascends, is_centre, is_over}
-use Rattle.centre_parts.proofs.ListTests.{each_of, at_most, in_range, over, ascending, apart}
+use Rattle.join_bundle.proofs.Deciding.{each_of, at_most, in_range, over, ascending, apart}
 use Rattle.centre_parts.specs.declared.condition.Condition.{Condition}
 use Rattle.centre_parts.specs.declared.condition.Condition.TheVariants.{Centre, Known, Limit, Widths, Rows, Outbox, Room, MarkOverBase, StableOverMark, KnownOverTrimmed, Notes, NoteStamps, PointClients, PointObjects, RestUpdates, RestDots, RestNumbers}
 use Rattle.centre_parts.specs.declared.part.CentreParts.{CentreParts}

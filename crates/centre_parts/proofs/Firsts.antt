@@ -1,7 +1,7 @@
 -- The first condition that parts do not pass is the first that they break.
 use Rattle.std.proofs.Common.{◌≡◌, inl, inr, Option, Some, None, refl, sym, ◌∙◌}
 use Rattle.list_core.specs.Members.{In}
-use Rattle.centre_parts.proofs.FirstFailed.{none_fails, first_fails, one_first}
+use Rattle.join_bundle.proofs.Firsts.{none_fails, first_fails, one_first}
 use Rattle.centre_parts.specs.declared.condition.Condition.{Condition}
 use Rattle.centre_parts.specs.declared.condition.Condition.TheVariants.{Centre, Known, Limit, Widths, Rows, Outbox, Room, MarkOverBase, StableOverMark, KnownOverTrimmed, Notes, NoteStamps, PointClients, PointObjects, RestUpdates, RestDots, RestNumbers}
 use Rattle.centre_parts.specs.declared.part.CentreParts.{CentreParts}

@@ -1,7 +1,4 @@
 mod Entries
-mod ListTests
-mod Dots
-mod FirstFailed
 mod Deciding
 mod Tables
 pub mod Guards

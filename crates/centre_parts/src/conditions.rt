@@ -7,12 +7,13 @@ ghost use Rattle.centre_parts.specs.Tests.{passes, first_failed};
 use crate::condition::{CONDITIONS, Condition};
 use crate::notes::{are_notes, have_stamps_of};
 use crate::part::CentreParts;
-use crate::point::{clients_ascend, objects_ascend};
-use crate::rest::{are_apart, are_noted, have_few_updates};
+use crate::point::clients_ascend;
+use crate::rest::{are_noted, have_few_updates};
 use crate::settings::{has_room, is_known, is_limited, is_member};
 use crate::told::{is_known_over, is_stable_over};
-use crate::vectors::{are_rows, are_wide, is_over};
+use crate::vectors::{are_rows, are_wide};
 use ids_core::{MOST_CENTRES, NoMemory};
+use join_bundle::{are_apart, is_over, objects_ascend};
 use std::alloc::Global;
 
 /// The first of `CONDITIONS` that the parts break; none where they meet all. Time: linear in the parts, with a

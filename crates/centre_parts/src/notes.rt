@@ -7,9 +7,9 @@ ghost use Rattle.tx_core.specs.Checks.{is_within};
 ghost use Rattle.join_bundle.specs.Tests.{ascends, ascends_from, is_centre};
 ghost use Rattle.centre_parts.specs.Tests.{are_notes};
 
-use crate::vectors::is_centre;
 use dup_guard::Noted;
 use ids_core::MOST_CLIENTS;
+use join_bundle::is_centre;
 
 // Whether a guard can be made of the notes: their clients ascend, and clients and numbers are in range.
 pub(crate) fn are_notes(notes: &[Noted]) -> bool

@@ -3,15 +3,13 @@ ghost use Rattle.std.specs.Prelude.{◌≡◌, ◌&&◌, true, nat_le, length, I
 ghost use Rattle.std.specs.List.{list_all};
 ghost use Rattle.ids_core.specs.declared.limits.TheConstants.{MOST_UPDATES};
 ghost use Rattle.dup_guard.specs.Notes.{number_of};
-ghost use Rattle.join_bundle.specs.Tests.{are_apart};
 ghost use Rattle.centre_parts.specs.Conditions.{noted};
 ghost use Rattle.centre_parts.specs.Tests.{are_notes};
 
 use crate::notes::are_notes;
 use dup_guard::{Guard, Noted};
-use ids_core::{Dot, MOST_UPDATES, NoMemory};
+use ids_core::{MOST_UPDATES, NoMemory};
 use std::alloc::Global;
-use std::collections::BTreeSet;
 use tx_core::RestPart;
 
 // Whether each transaction has few updates.
@@ -46,17 +44,4 @@ fn are_seen(guard: &Guard, rest: &[RestPart]) -> bool
     ensures { result ≡ list_all (λ r. nat_le r.tx.dot.number (number_of guard.now r.tx.dot.client)) rest.now }
 {
     rest.iter().all(|part| part.tx.dot.number <= guard.through(part.tx.dot.client))
-}
-
-// Whether no two transactions have one dot.
-pub(crate) fn are_apart(alloc: Global, rest: &[RestPart]) -> Result<bool, NoMemory>
-    ensures { IfOk result (λ apart. apart ≡ are_apart rest.now) }
-{
-    let mut dots: BTreeSet<Dot> = BTreeSet::new(alloc);
-    for part in rest {
-        if !dots.insert(part.tx.dot)? {
-            return Ok(false);
-        }
-    }
-    Ok(true)
 }

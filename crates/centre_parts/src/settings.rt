@@ -5,9 +5,9 @@ ghost use Rattle.vv_core.specs.Vectors.{at};
 ghost use Rattle.join_bundle.specs.Tests.{is_centre};
 ghost use Rattle.centre_parts.specs.Tests.{is_member};
 
-use crate::vectors::is_centre;
 use dc_talk::Settings;
 use ids_core::{MOST_CENTRES, MOST_RECORDS};
+use join_bundle::is_centre;
 use vv_core::Vector;
 
 // Whether the centre is one of its centres, and those are few enough.

@@ -7,7 +7,8 @@ ghost use Rattle.centre_parts.specs.Tests.{is_told};
 
 use crate::part::CentreParts;
 use crate::settings::{is_known, is_member};
-use crate::vectors::{are_rows, is_over};
+use crate::vectors::are_rows;
+use join_bundle::is_over;
 use k_stable::Told;
 
 // Whether what is stable covers the mark.
