@@ -55,7 +55,7 @@ for kind in ${*:-aborts blocks mixed settle}; do
     aborts) instructions aborts 1000 2000 3 2050 ;;
     blocks) instructions blocks 1000 2000 6 6200 ;;
     mixed) instructions mixed 4000 8000 1 4450 ;;
-    settle) instructions settle 1 11 224 3300 ;;
+    settle) instructions settle 1 11 896 700 ;;
     *)
         echo "$kind is no kind of row" >&2
         exit 1

@@ -3,5 +3,7 @@ pub mod Applying
 pub mod Kept
 pub mod Going
 pub mod Standing
-pub mod Parts
+pub mod ListParts
 pub mod Rows
+pub mod AppliedParts
+pub mod CentreParts

@@ -11,7 +11,7 @@ use Rattle.dc_talk.specs.declared.sent.Sent.{Sent}
 use Rattle.dc_talk.specs.Sents.{of_origin}
 use Rattle.dc_talk.specs.Answers.{part_of}
 use Rattle.dc_centre.specs.Outboxes.{row_of, put_by, HasTrimmed, Keeps}
-use Rattle.dc_centre.proofs.Parts.{kept_past}
+use Rattle.dc_centre.proofs.ListParts.{kept_past}
 
 -- no records
 abbrev the_none : List Sent

@@ -1,3 +1,4 @@
 pub mod Applied
 pub mod Outboxes
 pub mod Centre
+pub mod Parts

@@ -29,12 +29,12 @@ use vv_core::{Stamp, Vector};
 /// what point and log tell, and no contract shows them.
 #[derive(Drop)]
 pub struct Applied {
-    vector: Vector,
-    guard: Guard,
-    top: u64,
-    point: Point,
-    log: Log,
-    served: ServedStates,
+    pub(crate) vector: Vector,
+    pub(crate) guard: Guard,
+    pub(crate) top: u64,
+    pub(crate) point: Point,
+    pub(crate) log: Log,
+    pub(crate) served: ServedStates,
 }
 
 impl Model for Applied {

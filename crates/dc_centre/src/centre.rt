@@ -115,6 +115,7 @@ impl Centre {
     }
 
     // The answer of a running centre to an ask that fits, in two copies.
+    #[inline(always)]
     fn reply(&mut self, alloc: Global, ask: &Ask) -> Result<(Say, Say), NoMemory>
         requires { fits self.old.settings.n ask.now ≡ true }
         ensures answer { IfOk result (λ says. says.0 ≡ row_over self.old ask.now) }

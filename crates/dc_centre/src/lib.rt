@@ -2,9 +2,13 @@
 #![tactic(auto)]
 
 mod applied;
+mod applied_parts;
 mod asks;
 mod centre;
 mod outbox;
+mod outbox_parts;
+mod parts;
 mod peers;
 
 pub use centre::Centre;
+pub use parts::Refusal;

@@ -12,7 +12,7 @@ use std::marker::Model;
 // The records that a centre has applied and did not let go yet, by their origin, which is one of MOST_CENTRES.
 #[derive(Drop)]
 pub(crate) struct Outbox {
-    rows: Vec<VecDeque<Sent>>,
+    pub(crate) rows: Vec<VecDeque<Sent>>,
 }
 
 impl Model for Outbox {

@@ -36,19 +36,19 @@ use Rattle.join_bundle.specs.Conditions.{noted, IsCentre, IsOver, Meets}
 use Rattle.join_bundle.specs.Tests.{ascends, ascends_from, are_apart, has_dot, is_over, passes}
 
 -- a test of each element
-each_of : {X : Type 0} (test : X → Bool) (P : X → Type 0) → ((x : X) → Decides (test x) (P x)) → (xs : List X) → Decides (list_all test xs) (All P xs)
+pub each_of : {X : Type 0} (test : X → Bool) (P : X → Type 0) → ((x : X) → Decides (test x) (P x)) → (xs : List X) → Decides (list_all test xs) (All P xs)
 each_of test P tells xs = (λ h k d below. (tells _).0 (AllPass-from_list_all test xs h k d below), λ all. list_all-from_AllPass test xs (λ k d below. (tells _).1 (all k d below)))
 
 -- at most
-at_most : (a b : ℕ) → Decides (nat_le a b) (a ≤ b)
+pub at_most : (a b : ℕ) → Decides (nat_le a b) (a ≤ b)
 at_most a b = (leb-true a b, le-leb a b)
 
 -- from low to high
-in_range : (low high number : ℕ) → Decides (is_within low high number) ((low ≤ number) × (number ≤ high))
+pub in_range : (low high number : ℕ) → Decides (is_within low high number) ((low ≤ number) × (number ≤ high))
 in_range low high number = Decides-and (nat_le low number) (nat_le number high) (at_most low number) (at_most number high)
 
 -- over another vector
-over : (vector other : List ℕ) → Decides (is_over vector other) (IsOver vector other)
+pub over : (vector other : List ℕ) → Decides (is_over vector other) (IsOver vector other)
 over vector other = (
   λ h. let parts = and_parts (length vector == length other) (covers vector other) h in record { width = (Decides-eqb (length vector) (length other)).0 parts.0; covers = covers-true vector other parts.1 },
   λ h. and_from (length vector == length other) (covers vector other) ((Decides-eqb (length vector) (length other)).1 h.width) (covers_from vector other h.covers),
@@ -77,7 +77,7 @@ module _ {K : Type 0} {cmp : K → K → Ordering} (total : IsTotalOrder cmp) wh
   from_sorted low (key ∷ keys) h = and_from (is_lt (cmp low key)) (ascends_from cmp key keys) (ap is_lt h.0.0) (from_sorted key keys h.1)
 
   -- keys that ascend
-  ascending : (keys : List K) → Decides (ascends cmp keys) (IsStrictlySortedBy cmp keys)
+  pub ascending : (keys : List K) → Decides (ascends cmp keys) (IsStrictlySortedBy cmp keys)
   unfolding IsStrictlySortedBy
   ascending [] = (λ _. tt, λ _. refl)
   ascending (key ∷ keys) = (sorted_from key keys, from_sorted key keys)
@@ -119,7 +119,7 @@ lacks dot (r ∷ rest) = (
 )
 
 -- different dots
-apart : (rest : List RestPart) → Decides (are_apart rest) (Apart (λ (r : RestPart). r.tx.dot) rest)
+pub apart : (rest : List RestPart) → Decides (are_apart rest) (Apart (λ (r : RestPart). r.tx.dot) rest)
 apart [] = (λ _. tt, λ _. refl)
 apart (r ∷ rest) = Decides-and (not (has_dot r.tx.dot rest)) (are_apart rest) (lacks r.tx.dot rest) (apart rest)
 

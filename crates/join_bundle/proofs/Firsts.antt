@@ -15,7 +15,7 @@ use Rattle.join_bundle.proofs.Deciding.{tells}
 
 module _ {X : Type 0} (test : X → Bool) (P : X → Type 0) (tell : (x : X) → Decides (test x) (P x)) where
   -- where none fails, each holds
-  none_fails : (xs : List X) → first_that (λ x. not (test x)) xs ≡ None → (x : X) → In x xs → P x
+  pub none_fails : (xs : List X) → first_that (λ x. not (test x)) xs ≡ None → (x : X) → In x xs → P x
   none_fails [] none x i = absurd i
   none_fails (y ∷ ys) none x i = by (test y) refl none (λ h. none_fails ys h x)
     where
@@ -24,15 +24,15 @@ module _ {X : Type 0} (test : X → Bool) (P : X → Type 0) (tell : (x : X) →
       by false is h rest = cc
 
   -- the first that fails, with what stands before it
-  record Failed (xs : List X) (x : X) : Type 0 where
-    before : List X
-    after : List X
-    place : xs ≡ before ++ x ∷ after
-    met : All P before
-    broken : P x → ⊥
+  pub record Failed (xs : List X) (x : X) : Type 0 where
+    pub before : List X
+    pub after : List X
+    pub place : xs ≡ before ++ x ∷ after
+    pub met : All P before
+    pub broken : P x → ⊥
 
   -- what stands before it holds
-  first_fails : (xs : List X) (x : X) → first_that (λ x. not (test x)) xs ≡ Some x → Failed xs x
+  pub first_fails : (xs : List X) (x : X) → first_that (λ x. not (test x)) xs ≡ Some x → Failed xs x
   first_fails [] x some = cc
   first_fails (y ∷ ys) x some = by (test y) refl some (first_fails ys x)
     where
@@ -76,7 +76,7 @@ broken_of p condition some =
     record { before = f.before; after = f.after; place = f.place; met = f.met; broken = f.broken }
 
 -- in one list, two elements that do not hold, behind elements that do, are the same
-one_first : {X : Type 0} (P : X → Type 0) (before others after rest : List X) (x y : X) → before ++ x ∷ after ≡ others ++ y ∷ rest → All P before → (P x → ⊥) → All P others → (P y → ⊥) → x ≡ y
+pub one_first : {X : Type 0} (P : X → Type 0) (before others after rest : List X) (x y : X) → before ++ x ∷ after ≡ others ++ y ∷ rest → All P before → (P x → ⊥) → All P others → (P y → ⊥) → x ≡ y
 one_first P [] [] after rest x y is met broken also fails = cc
 one_first P [] (z ∷ others) after rest x y is met broken also fails = let same : x ≡ z = cc in absurd (broken (subst P (sym same) (All-head P z others also)))
 one_first P (z ∷ before) [] after rest x y is met broken also fails = let same : z ≡ y = cc in absurd (fails (subst P same (All-head P z before met)))

@@ -1,3 +1,3 @@
-mod Deciding
+pub mod Deciding
 mod Dots
-mod Firsts
+pub mod Firsts

@@ -16,3 +16,6 @@ pub use bundle::{Bundle, Cause, Refused};
 pub use condition::{CONDITIONS, Condition, MOST_DEPTH};
 pub use laws::law_first_broken;
 pub use part::{BundleParts, ClientPart, ClientParts, Rows};
+pub use rest::are_apart;
+pub use states::objects_ascend;
+pub use vectors::{have_width, is_centre, is_over};

@@ -82,8 +82,8 @@ fn number_at(numbers: &Numbers, client: u32) -> u64
     }
 }
 
-// Whether no two transactions have one dot.
-pub(crate) fn are_apart(alloc: Global, rest: &[RestPart]) -> Result<bool, NoMemory>
+/// Whether no two transactions have one dot. Time: linear in them, with a logarithm.
+pub fn are_apart(alloc: Global, rest: &[RestPart]) -> Result<bool, NoMemory>
     ensures { IfOk result (λ apart. apart ≡ are_apart rest.now) }
 {
     let mut dots: BTreeSet<Dot> = BTreeSet::new(alloc);

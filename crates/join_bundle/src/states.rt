@@ -9,8 +9,8 @@ ghost use Rattle.join_bundle.specs.Tests.{ascends, ascends_from};
 use ids_core::ObjectId;
 use tx_core::StatePart;
 
-// Whether the objects strictly ascend.
-pub(crate) fn objects_ascend(states: &[StatePart]) -> bool
+/// Whether the objects strictly ascend.
+pub fn objects_ascend(states: &[StatePart]) -> bool
     ensures { result ≡ ascends object_cmp (map (λ s. s.object) states.now) }
 {
     match states {

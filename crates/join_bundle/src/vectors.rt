@@ -5,22 +5,22 @@ ghost use Rattle.join_bundle.specs.Tests.{is_centre, is_over};
 
 use vv_core::Vector;
 
-// Whether each row has the width.
-pub(crate) fn have_width(rows: &[Vector], n: u8) -> bool
+/// Whether each row has the width.
+pub fn have_width(rows: &[Vector], n: u8) -> bool
     ensures { result ≡ list_all (λ row. length row == n) rows.now }
 {
     rows.iter().all(|row| row.width() == n)
 }
 
-// Whether the number is that of a centre among so many.
-pub(crate) fn is_centre(n: u8, centre: u8) -> bool
+/// Whether the number is that of a centre among so many, counted from 1.
+pub fn is_centre(n: u8, centre: u8) -> bool
     ensures { result ≡ is_centre n centre }
 {
     1 <= centre && centre <= n
 }
 
-// Whether a vector has another's width, and covers it.
-pub(crate) fn is_over(vector: &Vector, other: &Vector) -> bool
+/// Whether a vector has another's width, and covers it.
+pub fn is_over(vector: &Vector, other: &Vector) -> bool
     ensures { result ≡ is_over vector.now other.now }
 {
     vector.width() == other.width() && vector.covers(other)

@@ -46,6 +46,27 @@ impl Told {
         }
     }
 
+    /// The table of which these are the rows, one for each centre in their order.
+    pub fn of_rows(me: u8, n: u8, k: u8, rows: &[Vector]) -> Told
+        requires { IsTable (record { me = me; n = n; k = k; rows = rows.now }) }
+        ensures { result ≡ record { me = me; n = n; k = k; rows = rows.now } }
+    {
+        Told {
+            me,
+            n,
+            k,
+            rows: placed(n, rows),
+        }
+    }
+
+    /// The rows of all centres in their order, its own too, of which nothing was learned.
+    pub fn rows(&self) -> &[Vector]
+        ensures rows { result.now ≡ self.now.rows }
+        ensures table { IsTable self.now }
+    {
+        &self.rows[..usize::from(self.n)]
+    }
+
     /// Takes in a vector that centre `from` told, and answers whether that changed the row of `from`. A centre
     /// learns nothing from itself, and answers false.
     pub fn learn(&mut self, from: u8, vector: &Vector) -> bool
@@ -91,6 +112,17 @@ impl Told {
         rows[usize::from(self.me - 1)] = *own;
         rows
     }
+}
+
+// The rows of `n` centres, first in a place for more.
+fn placed(n: u8, rows: &[Vector]) -> [Vector; MOST_CENTRES as usize]
+    requires width { (1 ≤ n) × (n ≤ MOST_CENTRES) }
+    requires count { length rows.now ≡ n }
+    ensures { take n result ≡ rows.now }
+{
+    let mut places = [Vector::zero(n); MOST_CENTRES as usize];
+    places[..rows.len()].copy_from_slice(rows);
+    places
 }
 
 // Makes a row its join with a vector, and answers whether that changed it.

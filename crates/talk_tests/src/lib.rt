@@ -9,6 +9,8 @@ mod client_session_tests;
 #[cfg(test)]
 mod client_stub_tests;
 #[cfg(test)]
+mod dc_centre_parts;
+#[cfg(test)]
 mod dc_centre_peers;
 #[cfg(test)]
 mod dc_talk_tests;

@@ -1,6 +1,6 @@
 use Rattle.std.proofs.Common.{ap, sym, ◌∙◌, arith, get_or}
 use Rattle.dc_talk.specs.declared.sent.Sent.{Sent}
-use Rattle.dc_centre.proofs.Parts.{part_more}
+use Rattle.dc_centre.proofs.ListParts.{part_more}
 use Rattle.dc_centre.proofs.outbox.part.Goals as goal
 
 pub loop-place-preserved : goal.loop-place-preserved

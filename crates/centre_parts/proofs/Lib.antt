@@ -1,0 +1,5 @@
+mod Entries
+mod Deciding
+mod Tables
+pub mod Guards
+mod Firsts

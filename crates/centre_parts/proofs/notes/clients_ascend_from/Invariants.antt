@@ -1,0 +1,7 @@
+use Rattle.std.proofs.Common.{◌≡◌, drop, map}
+use Rattle.std.specs.Ordering.{nat_cmp}
+use Rattle.join_bundle.specs.Tests.{ascends_from}
+use Rattle.centre_parts.proofs.notes.clients_ascend_from.Given as goal
+
+abbrev pub invariant-loop-note : goal.invariant-loop-note
+invariant-loop-note l = ascends_from nat_cmp l.fn.low (map (λ c. c.client) l.notes) ≡ ascends_from nat_cmp l.last (map (λ c. c.client) (drop l.note-index l.notes))
