@@ -15,7 +15,6 @@ use Rattle.dc_talk.specs.Trails.{carried, told, horizon}
 use Rattle.point_log.specs.KeptLogs.{IsKeptLog}
 use Rattle.centre_parts.specs.declared.condition.Condition.{Condition}
 use Rattle.centre_parts.specs.declared.condition.Condition.TheVariants.{Centre, Known, Limit, Widths, Rows, Outbox, Room, MarkOverBase, StableOverMark, KnownOverTrimmed, Notes, NoteStamps, PointClients, PointObjects, RestUpdates, RestDots, RestNumbers}
-use Rattle.centre_parts.specs.declared.part.AppliedParts.{AppliedParts}
 use Rattle.centre_parts.specs.declared.part.CentreParts.{CentreParts}
 use Rattle.centre_parts.specs.Conditions.{IsTold, AreWide, table_of, Meets, MeetsAll}
 use Rattle.dc_centre.specs.Applied.{AppliedView, IsCentreOf, IsApplied}
@@ -123,10 +122,6 @@ parts_meet c p h are applied many = record { meets = meets_each p c.applied are.
         (subst (λ (t : Table). IsCentre c.settings c.applied t p.mark p.trimmed) table
         (subst (λ (v : List ℕ). IsCentre c.settings c.applied c.told v p.trimmed) (sym are.mark)
         (subst (λ (v : List ℕ). IsCentre c.settings c.applied c.told c.mark v) (sym are.trimmed) h)))
-
--- what is taken from a centre are its parts
-pub parts_taken : (c : CentreView) (applied : AppliedParts) (rows : List (List ℕ)) (outbox : List (List Sent)) → AreAppliedPartsOf c.applied applied → rows ≡ c.told.rows → outbox ≡ c.outbox → ArePartsOf c (record { settings = c.settings; applied = applied; rows = rows; mark = c.mark; trimmed = c.trimmed; outbox = outbox; stopped = c.down })
-parts_taken c applied rows outbox are told sent = record { settings = refl; applied = are; rows = told; mark = refl; trimmed = refl; outbox = sent; stopped = refl }
 
 -- and no others are its parts
 pub parts_only : (c : CentreView) (p others : CentreParts) → ArePartsOf c p → ArePartsOf c others → others.applied ≡ p.applied → others ≡ p
