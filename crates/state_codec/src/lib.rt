@@ -1,0 +1,26 @@
+//! The states of objects, taken apart into plain data, as bytes.
+#![tactic(auto)]
+
+// What reading found, or else the caller stops too. It stands for `?`, of which nothing is proved where a
+// name or a list comes beside a slice.
+macro_rules! found {
+    ($reading:expr) => {
+        match $reading {
+            Ok(found) => found,
+            Err(stop) => return Err(stop),
+        }
+    };
+}
+
+mod fields;
+mod fits;
+mod numbers;
+mod reading;
+mod state;
+mod stop;
+mod tallies;
+mod writing;
+
+pub use reading::state_at;
+pub use state::PlainState;
+pub use writing::{NotPut, put_state};
