@@ -1,7 +1,7 @@
 -- The bytes of numbers.
-use Rattle.std.proofs.Common.{◌≡◌, ℕ, ℤ, refl}
-use Rattle.std.specs.Int.{w16, w32, w64, to_be_bytes, cast_unsigned}
-use Rattle.wire_codec.specs.Spelling.{u16_bytes, u32_bytes, u64_bytes, delta_bytes}
+use Rattle.std.proofs.Common.{◌≡◌, ℕ, refl}
+use Rattle.std.specs.Int.{w16, w32, w64, to_be_bytes}
+use Rattle.wire_codec.specs.Spelling.{u16_bytes, u32_bytes, u64_bytes}
 
 pub u16_is : (n : ℕ) → to_be_bytes w16 n ≡ u16_bytes n
 unfolding u16_bytes

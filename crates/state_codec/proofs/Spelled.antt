@@ -1,15 +1,11 @@
 -- The bytes of a state, field by field, and what reading them tells.
-use Rattle.std.proofs.Common.{◌≡◌, ℕ, ℤ, pos, ◌+◌, ◌-◌, ◌*◌, ◌/◌, ◌%◌, ◌^◌, ◌<◌, ◌≤◌, Bool, true, false, cond, eqb, int_lt, List, [], ◌∷◌, ◌++◌, length, Option, Some, None, refl, sym, ap, ◌∙◌, subst, append_assoc, arith}
-use Rattle.std.specs.Prelude.{All, if◌then◌else◌}
+use Rattle.std.proofs.Common.{◌≡◌, ℕ, ℤ, pos, ◌+◌, ◌-◌, ◌*◌, ◌/◌, ◌%◌, ◌^◌, ◌<◌, ◌≤◌, Bool, true, false, cond, eqb, int_lt, List, [], ◌∷◌, ◌++◌, length, Option, Some, None, refl, sym, ap, ◌∙◌, append_assoc, arith}
 use Rattle.std.specs.Int.{w8, w16, w32, w64, w128, cast_signed, cast_unsigned}
 use Rattle.std.specs.Int.RustNames.{FitsSigned}
-use Rattle.std.specs.List.{flat_map}
-use Rattle.std.specs.Ordering.{int_eq}
-use Rattle.std.proofs.lemmas.Bool.{not-true, not-false, eqb-true, eqb-false}
+use Rattle.std.proofs.lemmas.Bool.{not-true, eqb-true, eqb-false}
 use Rattle.std.proofs.lemmas.Int.{of_z-to_z, to_z-of_z}
 use Rattle.std.proofs.Math.Facts.{Fits-of_z, Fits-lt-pow}
 use borrow.Author.Gap.{read_sfits}
-use native.Mathlib.Nat.{div-add-mod', mod-lt}
 use Rattle.ids_core.specs.declared.ids.OpId.{OpId}
 use Rattle.ids_core.specs.declared.ids.Mark.{Mark}
 use Rattle.ids_core.specs.declared.limits.TheConstants.{MOST_CLIENTS, MOST_UPDATES, MOST_NUMBER}
@@ -25,9 +21,10 @@ use Rattle.wire_codec.specs.Grammar.{name, are_name_bytes, op_id}
 use Rattle.wire_codec.specs.Spelling.{u16_bytes, u32_bytes, u64_bytes, name_bytes, tag_bytes, delta_bytes}
 use Rattle.wire_codec.proofs.FieldsSpelled.{within_is, is_within_from, in_1, in_2, in_4, in_8, name_spells}
 use Rattle.state_codec.specs.declared.state.PlainState.{PlainState}
+use Rattle.state_codec.specs.declared.state.PlainPart.{PlainPart}
 use Rattle.state_codec.specs.declared.state.PlainState.TheVariants.{Counter, Register, Set, Map}
-use Rattle.state_codec.specs.Spelling.{sum_bytes, last_bytes, place_bytes, member_bytes, kept_bytes, entry_bytes, list_bytes, spelled, IsRank, IsSpelledLast, IsSpelledPlace, IsTally, IsSpelledMember, IsSpelledKept, IsSpelledEntry, ascend, AreTallies, IsSpelled}
-use Rattle.state_codec.specs.Reading.{◌>>=◌, Reading, front, any_number, name_at, id_at, sum_at, write_at, last_at, is_tally, tally_at, place_at, member_at, put_at, kept_at, entry_at, times_at, list_at, body_at, plain_at}
+use Rattle.state_codec.specs.Spelling.{sum_bytes, last_bytes, place_bytes, member_bytes, kept_bytes, entry_bytes, list_bytes, spelled, IsRank, IsSpelledLast, IsSpelledPlace, IsTally, IsSpelledMember, IsSpelledKept, IsSpelledEntry, ascend, AreTallies, IsSpelled, part_bytes, IsSpelledPart}
+use Rattle.state_codec.specs.Reading.{◌>>=◌, Reading, front, any_number, name_at, id_at, sum_at, write_at, last_at, is_tally, tally_at, place_at, member_at, put_at, kept_at, entry_at, list_at, body_at, plain_at, named_at}
 use Rattle.state_codec.proofs.Ways.{Tells, of_fields, front_joined, same_way, fit, told, seq, made, tested, chosen, times_tell}
 
 -- ---- numbers, names and identifiers
@@ -328,3 +325,17 @@ plain_tells =
     same (Register last) h = refl
     same (Set tallies) h = refl
     same (Map tallies) h = refl
+
+-- ---- objects with their states
+
+pub named_tells : Tells named_at IsSpelledPart part_bytes
+unfolding named_at
+named_tells =
+    fit (seq (λ (part : PlainPart). part.name) name_tells (λ name n.
+    made (λ state. record { name = name; state = state }) (λ (part : PlainPart). (part.name ≡ name) × IsSpelled part.state) (λ part. spelled part.state) plain_tells
+    (λ state is. ((refl, is), refl))
+    (λ part h. (part.state, (h.1, (λ i. record { name = sym h.0 i; state = part.state })))))
+    (λ name part is h. h.0))
+    (λ part h. (h.0, h.1.1))
+    (λ part h. (h.0, (refl, h.1)))
+    (λ part h. refl)

@@ -1,11 +1,10 @@
--- The state with which bytes begin.
+-- The value with which bytes begin.
 use Rattle.std.specs.Prelude.{◌≡◌, ◌++◌, ℕ, List, length, drop, Option, Some, IfSome}
-use Rattle.state_codec.specs.declared.state.PlainState.{PlainState}
-use Rattle.state_codec.specs.Spelling.{spelled, IsSpelled}
 
--- what was found is the state with which the bytes begin, and how many it has; none where they begin with none
-pub record IsFront (bytes : List ℕ) (found : Option (PlainState × ℕ)) : Type 0 where
-  pub only : (state : PlainState) (rest : List ℕ) → IsSpelled state → bytes ≡ spelled state ++ rest → found ≡ Some (state, length (spelled state))
-  pub fits : IfSome found (λ p. IsSpelled p.0)
-  pub is : IfSome found (λ p. bytes ≡ spelled p.0 ++ drop p.1 bytes)
-  pub count : IfSome found (λ p. p.1 ≡ length (spelled p.0))
+-- What was found is the one value of which this holds and with whose bytes the bytes begin, and how many it has; there is none
+-- where they begin with those of none.
+pub record IsFront {A : Type 0} (Is : A → Type 0) (spelling : A → List ℕ) (bytes : List ℕ) (found : Option (A × ℕ)) : Type 0 where
+  pub only : (x : A) (rest : List ℕ) → Is x → bytes ≡ spelling x ++ rest → found ≡ Some (x, length (spelling x))
+  pub fits : IfSome found (λ p. Is p.0)
+  pub is : IfSome found (λ p. bytes ≡ spelling p.0 ++ drop p.1 bytes)
+  pub count : IfSome found (λ p. p.1 ≡ length (spelling p.0))

@@ -15,6 +15,7 @@ use Rattle.wire_codec.specs.Fields.{Fields, read, number, number_where, bytes_wh
 use Rattle.wire_codec.specs.Grammar.{are_name_bytes, op_id}
 use Rattle.state_codec.specs.declared.state.PlainState.{PlainState}
 use Rattle.state_codec.specs.declared.state.PlainState.TheVariants.{Counter, Register, Set, Map}
+use Rattle.state_codec.specs.declared.state.PlainPart.{PlainPart}
 use Rattle.state_codec.specs.declared.stop.Stop.{Stop}
 use Rattle.state_codec.specs.declared.stop.Stop.TheVariants as stops
 use Rattle.state_codec.specs.Spelling.{ascend}
@@ -142,6 +143,12 @@ unfoldable pub plain_at : List ℕ → Reading PlainState
 plain_at bytes = do
   kind ← front (number w8 1 4) bytes
   body_at kind.0 kind.1
+
+unfoldable pub named_at : List ℕ → Reading PlainPart
+named_at bytes = do
+  name ← name_at bytes
+  state ← plain_at name.1
+  Some (record { name = name.0; state = state.0 }, state.1)
 
 -- what reading the rest gives, with what was read before in front
 abbrev pub with_front : {A : Type 0} → List A → Reading (List A) → Reading (List A)

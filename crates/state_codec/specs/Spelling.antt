@@ -1,5 +1,5 @@
 -- The bytes of the state of an object, and which states have them. Numbers have their greatest byte first.
-use Rattle.std.specs.Prelude.{◌≡◌, ◌≤◌, ◌<◌, ◌+◌, ◌/◌, ◌%◌, ◌^◌, ℕ, ℤ, pos, Bool, true, false, ◌&&◌, cond, int_lt, List, [], ◌∷◌, ◌++◌, length, All, Option, Some, None}
+use Rattle.std.specs.Prelude.{◌≡◌, ◌≤◌, ◌<◌, ◌/◌, ◌%◌, ◌^◌, ℕ, ℤ, pos, Bool, true, false, ◌&&◌, cond, int_lt, List, [], ◌∷◌, ◌++◌, length, All, Option, Some, None}
 use Rattle.std.specs.Int.{w64, w128, cast_unsigned}
 use Rattle.std.specs.Int.RustNames.{FitsSigned}
 use Rattle.std.specs.List.{flat_map}
@@ -15,6 +15,7 @@ use Rattle.tally_core.specs.Places.{place_cmp}
 use Rattle.tx_core.specs.Checks.{IsTag}
 use Rattle.wire_codec.specs.Spelling.{u64_bytes, name_bytes, tag_bytes, delta_bytes}
 use Rattle.state_codec.specs.declared.state.PlainState.{PlainState}
+use Rattle.state_codec.specs.declared.state.PlainPart.{PlainPart}
 use Rattle.state_codec.specs.declared.state.PlainState.TheVariants.{Counter, Register, Set, Map}
 
 -- ---- bytes
@@ -55,6 +56,10 @@ spelled (Counter sum) = 1 ∷ sum_bytes sum
 spelled (Register last) = 2 ∷ last_bytes last
 spelled (Set tallies) = 3 ∷ list_bytes member_bytes tallies
 spelled (Map tallies) = 4 ∷ list_bytes entry_bytes tallies
+
+-- the name of the object, and its state
+abbrev pub part_bytes : PlainPart → List ℕ
+part_bytes part = name_bytes part.name ++ spelled part.state
 
 -- ---- which states have bytes
 
@@ -115,3 +120,7 @@ IsSpelled (Counter sum) = FitsSigned w128 sum
 IsSpelled (Register last) = IsSpelledLast last
 IsSpelled (Set tallies) = AreTallies IsSpelledMember tallies
 IsSpelled (Map tallies) = AreTallies IsSpelledEntry tallies
+
+-- an object whose name is one, and whose state has bytes
+abbrev pub IsSpelledPart : PlainPart → Type 0
+IsSpelledPart part = IsName part.name × IsSpelled part.state

@@ -2,10 +2,10 @@
 ghost use Rattle.std.specs.Prelude.{◌≡◌, ◌↔◌, All, IsTrue};
 ghost use Rattle.ids_core.specs.Name.{IsName};
 ghost use Rattle.tx_core.specs.Checks.{is_within, IsTag};
-ghost use Rattle.state_codec.specs.Spelling.{IsSpelled, IsSpelledLast, IsSpelledPlace, IsTally, IsSpelledMember, IsSpelledKept, IsSpelledEntry, AreTallies, IsRank};
+ghost use Rattle.state_codec.specs.Spelling.{IsSpelled, IsSpelledLast, IsSpelledPlace, IsTally, IsSpelledMember, IsSpelledKept, IsSpelledEntry, AreTallies, IsRank, IsSpelledPart};
 
 use crate::numbers::is_within;
-use crate::state::PlainState;
+use crate::state::{PlainPart, PlainState};
 use crate::tallies::ascend;
 use ids_core::{MOST_CLIENTS, MOST_NUMBER, MOST_UPDATES, Mark, Name, OpId};
 use obj_map::Put;
@@ -26,6 +26,16 @@ impl PlainState {
             PlainState::Set(tallies) => fit_members(tallies.as_slice()),
             PlainState::Map(tallies) => fit_entries(tallies.as_slice()),
         }
+    }
+}
+
+impl PlainPart {
+    /// Whether the state has bytes, and so both have. It takes no memory.
+    pub fn fits(&self) -> bool
+        ensures { IsTrue result ↔ IsSpelledPart self.now }
+    {
+        see(&self.name);
+        self.state.fits()
     }
 }
 

@@ -14,6 +14,7 @@ macro_rules! found {
 
 mod fields;
 mod fits;
+mod laws;
 mod numbers;
 mod reading;
 mod state;
@@ -21,6 +22,7 @@ mod stop;
 mod tallies;
 mod writing;
 
-pub use reading::state_at;
-pub use state::PlainState;
-pub use writing::{NotPut, put_state};
+pub use laws::law_one_spelling;
+pub use reading::{part_at, state_at};
+pub use state::{PlainPart, PlainState};
+pub use writing::{NotPut, put_part, put_state};

@@ -1,11 +1,12 @@
-// The state with which bytes begin.
+// The state, and the object with its state, with which bytes begin.
 ghost use Rattle.std.specs.Prelude.{◌≡◌, ◌≤◌, IfOk};
-ghost use Rattle.state_codec.specs.Reading.{Gives, body_at, plain_at};
+ghost use Rattle.state_codec.specs.Reading.{Gives, body_at, plain_at, named_at};
+ghost use Rattle.state_codec.specs.Spelling.{spelled, IsSpelled, part_bytes, IsSpelledPart};
 ghost use Rattle.state_codec.specs.Fronts.{IsFront};
 
-use crate::fields::{last_at, sum_at};
+use crate::fields::{last_at, name_at, sum_at};
 use crate::numbers::u8_at;
-use crate::state::PlainState;
+use crate::state::{PlainPart, PlainState};
 use crate::stop::Stop;
 use crate::tallies::{entries_at, members_at};
 use ids_core::NoMemory;
@@ -15,7 +16,7 @@ use std::alloc::Global;
 /// The state with which the bytes begin, and how many of them it has. There is none exactly where they begin with the bytes
 /// of no state. What stands behind them is not looked at.
 pub fn state_at(alloc: Global, bytes: &[u8]) -> Result<Option<(PlainState, usize)>, NoMemory>
-    ensures { IfOk result (IsFront bytes.now) }
+    ensures { IfOk result (IsFront IsSpelled spelled bytes.now) }
 {
     match plain_at(alloc, bytes) {
         Ok((state, rest)) => {
@@ -25,6 +26,31 @@ pub fn state_at(alloc: Global, bytes: &[u8]) -> Result<Option<(PlainState, usize
         Err(Stop::Memory) => Err(NoMemory),
         Err(Stop::Other) => Ok(None),
     }
+}
+
+/// The object and its state with which the bytes begin, and how many of them both have. There is none exactly where they begin
+/// with the bytes of none. What stands behind them is not looked at.
+pub fn part_at(alloc: Global, bytes: &[u8]) -> Result<Option<(PlainPart, usize)>, NoMemory>
+    ensures { IfOk result (IsFront IsSpelledPart part_bytes bytes.now) }
+{
+    match named_at(alloc, bytes) {
+        Ok((part, rest)) => {
+            let count = bytes.len() - rest.len();
+            Ok(Some((part, count)))
+        }
+        Err(Stop::Memory) => Err(NoMemory),
+        Err(Stop::Other) => Ok(None),
+    }
+}
+
+// A state, behind the name of its object.
+#[tactic(auto, unfolding(crate::specs::Reading::named_at))]
+fn named_at(alloc: Global, bytes: &[u8]) -> Result<(PlainPart, &[u8]), Stop>
+    ensures { Gives (λ x. (x.0, x.1.now)) result (named_at bytes.now) }
+{
+    let (name, rest) = found!(name_at(bytes));
+    let (state, rest) = found!(plain_at(alloc, rest));
+    Ok((PlainPart { name, state }, rest))
 }
 
 // A state, behind its kind.

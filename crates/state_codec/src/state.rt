@@ -1,6 +1,6 @@
 // A state of an object as plain data.
 
-use ids_core::Mark;
+use ids_core::{Mark, Name};
 use list_core::List;
 use obj_map::Put;
 use obj_register::RegisterOp;
@@ -17,4 +17,11 @@ pub enum PlainState {
     Set(List<(Place, Cell<()>)>),
     /// The tallies of a map, by their places, each with what its put keeps.
     Map(List<(Place, Cell<Put>)>),
+}
+
+/// An object with its state, taken apart. The kind of the object is that of the state.
+#[derive(Drop)]
+pub struct PlainPart {
+    pub name: Name,
+    pub state: PlainState,
 }

@@ -16,11 +16,11 @@ pub fn members_at(alloc: Global, bytes: &[u8]) -> Result<(Vec<(Place, Cell<()>)>
     ensures { Gives (λ x. (x.0.items, x.1.now)) result (list_at member_at bytes.now) }
 {
     let (count, rest) = u64_at(0, u64::MAX, bytes)?;
-    let (list, rest) = found!(some_members_at(alloc, count, rest));
-    if !ascend(&list) {
+    let (members, rest) = found!(some_members_at(alloc, count, rest));
+    if !ascend(&members) {
         return Err(Stop::Other);
     }
-    Ok((list, rest))
+    Ok((members, rest))
 }
 
 // So many tallies of a set.
@@ -58,11 +58,11 @@ pub fn entries_at(alloc: Global, bytes: &[u8]) -> Result<(Vec<(Place, Cell<Put>)
     ensures { Gives (λ x. (x.0.items, x.1.now)) result (list_at entry_at bytes.now) }
 {
     let (count, rest) = u64_at(0, u64::MAX, bytes)?;
-    let (list, rest) = found!(some_entries_at(alloc, count, rest));
-    if !ascend(&list) {
+    let (entries, rest) = found!(some_entries_at(alloc, count, rest));
+    if !ascend(&entries) {
         return Err(Stop::Other);
     }
-    Ok((list, rest))
+    Ok((entries, rest))
 }
 
 // So many tallies of a map.

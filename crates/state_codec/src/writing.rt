@@ -3,9 +3,9 @@ ghost use Rattle.std.specs.Prelude.{◌≡◌, ◌↔◌, ◌++◌, ◌∷◌, O
 ghost use Rattle.std.specs.List.{flat_map};
 ghost use Rattle.wire_codec.specs.Spelling.{u16_bytes, u32_bytes, u64_bytes, name_bytes, tag_bytes, delta_bytes};
 ghost use Rattle.state_codec.specs.declared.writing.NotPut.TheVariants.{Unfit};
-ghost use Rattle.state_codec.specs.Spelling.{sum_bytes, last_bytes, place_bytes, member_bytes, kept_bytes, entry_bytes, list_bytes, spelled, IsSpelled};
+ghost use Rattle.state_codec.specs.Spelling.{sum_bytes, last_bytes, place_bytes, member_bytes, kept_bytes, entry_bytes, list_bytes, spelled, IsSpelled, part_bytes, IsSpelledPart};
 
-use crate::state::PlainState;
+use crate::state::{PlainPart, PlainState};
 use ids_core::{Mark, Name, OpId};
 use obj_map::Put;
 use obj_register::RegisterOp;
@@ -45,6 +45,33 @@ fn put_all(out: &mut Vec<u8>, state: &PlainState) -> Result<(), AllocError>
 {
     let mut bytes = Vec::new(*out.allocator());
     put_plain(&mut bytes, state)?;
+    out.extend_from_slice(&bytes)
+}
+
+/// Puts the bytes of an object and its state behind others. An `Err` leaves those as they were. It is `Unfit` exactly where the
+/// state has no bytes, as for `put_state`.
+pub fn put_part(out: &mut Vec<u8>, part: &PlainPart) -> Result<(), NotPut>
+    ensures ok { OnOk result (out.new.items ≡ out.old.items ++ part_bytes part.now) }
+    ensures err { OnErr result (out.new.items ≡ out.old.items) }
+    ensures unfit { result ≡ Err Unfit ↔ (IsSpelledPart part.now → ⊥) }
+{
+    if !part.fits() {
+        return Err(NotPut::Unfit);
+    }
+    match put_both(out, part) {
+        Ok(()) => Ok(()),
+        Err(_) => Err(NotPut::NoMemory),
+    }
+}
+
+// The same of a state that has bytes.
+fn put_both(out: &mut Vec<u8>, part: &PlainPart) -> Result<(), AllocError>
+    ensures ok { OnOk result (out.new.items ≡ out.old.items ++ part_bytes part.now) }
+    ensures err { OnErr result (out.new.items ≡ out.old.items) }
+{
+    let mut bytes = Vec::new(*out.allocator());
+    put_name(&mut bytes, &part.name)?;
+    put_plain(&mut bytes, &part.state)?;
     out.extend_from_slice(&bytes)
 }
 
