@@ -6,7 +6,7 @@ use obj_map::Put;
 use obj_register::RegisterOp;
 use tally_core::{Cell, Place};
 
-/// The state of an object, taken apart.
+/// The state of an object, taken apart. `fits` tells which have bytes.
 #[derive(Drop)]
 pub enum PlainState {
     /// The sum of a counter.

@@ -2,7 +2,7 @@
 ghost use Rattle.std.specs.Prelude.{◌≡◌};
 ghost use Rattle.state_codec.specs.declared.stop.Stop.TheVariants.{Memory};
 
-use std::alloc::{AllocError, AllocFailed};
+use std::alloc::AllocFailed;
 
 /// Why reading stopped.
 #[derive(Clone, Copy)]
@@ -11,14 +11,6 @@ pub enum Stop {
     Memory,
     /// The bytes do not begin with what is read.
     Other,
-}
-
-impl From<AllocError> for Stop {
-    ghost from_gives = { λ _ e. e ≡ Memory };
-
-    fn from(_: AllocError) -> Stop {
-        Stop::Memory
-    }
 }
 
 impl<T: Drop> From<AllocFailed<T>> for Stop {
