@@ -1,0 +1,5 @@
+pub mod Bytes
+pub mod Loops
+pub mod Ways
+pub mod Spelled
+pub mod Begins

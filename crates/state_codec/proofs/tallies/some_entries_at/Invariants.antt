@@ -1,0 +1,6 @@
+use Rattle.std.proofs.Common.{◌≡◌, ◌-◌}
+use Rattle.state_codec.specs.Reading.{with_front, times_at, entry_at}
+use Rattle.state_codec.proofs.tallies.some_entries_at.Given as goal
+
+abbrev pub invariant-loop : goal.invariant-loop
+invariant-loop l = with_front l.list.items (times_at entry_at (l.count - l.counter) l.rest) ≡ times_at entry_at l.count l.bytes
