@@ -1,0 +1,4 @@
+pub mod Spelling
+pub mod Frames
+pub mod Reading
+pub mod Spoiling
