@@ -1,9 +1,9 @@
 -- Frames of the written version, and what records and transactions have in them.
-use Rattle.std.proofs.Common.{◌≡◌, ◌==◌, ℕ, zero, suc, ◌≤◌, Bool, true, false, eqb, List, [], ◌∷◌, ◌++◌, length, get_or, drop, Option, Some, None, refl, sym, ap, ◌∙◌, subst, arith}
+use Rattle.std.proofs.Common.{◌≡◌, ◌==◌, ℕ, zero, suc, Bool, true, false, eqb, List, [], ◌∷◌, ◌++◌, length, get_or, drop, Some, None, refl, sym, ap, ◌∙◌, subst}
 use Rattle.std.specs.Prelude.{◌&&◌, if◌then◌else◌}
 use Rattle.std.specs.List.{list_all}
 use Rattle.std.proofs.lemmas.Bool.{eqb-true, and_parts}
-use Rattle.std.proofs.lemmas.List.{drop_at, length-append, length-replicate}
+use Rattle.std.proofs.lemmas.List.{drop_at}
 use Rattle.vv_core.specs.Vectors.{zeros}
 use Rattle.tx_core.specs.declared.tx.Tx.{Tx}
 use Rattle.tx_core.specs.declared.tx.Record.{Record}
@@ -16,7 +16,6 @@ use Rattle.wire_codec.specs.declared.item.TheConstants.{VERSION}
 use Rattle.wire_codec.specs.Spelling.{spelled, IsSpelled}
 use Rattle.wire_codec.specs.Answers.{IsAnswer}
 use Rattle.wire_codec.proofs.FramesSpelled.{frame_spells}
-use Rattle.state_codec.specs.Reading.{Reading}
 use Rattle.state_codec.specs.Fronts.{IsFront}
 use Rattle.state_codec.proofs.Ways.{Tells, of_fields, made, tested}
 use Rattle.journal_asks.specs.Spellings.{commit_of}

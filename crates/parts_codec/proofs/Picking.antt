@@ -1,6 +1,5 @@
 -- Ways that pick a part of what another way tells, and ways of which the value at the front is known.
-use Rattle.std.proofs.Common.{◌≡◌, ℕ, ◌≤◌, List, ◌++◌, length, drop, Option, Some, None, refl, sym, ap, ◌∙◌, subst, arith}
-use Rattle.std.proofs.lemmas.List.{length-append}
+use Rattle.std.proofs.Common.{◌≡◌, ℕ, List, ◌++◌, drop, Option, Some, None, refl, ap, ◌∙◌, subst}
 use Rattle.wire_codec.proofs.Spells.{AreBytes}
 use Rattle.state_codec.specs.Reading.{◌>>=◌, Reading}
 use Rattle.state_codec.specs.Fronts.{IsFront}

@@ -1,6 +1,5 @@
 -- The bytes of the parts of a centre, and what reading them tells.
-use Rattle.std.proofs.Common.{◌≡◌, ◌==◌, ℕ, zero, suc, ◌≤◌, ◌<◌, ◌^◌, Bool, true, false, List, [], ◌∷◌, ◌++◌, length, refl, sym, append_assoc, arith}
-use Rattle.std.specs.Int.{w8, w32}
+use Rattle.std.proofs.Common.{◌≡◌, ◌==◌, ℕ, zero, suc, ◌≤◌, Bool, true, false, List, ◌++◌, length, refl, sym, append_assoc, arith}
 use Rattle.ids_core.specs.declared.limits.TheConstants.{MOST_CENTRES}
 use Rattle.vv_core.specs.declared.stamp.Stamp.{Stamp}
 use Rattle.tx_core.specs.declared.part.RestPart.{RestPart}
@@ -8,18 +7,17 @@ use Rattle.tx_core.specs.Checks.{is_within}
 use Rattle.dc_talk.specs.declared.settings.Settings.{Settings}
 use Rattle.dup_guard.specs.declared.noted.Noted.{Noted}
 use Rattle.check_point.specs.declared.part.Folded.{Folded}
-use Rattle.wire_codec.specs.Fields.{number}
 use Rattle.wire_codec.specs.Spelling.{u32_bytes, u64_bytes}
 use Rattle.wire_codec.proofs.FieldsSpelled.{within_is, is_within_from, in_1, in_4}
 use Rattle.state_codec.specs.Spelling.{list_bytes, part_bytes, IsSpelledPart}
-use Rattle.state_codec.specs.Reading.{◌>>=◌, Reading, front, named_at}
+use Rattle.state_codec.specs.Reading.{Reading}
 use Rattle.state_codec.proofs.Ways.{Tells, of_fields, fit, seq, made, times_tell}
 use Rattle.state_codec.proofs.Spelled.{any_tells, named_tells}
 use Rattle.parts_codec.specs.declared.plain.PlainPoint.{PlainPoint}
 use Rattle.parts_codec.specs.declared.plain.PlainApplied.{PlainApplied}
 use Rattle.parts_codec.specs.declared.plain.PlainCentre.{PlainCentre}
-use Rattle.parts_codec.specs.Spelling.{u8_bytes, flag_bytes, vector_bytes, stamp_bytes, noted_bytes, folded_bytes, sent_bytes, tx_bytes, rest_bytes, settings_bytes, point_bytes, applied_bytes, centre_bytes, IsByte, IsHalf, IsNumber, IsFlag, IsSpelledList, IsSpelledVector, IsSpelledStamp, IsSpelledNoted, IsSpelledFolded, IsSpelledSent, IsSpelledTx, IsSpelledRest, IsSpelledSettings, IsSpelledPoint, IsSpelledApplied, IsSpelledCentre}
-use Rattle.parts_codec.specs.Reading.{byte_at, half_at, number_at, flag_at, list_at, vector_at, stamp_at, noted_at, folded_at, sent_at, tx_at, rest_at, settings_at, point_at, applied_at, centre_at}
+use Rattle.parts_codec.specs.Spelling.{u8_bytes, flag_bytes, vector_bytes, stamp_bytes, noted_bytes, folded_bytes, sent_bytes, rest_bytes, settings_bytes, point_bytes, applied_bytes, centre_bytes, IsByte, IsHalf, IsNumber, IsFlag, IsSpelledList, IsSpelledVector, IsSpelledStamp, IsSpelledNoted, IsSpelledFolded, IsSpelledSent, IsSpelledRest, IsSpelledSettings, IsSpelledPoint, IsSpelledApplied, IsSpelledCentre}
+use Rattle.parts_codec.specs.Reading.{byte_at, half_at, number_at, flag_at, list_at, vector_at, stamp_at, noted_at, folded_at, rest_at, settings_at, point_at, applied_at, centre_at}
 use Rattle.parts_codec.proofs.Framed.{sent_tells, tx_tells}
 
 -- ---- numbers, and what is true or false

@@ -14,7 +14,7 @@ use Rattle.check_point.specs.declared.part.Folded.{Folded}
 use Rattle.wire_codec.specs.declared.item.Item.{Item}
 use Rattle.wire_codec.specs.declared.item.Item.TheVariants.{Rec, Rep}
 use Rattle.wire_codec.specs.declared.item.TheConstants.{VERSION}
-use Rattle.wire_codec.specs.Fields.{Fields, number}
+use Rattle.wire_codec.specs.Fields.{number}
 use Rattle.wire_codec.specs.Grammar.{frame}
 use Rattle.state_codec.specs.Reading.{◌>>=◌, Reading, front, any_number, times_at, named_at}
 use Rattle.parts_codec.specs.declared.plain.PlainPoint.{PlainPoint}

@@ -18,8 +18,8 @@ impl PartsItem {
     ghost use Rattle.std.specs.Prelude.{◌≡◌, IfOk, Err};
     ghost use Rattle.state_codec.specs.declared.writing.NotPut.TheVariants.{Unfit};
 
-    /// A centre as an item. It is `Unfit` only where the centre has no bytes. Where it has none, it is `Unfit`, or `NoMemory`
-    /// where memory ran out before that was seen.
+    /// A centre as an item. An `Err` lets the centre go. It is `Unfit` only where the centre has no bytes; where it has none,
+    /// it is `Unfit`, or `NoMemory` where memory ran out before that was seen.
     pub fn of(alloc: Global, centre: PlainCentre) -> Result<PartsItem, NotPut>
         ensures ok { IfOk result (λ item. item.centre ≡ centre) }
         ensures fits { IfOk result (λ item. IsSpelledCentre centre) }
