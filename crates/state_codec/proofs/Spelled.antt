@@ -29,7 +29,7 @@ use Rattle.state_codec.proofs.Ways.{Tells, of_fields, front_joined, same_way, fi
 
 -- ---- numbers, names and identifiers
 
-any_tells : Tells (front any_number) (λ n. n < 2 ^ 64) u64_bytes
+pub any_tells : Tells (front any_number) (λ n. n < 2 ^ 64) u64_bytes
 any_tells = fit (of_fields (in_8 (is_within 0 18446744073709551615)))
     (λ n h. h.0)
     (λ n h. (h, is_within_from 0 18446744073709551615 n (omega arith) (omega (arith, h))))

@@ -23,6 +23,8 @@ mod tallies;
 mod writing;
 
 pub use laws::law_one_spelling;
+pub use numbers::{u8_at, u32_at, u64_at};
 pub use reading::{part_at, state_at};
 pub use state::{PlainPart, PlainState};
-pub use writing::{NotPut, put_part, put_state};
+pub use stop::Stop;
+pub use writing::{NotPut, put_part, put_state, put_u32, put_u64};

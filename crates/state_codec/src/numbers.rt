@@ -7,7 +7,8 @@ ghost use Rattle.state_codec.specs.Reading.{Gives, front};
 
 use crate::stop::Stop;
 
-/// A number of one byte.
+/// The number of one byte from `low` to `high` with which bytes begin, and what stands behind it. It is `Other` exactly
+/// where they begin with none.
 pub fn u8_at(low: u8, high: u8, bytes: &[u8]) -> Result<(u8, &[u8]), Stop>
     ensures value { Gives (λ x. (x.0, x.1.now)) result (front (number w8 low high) bytes.now) }
     ensures range { IfOk result (λ x. (low ≤ x.0) × (x.0 ≤ high)) }
@@ -39,7 +40,8 @@ pub fn u16_at(low: u16, high: u16, bytes: &[u8]) -> Result<(u16, &[u8]), Stop>
     Ok((number, rest))
 }
 
-/// A number of four bytes.
+/// The number of four bytes from `low` to `high` with which bytes begin, and what stands behind it. It is `Other` exactly
+/// where they begin with none.
 pub fn u32_at(low: u32, high: u32, bytes: &[u8]) -> Result<(u32, &[u8]), Stop>
     ensures value { Gives (λ x. (x.0, x.1.now)) result (front (number w32 low high) bytes.now) }
     ensures range { IfOk result (λ x. (low ≤ x.0) × (x.0 ≤ high)) }
@@ -55,7 +57,8 @@ pub fn u32_at(low: u32, high: u32, bytes: &[u8]) -> Result<(u32, &[u8]), Stop>
     Ok((number, rest))
 }
 
-/// A number of eight bytes.
+/// The number of eight bytes from `low` to `high` with which bytes begin, and what stands behind it. It is `Other` exactly
+/// where they begin with none.
 pub fn u64_at(low: u64, high: u64, bytes: &[u8]) -> Result<(u64, &[u8]), Stop>
     ensures value { Gives (λ x. (x.0, x.1.now)) result (front (number w64 low high) bytes.now) }
     ensures range { IfOk result (λ x. (low ≤ x.0) × (x.0 ≤ high)) }

@@ -12,10 +12,10 @@ use obj_register::RegisterOp;
 use std::alloc::AllocError;
 use tally_core::{Cell, Place};
 
-/// Why a state was not put.
+/// Why something was not put.
 #[derive(Clone, Copy)]
 pub enum NotPut {
-    /// The state has no bytes.
+    /// It has no bytes.
     Unfit,
     /// Memory ran out.
     NoMemory,
@@ -212,15 +212,17 @@ fn put_u16(out: &mut Vec<u8>, number: u16) -> Result<(), AllocError>
     out.extend_from_slice(&number.to_be_bytes())
 }
 
+/// Puts a number in four bytes behind others, the greatest byte first. After an `Err` some of them may stand there.
 #[tactic(auto, using(crate::proofs::Bytes::u32_is))]
-fn put_u32(out: &mut Vec<u8>, number: u32) -> Result<(), AllocError>
+pub fn put_u32(out: &mut Vec<u8>, number: u32) -> Result<(), AllocError>
     ensures { OnOk result (out.new.items ≡ out.old.items ++ u32_bytes number) }
 {
     out.extend_from_slice(&number.to_be_bytes())
 }
 
+/// Puts a number in eight bytes behind others, the greatest byte first. After an `Err` some of them may stand there.
 #[tactic(auto, using(crate::proofs::Bytes::u64_is))]
-fn put_u64(out: &mut Vec<u8>, number: u64) -> Result<(), AllocError>
+pub fn put_u64(out: &mut Vec<u8>, number: u64) -> Result<(), AllocError>
     ensures { OnOk result (out.new.items ≡ out.old.items ++ u64_bytes number) }
 {
     out.extend_from_slice(&number.to_be_bytes())

@@ -1,0 +1,4 @@
+pub mod Picking
+pub mod Framed
+pub mod Spelled
+pub mod Items
