@@ -39,7 +39,7 @@ module _ {D : Type 0} {disk : Ghosts D} (old : JournalCentre D disk) (s : Settin
     opened_again (Err e) opens = tt
 
     -- no gate is bad
-    pub none_bad : {T : Type 0} (r : Result T (Unopened D disk))
+    pub none_bad : {T : Type 0} (r : Result T (Unopened D))
         → IfErr r (λ e. (h : List Moment) (trail : List Entry) → honest e.disk → stands d h → is_sound h ≡ true → History s trail → IsFileOf s trail (seen h) → Ran (stands e.disk) h (IsFound s trail h) (λ _. IsBad e.why → ⊥))
         → IfErr r (λ e. (h : List Moment) (trail : List Entry) → honest e.disk → stands (disk_of old) h → IsJournalOf old h trail → Ran (stands e.disk) h (IsFileOf s trail) (λ _. IsBad e.why → ⊥))
     none_bad (Ok x) bad = tt
