@@ -37,6 +37,7 @@ same_more a b x y same last = map-append of_any a (x ∷ []) ∙ (λ i. same i +
 
 module _ (s : Settings) where
   module _ (a b : List Entry) (same : AreSame a b) where
+    -- what either leaves in a centre, part by part
     carried_same : carried s.n a ≡ carried s.n b
     carried_same = fold_same (λ (C : List Sent) (ask : Ask) (say : Say). carried_on s.n C ask say) [] a b same
 
@@ -59,6 +60,7 @@ module _ (s : Settings) where
     after_same h Prune (Base news folded trimmed) = pruned_same h
     after_same h _ _ = refl
 
+  -- how far either has pruned, behind trails that are the same
   past_same : (a b : List Entry) (h : Horizon) (xs ys : List Entry) → AreSame a b → AreSame xs ys → horizon_past s a h xs ≡ horizon_past s b h ys
   past_same a b h [] [] same later = refl
   past_same a b h [] (y ∷ ys) same later = absurd (cc later)

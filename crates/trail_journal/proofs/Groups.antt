@@ -39,13 +39,22 @@ all_answered s trail asks count says are enough =
     take_all count asks (omega (arith, many, enough, length-take count asks))
 
 -- and the entries of a history are those of its asks
-pub group_same : (s : Settings) (front group : List Entry) (asks : List Ask) (count : ℕ) (says : List Say) → asks ≡ map ask_in group → says ≡ map said_in (answered s front (take count asks)) → length group ≤ length says → History s (front ++ group) → AreSame group (answered s front (take count asks))
+group_same : (s : Settings) (front group : List Entry) (asks : List Ask) (count : ℕ) (says : List Say) → asks ≡ map ask_in group → says ≡ map said_in (answered s front (take count asks)) → length group ≤ length says → History s (front ++ group) → AreSame group (answered s front (take count asks))
 group_same s front group asks count says asks_are says_are enough history =
     let many : length asks ≡ length group = ap length asks_are ∙ length-map group ask_in in
     let all : take count asks ≡ map ask_in group = all_answered s front asks count says says_are (omega (arith, many, enough)) ∙ asks_are in
     subst (λ (l : List Ask). AreSame group (answered s front l)) (sym all) (asked_same s front group history)
 
 module _ {D : Type 0} {disk : Ghosts D} (stands : D → List Moment → Type 0) where
+  -- all of a group was asked where each of its asks has a reply
+  pub group_asked : (old new : JournalCentre D disk) (h : List Moment) (P : List ℕ → Type 0) (front group : List Entry) (asks : List Ask) (count : ℕ) (says : List Say) → asks ≡ map ask_in group → length group ≤ length says → History (settings_of old) (front ++ group)
+      → Ran (stands (disk_of new)) h P (λ later. (says ≡ map said_in (answered (settings_of old) front (take count asks))) × ((more : List Entry) → AreSame more (answered (settings_of old) front (take count asks)) → IsJournalOf new later (front ++ more)))
+      → Ran (stands (disk_of new)) h (λ _. Unit {0}) (λ later. IsJournalOf new later (front ++ group))
+  group_asked old new h P front group asks count says asks_are enough history ran =
+      let s = settings_of old in
+      ran_weaker (stands (disk_of new)) h P (λ _. Unit {0}) (λ later. (says ≡ map said_in (answered s front (take count asks))) × ((more : List Entry) → AreSame more (answered s front (take count asks)) → IsJournalOf new later (front ++ more))) (λ later. IsJournalOf new later (front ++ group)) (λ file f. tt)
+      (λ l q. q.1 group (group_same s front group asks count says asks_are q.0 enough history)) ran
+
   -- a centre that was asked nothing was asked all of a trail but the rest
   pub record HasAsked (old new : JournalCentre D disk) (trail rest : List Entry) : Type 0 where
     pub front : List Entry

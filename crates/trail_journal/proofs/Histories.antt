@@ -5,6 +5,7 @@ use Rattle.run_book.specs.Setups.{Setup}
 use Rattle.run_book.specs.Fit.{FitsWith}
 use Rattle.trail_journal.specs.Journals.{HasHistories}
 
+-- and the numbers of the setup are in range
 pub fits_histories : (b : Book) (setup : Setup) → FitsWith b setup → HasHistories b setup.limit
 fits_histories b setup fit = record {
   n = fit.form.n;

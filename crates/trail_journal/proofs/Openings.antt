@@ -18,12 +18,15 @@ use Rattle.dc_journal.proofs.Keeping.{between}
 
 module _ {D : Type 0} {disk : Ghosts D} (old : JournalCentre D disk) (s : Settings) (same : settings_of old ≡ s) where
   module _ (h : List Moment) (trail : List Entry) (is : IsJournalOf old h trail) where
+    -- its trail is a history under these settings
     history_there : History s trail
     history_there = subst (λ (g : Settings). History g trail) same is.history
 
+    -- and its disk has the file of the trail
     file_there : IsFileOf s trail (seen h)
     file_there = subst (λ (g : Settings). IsFileOf g trail (seen h)) same (is.items, (is.asks, at_file spelled (end_of old) h is.items (seen h) is.file refl))
 
+    -- and so it has where a crash left it as it was
     found_there : (c : List ℕ) → IsFound s trail h c → IsFileOf s trail c
     found_there c (inl left) = subst (λ (g : Settings). IsFileOf g trail c) same (between old h trail c is left)
     found_there c (inr file) = file

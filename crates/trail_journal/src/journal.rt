@@ -15,9 +15,9 @@ use journal_disk::Disk;
 use journal_file::{JournalFault, OpenFault, Unopened};
 use std::alloc::Global;
 
-/// A centre with a new journal on a disk, whatever that held, that was asked all asks of a trail. Where the trail is a
-/// history of such a centre, it stands for the trail: each reply was the one that stands there. Until it answers,
-/// nothing is said of what a crash leaves. `Err` is want of memory, or the disk has failed.
+/// A centre with a new journal on a disk, whatever that held, after all asks of a trail. Where the trail is a history of
+/// such a centre, and no sync of the disk has failed before, it stands for the trail. Until it answers, nothing is said of
+/// what a crash leaves. `Err` is want of memory, or the disk has failed.
 pub fn journal_of<D: Disk>(
     alloc: Global,
     settings: Settings,
@@ -74,8 +74,9 @@ fn why_of(fault: JournalFault) -> OpenFault
     }
 }
 
-/// Gives up a centre with a journal, and opens its disk again. At each moment of the call a crash leaves the journal of
-/// the trail for which the centre stood, and so does the one that is opened. `Err` is want of memory, or the disk has failed.
+/// Gives up a centre with a journal, and opens its disk again. Where each read gave what stood there, the one that is opened
+/// stands for the same trail, a crash at any moment of the call leaves the journal of that trail, and `Err` is want of memory
+/// or the disk has failed: only where a read gave something else can a gate be bad.
 pub fn reopened<D: Disk>(
     alloc: Global,
     settings: Settings,

@@ -13,6 +13,6 @@ returns-in-Ok-clause-ok g c =
     let trail = c.args.trail.now in
     IfOk-weaker c.filled.result _ _
     (λ j fills. λ h stood sound history.
-        ran_more (stands (disk_of first)) (stands (disk_of j)) h (λ _. Unit {0}) (λ later. IsJournalOf first later []) (λ later. IsJournalOf j later trail) (c.in-Ok.ensures.ok h stood sound)
-        (λ l now none. fills l now none (subst (λ (s : Settings). History s trail) (sym c.in-Ok.ensures.settings) history)))
+    ran_more (stands (disk_of first)) (stands (disk_of j)) h (λ _. Unit {0}) (λ later. IsJournalOf first later []) (λ later. IsJournalOf j later trail) (c.in-Ok.ensures.ok h stood sound)
+    (λ l now none. fills l now none (subst (λ (s : Settings). History s trail) (sym c.in-Ok.ensures.settings) history)))
     c.filled.ensures.ok
