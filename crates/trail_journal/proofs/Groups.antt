@@ -1,11 +1,11 @@
 -- A centre with a journal is asked what a trail has, group by group.
-use Rattle.std.proofs.Common.{◌≡◌, ◌<◌, ◌≤◌, ◌+◌, ◌⊎◌, inl, inr, ℕ, suc, false, List, [], ◌∷◌, ◌++◌, map, length, take, Result, Ok, Err, MatchResult, refl, sym, ◌∙◌, ap, subst, append_assoc, arith}
+use Rattle.std.proofs.Common.{◌≡◌, ◌<◌, ◌≤◌, ◌+◌, ◌⊎◌, inl, inr, ℕ, suc, true, false, List, [], ◌∷◌, ◌++◌, map, length, take, Result, Ok, Err, IfOk, refl, sym, ◌∙◌, ap, subst, append_assoc, arith}
 use Rattle.std.proofs.lemmas.List.{append-nil, take_at, take_all, length-map, length-take}
 use Rattle.list_core.proofs.Moments.{each_take}
 use Rattle.machine_trail.specs.History.{entry}
 use Rattle.journal_disk.specs.declared.disk.Disk.{Ghosts}
 use Rattle.journal_disk.specs.declared.disk.Moment.{Moment}
-use Rattle.journal_disk.specs.Disk.{Ran, HasRisen}
+use Rattle.journal_disk.specs.Disk.{is_sound, Ran, HasRisen}
 use Rattle.journal_disk.proofs.Histories.{ran_none, ran_more, ran_weaker}
 use Rattle.dc_talk.specs.declared.ask.Ask.{Ask}
 use Rattle.dc_talk.specs.declared.say.Say.{Say}
@@ -97,3 +97,13 @@ module _ {D : Type 0} {disk : Ghosts D} (stands : D → List Moment → Type 0) 
   asked_all old new trail rest asked none h stood of_none history =
       let whole : asked.front ≡ trail = sym (append-nil asked.front) ∙ ap (λ (l : List Entry). asked.front ++ l) (sym none) ∙ sym asked.is in
       subst (λ (l : List Entry). Ran (stands (disk_of new)) h (λ _. Unit {0}) (λ later. IsJournalOf new later l)) whole (asked.stood h stood of_none history)
+
+  -- what a new centre stands for once it was asked all of a trail
+  pub filled_new : {E : Type 0} (d : D) (s : Settings) (first : JournalCentre D disk) (trail : List Entry) (r : Result (JournalCentre D disk) E) → settings_of first ≡ s
+      → ((h : List Moment) → stands d h → is_sound h ≡ true → Ran (stands (disk_of first)) h (λ _. Unit {0}) (λ later. IsJournalOf first later []))
+      → IfOk r (λ j. (h : List Moment) → stands (disk_of first) h → IsJournalOf first h [] → History (settings_of first) trail → Ran (stands (disk_of j)) h (λ _. Unit {0}) (λ later. IsJournalOf j later trail))
+      → IfOk r (λ j. (h : List Moment) → stands d h → is_sound h ≡ true → History s trail → Ran (stands (disk_of j)) h (λ _. Unit {0}) (λ later. IsJournalOf j later trail))
+  filled_new d s first trail (Ok j) same made fills = λ h stood sound history.
+      ran_more (stands (disk_of first)) (stands (disk_of j)) h (λ _. Unit {0}) (λ later. IsJournalOf first later []) (λ later. IsJournalOf j later trail) (made h stood sound)
+      (λ l now none. fills l now none (subst (λ (g : Settings). History g trail) (sym same) history))
+  filled_new d s first trail (Err e) same made fills = tt
