@@ -1,7 +1,7 @@
 -- Who asked changes neither a centre nor its answers.
 use Rattle.std.proofs.Common.{◌≡◌, ℕ, Bool, false, cond, ◌==◌, List, [], ◌∷◌, ◌++◌, map, fold, refl, sym, ◌∙◌, ap, subst, append_assoc}
 use Rattle.std.specs.Option.{unwrap_or}
-use Rattle.std.proofs.lemmas.List.{map-append, append-nil}
+use Rattle.std.proofs.lemmas.List.{map-append}
 use Rattle.vv_core.specs.Vectors.{zeros, centres, tabulate, column, least, join_of, meet_of, kth_largest}
 use Rattle.machine_trail.specs.History.{entry}
 use Rattle.dc_talk.specs.declared.ask.Ask.{Ask}
@@ -14,11 +14,11 @@ use Rattle.dc_talk.specs.Entries.{Entry}
 use Rattle.dc_talk.specs.Records.{vector}
 use Rattle.dc_talk.specs.Sents.{items}
 use Rattle.dc_talk.specs.Answers.{History, answer}
-use Rattle.dc_talk.specs.Trails.{carried_on, taught_in, switched_in, carried, applied, taught, told, stopped, rows, stable, all_known, Horizon, horizon_at_first, pruned, horizon_after, horizon_past, horizon}
+use Rattle.dc_talk.specs.Trails.{carried_on, taught_in, switched_in, carried, applied, taught, told, stopped, rows, Horizon, horizon_at_first, pruned, horizon_after, horizon_past}
 use Rattle.trail_kept.specs.Kept.{IsSameState}
 use Rattle.trail_kept.proofs.Left.{same_answer}
 use Rattle.dc_journal.specs.Answered.{answered, of_any, AreSame}
-use Rattle.dc_journal.proofs.Trails.{history_front, history_here}
+use Rattle.dc_journal.proofs.Trails.{history_here}
 use Rattle.trail_journal.specs.Files.{ask_in}
 
 -- a fold over asks and replies

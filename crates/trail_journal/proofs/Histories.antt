@@ -1,5 +1,4 @@
 -- The trails of a book that fits are histories.
-use Rattle.std.proofs.Common.{◌≡◌}
 use Rattle.run_book.specs.declared.book.Book.{Book}
 use Rattle.run_book.specs.Setups.{Setup}
 use Rattle.run_book.specs.Fit.{FitsWith}

@@ -1,11 +1,10 @@
 -- What is known of the file of an open journal.
-use Rattle.std.proofs.Common.{◌≡◌, ◌+◌, ℕ, List, [], ◌∷◌, ◌++◌, length, sym, ◌∙◌, ap, subst, arith, length-append}
+use Rattle.std.proofs.Common.{◌≡◌, ◌+◌, List, [], ◌∷◌, length, ap, subst, arith, length-append}
 use Rattle.journal_disk.specs.declared.disk.Disk.{Ghosts}
 use Rattle.journal_disk.specs.declared.disk.Moment.{Moment}
 use Rattle.journal_disk.specs.Disk.{seen}
 use Rattle.dc_talk.specs.declared.settings.Settings.{Settings}
 use Rattle.dc_talk.specs.Entries.{Entry}
-use Rattle.journal_asks.specs.declared.kept_ask.KeptAsk.{KeptAsk}
 use Rattle.dc_journal.specs.declared.journal_centre.JournalCentre.{JournalCentre}
 use Rattle.dc_journal.specs.Asks.{AreAsksOf}
 use Rattle.dc_journal.specs.Open.{settings_of, end_of, IsJournalOf}

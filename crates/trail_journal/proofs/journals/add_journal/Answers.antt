@@ -1,4 +1,4 @@
-use Rattle.std.proofs.Common.{◌≡◌, ◌<◌, ◌+◌, List, length, sym, ◌∙◌, ap, subst, arith}
+use Rattle.std.proofs.Common.{◌<◌, ◌+◌, List, length, ◌∙◌, ap, subst, arith}
 use Rattle.journal_disk.specs.Steady.{steady_bytes}
 use Rattle.dc_talk.specs.Entries.{Entry}
 use Rattle.trail_journal.specs.Files.{IsJust}
