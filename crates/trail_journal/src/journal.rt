@@ -17,7 +17,8 @@ use std::alloc::Global;
 
 /// A centre with a new journal on a disk, whatever that held, after all asks of a trail. Where the trail is a history of
 /// such a centre, and no sync of the disk has failed before, it stands for the trail. Until it answers, nothing is said of
-/// what a crash leaves. `Err` is want of memory, or the disk has failed.
+/// what a crash leaves. `Err` is want of memory, or the disk has failed: of its count of faults only that it is above 0 is
+/// said then.
 pub fn journal_of<D: Disk>(
     alloc: Global,
     settings: Settings,
