@@ -1,0 +1,33 @@
+// How many entries the journal of a trail has.
+ghost use Rattle.std.specs.Prelude.{◌≡◌, length};
+ghost use Rattle.trail_kept.specs.Kept.{is_kept, kept};
+
+use dc_talk::{Entry, Say};
+
+/// How many entries of a trail are put in a journal.
+pub(crate) fn entries_in(trail: &[Entry]) -> u64
+    ensures { result ≡ length (kept trail.now) }
+{
+    let mut count: usize = 0;
+    for entry in trail {
+        if is_kept(&entry.say) {
+            count += 1;
+        }
+    }
+    count as u64
+}
+
+// Whether an ask with this reply is put in a journal.
+fn is_kept(say: &Say) -> bool
+    ensures { result ≡ is_kept say.now }
+{
+    matches!(
+        say,
+        Say::Stamped { .. }
+            | Say::Applied { .. }
+            | Say::Learned { .. }
+            | Say::Base { .. }
+            | Say::Stopped
+            | Say::Started
+    )
+}
