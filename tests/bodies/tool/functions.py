@@ -121,7 +121,9 @@ def name_of(kind, rest):
     parameters, rest = split_parameters(rest)
     rest = re.sub(r"\s*(\bwhere\b.*|\{.*)$", "", rest).strip()
     trait, _, of = rest.rpartition(" for ")
-    return type_name(of, parameters) + (type_name(trait, parameters) if trait else "")
+    name = type_name(of, parameters) + (type_name(trait, parameters) if trait else "")
+    # A primitive type begins with a great letter there: the name for `impl Spell for bool` is `BoolSpell`.
+    return name[0].upper() + name[1:]
 
 
 def split_parameters(rest):
