@@ -3,16 +3,16 @@
 # phase of 4 centres and 256 clients, 64 at each, with as many rounds of each worker as a client has steps, so that
 # both forms make one round a turn. Each client makes 40 transactions of a counter, a set and a map, pushes each, and
 # takes a snapshot after each fourth. There are two mixes:
-#   half     a transaction reads as often as it changes something: each of its own three objects or another client's.
-#            Clients are out of step, so that some push in each turn
+#   half     a transaction reads its client's set and map and another client's set, and then changes the counter, the set
+#            and the map. Clients are out of step, so that some push in each turn
 #   writes   a client reads its own three objects after each fourth transaction, and all clients push in the same turns
 # It counts the entries of the trails, and prints the rows of the table in docs/benchmarks.md: the whole time and the time
 # of the phase, in which the program has threads, and how many processors were at work in it. Each time is the least of
 # five runs, by the clock, and the processors are those of the run with the shortest phase. The phase of `serial` is
 # what is left of its time without what `run` with 1 thread takes beside its phase. The status is 1 where the
 # entries of `run` and of `serial` differ by more than a twentieth, where the whole with 4 threads is not 1.4 times as fast
-# as `serial`, where the phase of `half` with 4 threads is not 1.8 times as fast as with 1, or where the program gives a
-# wrong end.
+# as `serial`, where the phase with 4 threads is slower than with 1, or by `half` not 1.8 times as fast, or where the
+# program gives a wrong end.
 #   bench/equal.sh             times crates/swift_sim/out/swift_sim
 #   bench/equal.sh MIX..       the same of these mixes alone
 #   SWIFT_SIM=FILE bench/equal.sh     times another program
@@ -32,8 +32,7 @@ half() {
     function object(read, client, number) {
         if (read == 1) return "s.cart" client
         if (read == 2) return "m.page" client
-        if (read == 3) return "s.cart" (client * 7 + number * 13 + read) % clients + 1
-        return "c.total"
+        return "s.cart" (client * 7 + number * 13 + read) % clients + 1
     }
     BEGIN {
         print "centres 4 k 2\nclients " clients "\nthreads " threads "\nrounds " each * 9 + int(each / 4) + 3
