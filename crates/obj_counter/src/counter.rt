@@ -34,6 +34,13 @@ impl Model for CounterState {
 }
 
 impl CounterState {
+    /// The state of a counter with that sum.
+    pub fn of_sum(sum: i128) -> CounterState
+        ensures { result ≡ sum }
+    {
+        CounterState { sum }
+    }
+
     /// The sum.
     pub fn value(&self) -> i128
         ensures { result ≡ self.now }

@@ -1,5 +1,6 @@
 // The map.
 ghost use Rattle.std.specs.Prelude.{◌≡◌, ◌↔◌, ℕ, List, map, IfOk, OnOk, OnErr};
+ghost use Rattle.std.specs.FinMap.{entries};
 ghost use Rattle.std.specs.List.Sorted.{IsStrictlySortedBy};
 ghost use Rattle.list_core.specs.Members.{In};
 ghost use Rattle.ids_core.specs.declared.ids.Mark.{Mark};
@@ -7,13 +8,14 @@ ghost use Rattle.ids_core.specs.Kinds.{Distinct};
 ghost use Rattle.ids_core.specs.Orders.{name_cmp};
 ghost use Rattle.tally_core.specs.Changes.{LiveByOps};
 ghost use Rattle.tally_core.specs.Live.{live_ids};
+ghost use Rattle.tally_core.specs.Listing.{AreStored};
 ghost use Rattle.obj_map.specs.Maps.{Map, does, step, pairs, IsStateOf, IsGreatestPut};
 
 use crate::put::{Put, greatest};
 use ids_core::{Kind, Mark, Name, NoMemory, Tags};
 use std::alloc::Global;
 use std::marker::Model;
-use tally_core::Tallies;
+use tally_core::{Cell, Place, Tallies};
 
 /// A put of a word at a key, or an erase of the key where there is no word, and the identifiers of the
 /// key's puts that were live where it was issued. A put carries them too, so that a key that is written
@@ -89,6 +91,26 @@ impl MapState {
         ensures { IfOk result (λ list. list ≡ live_ids self.now key.now) }
     {
         self.tallies.live(alloc, key)
+    }
+
+    /// The places with a tally, ascending, each with the tally, which is not 0, and the put, which is kept
+    /// exactly where the tally is 1 or more.
+    pub fn tallies(&self, alloc: Global) -> Result<Vec<(Place, Cell<Put>)>, NoMemory>
+        ensures list { IfOk result (λ list. list.items ≡ entries self.now) }
+        ensures stored { IfOk result (λ list. AreStored list.items) }
+    {
+        self.tallies.entries(alloc)
+    }
+
+    /// The state of a map with those tallies. `tally_core::are_stored` tells which lists are those of some
+    /// state.
+    pub fn of_tallies(alloc: Global, list: &[(Place, Cell<Put>)]) -> Result<MapState, NoMemory>
+        requires { AreStored list.now }
+        ensures { IfOk result (λ state. entries state ≡ list.now) }
+    {
+        Ok(MapState {
+            tallies: Tallies::of_entries(alloc, list)?,
+        })
     }
 }
 

@@ -35,6 +35,20 @@ impl Model for RegisterState {
 }
 
 impl RegisterState {
+    /// The state of a register of which that is the write with the greatest mark, or none.
+    pub fn of_last(last: Option<(Mark, RegisterOp)>) -> RegisterState
+        ensures { result ≡ last }
+    {
+        RegisterState { last }
+    }
+
+    /// The write with the greatest mark; none where nothing was written.
+    pub fn last(&self) -> Option<(Mark, RegisterOp)>
+        ensures { result ≡ self.now }
+    {
+        self.last
+    }
+
     /// The word of the write with the greatest mark; none where nothing was written.
     pub fn value(&self) -> Option<Name>
         ensures { result ≡ word_of self.now }

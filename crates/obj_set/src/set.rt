@@ -1,5 +1,6 @@
 // The set.
 ghost use Rattle.std.specs.Prelude.{◌≡◌, ◌↔◌, ℕ, List, IfOk, OnOk, OnErr};
+ghost use Rattle.std.specs.FinMap.{entries};
 ghost use Rattle.std.specs.List.Sorted.{IsStrictlySortedBy};
 ghost use Rattle.list_core.specs.Members.{In};
 ghost use Rattle.ids_core.specs.declared.ids.Mark.{Mark};
@@ -8,12 +9,13 @@ ghost use Rattle.ids_core.specs.Orders.{name_cmp};
 ghost use Rattle.tally_core.specs.Changes.{LiveByOps};
 ghost use Rattle.tally_core.specs.Live.{IsLiveName};
 ghost use Rattle.tally_core.specs.Live.{live_ids, live_names};
+ghost use Rattle.tally_core.specs.Listing.{AreStored};
 ghost use Rattle.obj_set.specs.Sets.{Set, does, step, IsStateOf};
 
 use ids_core::{Kind, Mark, Name, NoMemory, Tags};
 use std::alloc::Global;
 use std::marker::Model;
-use tally_core::Tallies;
+use tally_core::{Cell, Place, Tallies};
 
 /// An add or a remove of a word, and the identifiers of its adds that were live where it was issued.
 /// An add carries them too, so that a word that is added often keeps few live identifiers.
@@ -75,6 +77,26 @@ impl SetState {
         ensures { IfOk result (λ list. list ≡ live_ids self.now word.now) }
     {
         self.tallies.live(alloc, word)
+    }
+
+    /// The places with a tally, ascending, each with the tally, which is not 0; something is kept exactly
+    /// where it is 1 or more.
+    pub fn tallies(&self, alloc: Global) -> Result<Vec<(Place, Cell<()>)>, NoMemory>
+        ensures list { IfOk result (λ list. list.items ≡ entries self.now) }
+        ensures stored { IfOk result (λ list. AreStored list.items) }
+    {
+        self.tallies.entries(alloc)
+    }
+
+    /// The state of a set with those tallies. `tally_core::are_stored` tells which lists are those of some
+    /// state.
+    pub fn of_tallies(alloc: Global, list: &[(Place, Cell<()>)]) -> Result<SetState, NoMemory>
+        requires { AreStored list.now }
+        ensures { IfOk result (λ state. entries state ≡ list.now) }
+    {
+        Ok(SetState {
+            tallies: Tallies::of_entries(alloc, list)?,
+        })
     }
 }
 

@@ -3,3 +3,4 @@ pub mod Loops
 pub mod Ways
 pub mod Spelled
 pub mod Begins
+pub mod Plains

@@ -15,6 +15,7 @@ use Rattle.obj_map.specs.declared.put.Put.{Put}
 use Rattle.tally_core.specs.declared.place.Place.{Place}
 use Rattle.tally_core.specs.declared.place.Cell.{Cell}
 use Rattle.tally_core.specs.Places.{place}
+use Rattle.tally_core.specs.Listing.{ascend}
 use Rattle.tx_core.specs.Checks.{is_within, IsTag}
 use Rattle.wire_codec.specs.Fields.{number, bytes_where}
 use Rattle.wire_codec.specs.Grammar.{name, are_name_bytes, op_id}
@@ -23,7 +24,7 @@ use Rattle.wire_codec.proofs.FieldsSpelled.{within_is, is_within_from, in_1, in_
 use Rattle.state_codec.specs.declared.state.PlainState.{PlainState}
 use Rattle.state_codec.specs.declared.state.PlainPart.{PlainPart}
 use Rattle.state_codec.specs.declared.state.PlainState.TheVariants.{Counter, Register, Set, Map}
-use Rattle.state_codec.specs.Spelling.{sum_bytes, last_bytes, place_bytes, member_bytes, kept_bytes, entry_bytes, list_bytes, spelled, IsRank, IsSpelledLast, IsSpelledPlace, IsTally, IsSpelledMember, IsSpelledKept, IsSpelledEntry, ascend, AreTallies, IsSpelled, part_bytes, IsSpelledPart}
+use Rattle.state_codec.specs.Spelling.{sum_bytes, last_bytes, place_bytes, member_bytes, kept_bytes, entry_bytes, list_bytes, spelled, IsRank, IsSpelledLast, IsSpelledPlace, IsTally, IsSpelledMember, IsSpelledKept, IsSpelledEntry, AreTallies, IsSpelled, part_bytes, IsSpelledPart}
 use Rattle.state_codec.specs.Reading.{◌>>=◌, Reading, front, any_number, name_at, id_at, sum_at, write_at, last_at, is_tally, tally_at, place_at, member_at, put_at, kept_at, entry_at, list_at, body_at, plain_at, named_at}
 use Rattle.state_codec.proofs.Ways.{Tells, of_fields, front_joined, same_way, fit, told, seq, made, tested, chosen, times_tell}
 

@@ -11,6 +11,7 @@ use Rattle.obj_map.specs.declared.put.Put.{Put}
 use Rattle.tally_core.specs.declared.place.Place.{Place}
 use Rattle.tally_core.specs.declared.place.Cell.{Cell}
 use Rattle.tally_core.specs.Places.{place}
+use Rattle.tally_core.specs.Listing.{ascend}
 use Rattle.wire_codec.specs.Fields.{Fields, read, number, number_where, bytes_where}
 use Rattle.wire_codec.specs.Grammar.{are_name_bytes, op_id}
 use Rattle.state_codec.specs.declared.state.PlainState.{PlainState}
@@ -18,7 +19,6 @@ use Rattle.state_codec.specs.declared.state.PlainState.TheVariants.{Counter, Reg
 use Rattle.state_codec.specs.declared.state.PlainPart.{PlainPart}
 use Rattle.state_codec.specs.declared.stop.Stop.{Stop}
 use Rattle.state_codec.specs.declared.stop.Stop.TheVariants as stops
-use Rattle.state_codec.specs.Spelling.{ascend}
 
 -- a value and the bytes behind it, if they begin with one
 abbrev pub Reading : Type 0 → Type 0

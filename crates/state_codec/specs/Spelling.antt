@@ -1,9 +1,9 @@
 -- The bytes of the state of an object, and which states have them. Numbers have their greatest byte first.
-use Rattle.std.specs.Prelude.{◌≡◌, ◌≤◌, ◌<◌, ◌/◌, ◌%◌, ◌^◌, ℕ, ℤ, pos, Bool, true, false, ◌&&◌, cond, int_lt, List, [], ◌∷◌, ◌++◌, length, All, Option, Some, None}
+use Rattle.std.specs.Prelude.{◌≡◌, ◌≤◌, ◌<◌, ◌/◌, ◌%◌, ◌^◌, ℕ, ℤ, pos, Bool, true, false, cond, int_lt, List, [], ◌∷◌, ◌++◌, length, All, Option, Some, None}
 use Rattle.std.specs.Int.{w64, w128, cast_unsigned}
 use Rattle.std.specs.Int.RustNames.{FitsSigned}
 use Rattle.std.specs.List.{flat_map}
-use Rattle.std.specs.Ordering.{is_lt, int_eq}
+use Rattle.std.specs.Ordering.{int_eq}
 use Rattle.ids_core.specs.declared.ids.Mark.{Mark}
 use Rattle.ids_core.specs.declared.limits.TheConstants.{MOST_NUMBER}
 use Rattle.ids_core.specs.Name.{IsName}
@@ -11,7 +11,7 @@ use Rattle.obj_register.specs.declared.register.RegisterOp.{RegisterOp}
 use Rattle.obj_map.specs.declared.put.Put.{Put}
 use Rattle.tally_core.specs.declared.place.Place.{Place}
 use Rattle.tally_core.specs.declared.place.Cell.{Cell}
-use Rattle.tally_core.specs.Places.{place_cmp}
+use Rattle.tally_core.specs.Listing.{ascend}
 use Rattle.tx_core.specs.Checks.{IsTag}
 use Rattle.wire_codec.specs.Spelling.{u64_bytes, name_bytes, tag_bytes, delta_bytes}
 use Rattle.state_codec.specs.declared.state.PlainState.{PlainState}
@@ -96,17 +96,6 @@ pub record IsSpelledEntry (e : Place × Cell Put) : Type 0 where
   pub place : IsSpelledPlace e.0
   pub count : IsTally e.1.count
   pub kept : IsSpelledKept (int_lt (pos 0) e.1.count) e.1.kept
-
-module _ {P : Type 0} where
-  -- the first place is above low, and each is below the next
-  abbrev pub ascend_from : Place → List (Place × Cell P) → Bool
-  ascend_from low [] = true
-  ascend_from low (e ∷ es) = is_lt (place_cmp low e.0) && ascend_from e.0 es
-
-  -- each place is below the next
-  abbrev pub ascend : List (Place × Cell P) → Bool
-  ascend [] = true
-  ascend (e ∷ es) = ascend_from e.0 es
 
 -- tallies whose places ascend
 pub record AreTallies {P : Type 0} (Is : (Place × Cell P) → Type 0) (tallies : List (Place × Cell P)) : Type 0 where

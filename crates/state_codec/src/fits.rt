@@ -6,11 +6,10 @@ ghost use Rattle.state_codec.specs.Spelling.{IsSpelled, IsSpelledLast, IsSpelled
 
 use crate::numbers::is_within;
 use crate::state::{PlainPart, PlainState};
-use crate::tallies::ascend;
 use ids_core::{MOST_CLIENTS, MOST_NUMBER, MOST_UPDATES, Mark, Name, OpId};
 use obj_map::Put;
 use obj_register::RegisterOp;
-use tally_core::{Cell, Place};
+use tally_core::{Cell, Place, ascend};
 
 impl PlainState {
     /// Whether the state has bytes. It takes no memory.

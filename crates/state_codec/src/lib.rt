@@ -16,6 +16,7 @@ mod fields;
 mod fits;
 mod laws;
 mod numbers;
+mod plain;
 mod reading;
 mod state;
 mod stop;
@@ -24,6 +25,7 @@ mod writing;
 
 pub use laws::law_one_spelling;
 pub use numbers::{u8_at, u32_at, u64_at};
+pub use plain::{NotMade, law_plain};
 pub use reading::{part_at, state_at};
 pub use state::{PlainPart, PlainState};
 pub use stop::Stop;

@@ -1,6 +1,5 @@
 // Tallies of sets and of maps.
 ghost use Rattle.std.specs.Prelude.{◌≡◌};
-ghost use Rattle.state_codec.specs.Spelling.{ascend, ascend_from};
 ghost use Rattle.state_codec.specs.Reading.{Gives, member_at, entry_at, times_at, list_at};
 
 use crate::fields::{kept_at, place_at, tally_at};
@@ -8,7 +7,7 @@ use crate::numbers::u64_at;
 use crate::stop::Stop;
 use obj_map::Put;
 use std::alloc::Global;
-use tally_core::{Cell, Place};
+use tally_core::{Cell, Place, ascend};
 
 /// The tallies of a set, behind their number.
 #[tactic(auto, unfolding(crate::specs::Reading::list_at))]
@@ -92,28 +91,4 @@ fn entry_at(bytes: &[u8]) -> Result<((Place, Cell<Put>), &[u8]), Stop>
     let (count, rest) = tally_at(rest)?;
     let (kept, rest) = found!(kept_at(0 < count, rest));
     Ok(((place, Cell { count, kept }), rest))
-}
-
-/// Whether each place is below the next.
-pub fn ascend<P: Copy>(list: &[(Place, Cell<P>)]) -> bool
-    ensures { result ≡ ascend list.now }
-{
-    match list {
-        [] => true,
-        [first, rest @ ..] => ascend_from(&first.0, rest),
-    }
-}
-
-// Whether the places ascend, from above one.
-fn ascend_from<P: Copy>(low: &Place, list: &[(Place, Cell<P>)]) -> bool
-    ensures { result ≡ ascend_from low.now list.now }
-{
-    let mut last = *low;
-    for (place, _) in list {
-        if last >= *place {
-            return false;
-        }
-        last = *place;
-    }
-    true
 }

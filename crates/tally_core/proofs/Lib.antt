@@ -13,3 +13,6 @@ pub mod Shown
 pub mod Fronts
 pub mod Finds
 pub mod Unseen
+pub mod Ascent
+pub mod Stored
+pub mod Filling

@@ -136,7 +136,7 @@ less Greater h = absurd h
 
 module _ {K X : Type 0} (R : K → K → Ordering) where
   -- what is above each key of a list is not in it
-  none_above : (k : K) (es : List (K × X)) → AllByRecursion (λ y. R k y ≡ Less) (keys_of es) → lookup (is_at (R k)) es ≡ None
+  pub none_above : (k : K) (es : List (K × X)) → AllByRecursion (λ y. R k y ≡ Less) (keys_of es) → lookup (is_at (R k)) es ≡ None
   none_above k [] h = refl
   none_above k (e ∷ es) h = rw h.0 (none_above k es h.1)
 

@@ -9,7 +9,7 @@ use Rattle.tally_core.specs.declared.place.Cell.{Cell}
 use Rattle.tally_core.specs.Cells.{cell, nothing, is_nothing, turned}
 use Rattle.tally_core.specs.Changes.{or_else}
 use Rattle.tally_core.specs.Live.{is_live}
-use Rattle.tally_core.specs.Parted.{is_owed, is_apart}
+use Rattle.tally_core.specs.Parted.{is_owed, is_kept, is_apart}
 use Rattle.tally_core.specs.Room.{can_fall, is_empty}
 use Rattle.tally_core.specs.Turn.{lowered, owes, repaid}
 use Rattle.tally_core.proofs.Kept.{nothing_is}
@@ -24,6 +24,9 @@ still_below n low = grind (arith, ints)
 
 not_above : (n : ℤ) → int_lt n (pos 0) ≡ true → int_lt (pos 0) (n +ℤ pos 1) ≡ false
 not_above n low = grind (arith, ints)
+
+still_above : (n : ℤ) → int_lt (pos 0) n ≡ true → int_lt (pos 0) (n +ℤ pos 1) ≡ true
+still_above n up = grind (arith, ints)
 
 is_zero : (n : ℤ) → int_lt (pos 0) n ≡ false → int_lt n (pos 0) ≡ false → int_eq n (pos 0) ≡ true
 is_zero n low high = grind (arith, ints)
@@ -68,10 +71,17 @@ module _ {P : Type 0} where
       at true e = e
       at false e = absurd (false≢true (sym some ∙ and_from (int_eq (c.count +ℤ negsuc 0) (pos 0)) _ (one_left c.count live e) (ap (λ b. not (is_some (cond b c.kept None))) e)))
 
+  -- a live cell that is lowered is live and keeps what it kept, or nothing is left of it
+  lowered_kept : (c : Cell P) → is_kept c ≡ true → is_nothing (turned None c) ≡ false → is_kept (turned None c) ≡ true
+  lowered_kept c kept some =
+      let parts = and_parts (is_live c) (is_some c.kept) kept in
+      let live = lowered_live c parts.0 some in
+      and_from (is_live (turned None c)) _ live (ap (λ b. is_some (cond b c.kept None)) live ∙ parts.1)
+
   -- a live cell can fall
   pub live_can : (x y : Option (Cell P)) → is_some x ≡ true → is_apart x y ≡ true → can_fall None x ≡ true
   live_can None y some apart = cc
-  live_can (Some c) None some apart = above_least c.count apart
+  live_can (Some c) None some apart = above_least c.count (and_parts (is_live c) _ apart).0
   live_can (Some c) (Some d) some apart = cc
 
   -- and where none stands, the owed one can that is said to
@@ -97,7 +107,7 @@ module _ {P : Type 0} where
     where
       at : (b : Bool) → is_nothing (turned None c) ≡ b → is_apart (cond b None (Some (turned None c))) None ≡ true
       at true e = refl
-      at false e = lowered_live c apart e
+      at false e = lowered_kept c apart e
 
   -- what is told where an owed cell is lowered
   pub owed_falls : (x y : Option (Cell P)) → is_some x ≡ false → can_fall x y ≡ true → told (or_else x (lowered y)) ≡ told (Some (turned None (unwrap_or (or_else x y) nothing)))
@@ -150,6 +160,17 @@ module _ {P : Type 0} where
   -- what is told where a live cell is raised, or a first one is put
   pub live_rises : (kept : P) (x y : Option (Cell P)) → owes y ≡ false → is_apart x y ≡ true → told (or_else (Some (turned (Some kept) (unwrap_or x nothing))) (repaid kept y)) ≡ told (Some (turned (Some kept) (unwrap_or (or_else x y) nothing)))
   live_rises kept x y none apart = ap (λ c. told (Some (turned (Some kept) c))) (live_alone x y none apart)
+
+  -- a live cell that is raised, or put first, is live and keeps what the add keeps
+  raised_kept : (n : ℤ) (kept : P) → int_lt (pos 0) (n +ℤ pos 1) ≡ true → is_kept (cell (n +ℤ pos 1) (Some kept)) ≡ true
+  raised_kept n kept up = and_from (int_lt (pos 0) (n +ℤ pos 1)) _ up (ap (λ b. is_some (cond b (Some kept) None)) up)
+
+  -- and it is in its part
+  pub live_rises_apart : (kept : P) (x y : Option (Cell P)) → owes y ≡ false → is_apart x y ≡ true → is_apart (Some (turned (Some kept) (unwrap_or x nothing))) (repaid kept y) ≡ true
+  live_rises_apart kept (Some c) (Some d) none apart = cc
+  live_rises_apart kept (Some c) None none apart = raised_kept c.count kept (still_above c.count (and_parts (is_live c) _ apart).0)
+  live_rises_apart kept None None none apart = refl
+  live_rises_apart kept None (Some d) none apart = rw none refl
 
   -- the live cell is in its part where no owed one stands
   pub cleared_apart : (x y : Option (Cell P)) → is_apart x y ≡ true → is_apart x None ≡ true

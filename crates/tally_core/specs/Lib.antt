@@ -6,5 +6,6 @@ pub mod Room
 pub mod Turn
 pub mod Shared
 pub mod Live
+pub mod Listing
 pub mod Changes
 pub mod Sees

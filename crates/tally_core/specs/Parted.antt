@@ -14,11 +14,15 @@ module _ {P : Type 0} where
   abbrev pub is_owed : Cell P → Bool
   is_owed c = not (is_live c) && not (is_some c.kept)
 
+  -- a live cell, which keeps something
+  abbrev pub is_kept : Cell P → Bool
+  is_kept c = is_live c && is_some c.kept
+
   -- of the live cells and of the owed ones, what stands at a place is in its own part, and never in both
   abbrev pub is_apart : Option (Cell P) → Option (Cell P) → Bool
   is_apart None None = true
   is_apart None (Some c) = is_owed c
-  is_apart (Some c) None = is_live c
+  is_apart (Some c) None = is_kept c
   is_apart (Some c) (Some d) = false
 
   -- each place has a live cell, or one that is owed an add, or none

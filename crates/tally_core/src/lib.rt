@@ -3,6 +3,7 @@
 #![tactic(auto)]
 
 mod changes;
+mod listing;
 mod live;
 mod parted;
 mod place;
@@ -13,6 +14,7 @@ mod tallies;
 mod turn;
 
 pub use changes::{law_live, law_order, law_tallies};
+pub use listing::{are_stored, ascend};
 pub use place::{Cell, Place};
 pub use sees::law_sees;
 pub use tallies::Tallies;

@@ -81,7 +81,7 @@ fn is_name(last: &Option<Name>, name: &Name) -> bool
     }
 }
 
-fn is_live<P: Copy>(cell: &Cell<P>) -> bool
+pub(crate) fn is_live<P: Copy>(cell: &Cell<P>) -> bool
     ensures { result ≡ is_live cell.now }
 {
     cell.count > 0

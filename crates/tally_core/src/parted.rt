@@ -5,9 +5,9 @@ use crate::place::{Cell, Place};
 use std::alloc::{AllocError, Global};
 use std::collections::BTreeMap;
 
-// Cells by their places: `live` has those with a tally of 1 or more, and `owed` those with a tally below
-// 0, of identifiers that were lowered before their adds came. Cells of 0 are in neither, but that some
-// stand in `owed` while an operation is made.
+// Cells by their places: `live` has those with a tally of 1 or more, which keep something, and `owed` those
+// with a tally below 0, of identifiers that were lowered before their adds came, which keep nothing. Cells
+// of 0 are in neither, but that some stand in `owed` while an operation is made.
 #[derive(Drop)]
 pub(crate) struct Parted<P: Copy> {
     pub(crate) live: BTreeMap<Place, Cell<P>>,

@@ -6,9 +6,12 @@ ghost use Rattle.list_core.specs.Members.{In};
 ghost use Rattle.ids_core.specs.Orders.{name_cmp};
 ghost use Rattle.tally_core.specs.Cells.{changed};
 ghost use Rattle.tally_core.specs.Live.{live_ids, live_names, kept_at, IsLiveName};
+ghost use Rattle.tally_core.specs.Listing.{AreStored};
 
+use crate::listing::{entries_in, parted_of};
 use crate::live::{kept_from, live_from, names_in};
 use crate::parted::Parted;
+use crate::place::{Cell, Place};
 use crate::shared::{begin, change_shared, live_or};
 use ids_core::{Name, NoMemory, OpId, Tags};
 use std::alloc::Global;
@@ -131,5 +134,33 @@ impl<P: Copy> Tallies<P> {
         let empty = BTreeMap::new(alloc);
         let list = names_in(alloc, live_or(&self.cells, &empty))?;
         Ok(list)
+    }
+}
+
+impl<P: Copy> Tallies<P> {
+    /// The places with a tally, ascending, each with the tally and what its add keeps. No tally is 0, and
+    /// something is kept exactly where the tally is 1 or more. Time: a step for each tally, and logarithmic
+    /// in their number for each tally below 0.
+    pub fn entries(&self, alloc: Global) -> Result<Vec<(Place, Cell<P>)>, NoMemory>
+        ensures list { IfOk result (λ list. list.items ≡ map.entries self.now) }
+        ensures stored { IfOk result (λ list. AreStored list.items) }
+    {
+        match &self.cells {
+            Some(cells) => entries_in(alloc, &cells.live, &cells.owed),
+            None => Ok(Vec::new(alloc)),
+        }
+    }
+
+    /// The tallies that have these entries. `are_stored` tells which lists are those of some tallies. Time:
+    /// logarithmic in their number for each.
+    pub fn of_entries(alloc: Global, list: &[(Place, Cell<P>)]) -> Result<Tallies<P>, NoMemory>
+        requires { AreStored list.now }
+        ensures { IfOk result (λ tallies. map.entries tallies ≡ list.now) }
+    {
+        let cells = parted_of(alloc, list)?;
+        Ok(Tallies {
+            alloc,
+            cells: Some(Arc::new(alloc, cells)?),
+        })
     }
 }

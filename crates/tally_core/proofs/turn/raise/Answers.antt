@@ -4,7 +4,7 @@ use Rattle.tally_core.specs.Places.{place, place_cmp}
 use Rattle.tally_core.specs.Turn.{repaid}
 use Rattle.tally_core.proofs.Kept.{Updated}
 use Rattle.tally_core.proofs.Parts.{stays, seen_turned, seen_kept, apart_kept, can_kept}
-use Rattle.tally_core.proofs.Turned.{owed_rises, owed_rises_apart, owed_rises_can, live_rises, none_owed}
+use Rattle.tally_core.proofs.Turned.{owed_rises, owed_rises_apart, owed_rises_can, live_rises, live_rises_apart, none_owed}
 use Rattle.tally_core.proofs.turn.raise.Goals as goal
 
 pub returns-then-raise_owed-clause-parted : goal.returns-then-raise_owed-clause-parted
@@ -33,3 +33,8 @@ pub returns-clause-ok : goal.returns-clause-ok
 returns-clause-ok g c =
     let p = place c.args.name.now c.args.id.now in let cells = c.args.cells.now in let live = get place_cmp cells.live p in let owed = get place_cmp cells.owed p in
     seen_turned cells.live.entries _ cells.owed.entries _ p (Some c.args.kept) _ _ c.in_ok-raise_live.ensures.ok c.raise_owed.ensures.puts (live_rises c.args.kept live owed (sym c.raise_owed.ensures.owes ∙ c.if-raise_owed.false) (c.requires p))
+
+pub returns-clause-parted : goal.returns-clause-parted
+returns-clause-parted g c =
+    let p = place c.args.name.now c.args.id.now in let cells = c.args.cells.now in let live = get place_cmp cells.live p in let owed = get place_cmp cells.owed p in
+    apart_kept cells.live.entries _ cells.owed.entries _ p _ _ c.in_ok-raise_live.ensures.ok c.raise_owed.ensures.puts (live_rises_apart c.args.kept live owed (sym c.raise_owed.ensures.owes ∙ c.if-raise_owed.false) (c.requires p)) c.requires
