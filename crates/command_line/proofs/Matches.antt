@@ -9,7 +9,7 @@ use Rattle.std.proofs.lemmas.Option.{none-some}
 use Rattle.command_line.specs.Apps.{program_app}
 use Rattle.command_line.specs.Forms.{IsCommand, flag_text, spelled}
 use Rattle.command_line.specs.declared.form.Form.{Form}
-use Rattle.command_line.specs.declared.form.Form.TheVariants.{Run, Serial, Make, Load, Help, Version}
+use Rattle.command_line.specs.declared.form.Form.TheVariants.{Run, Serial, Journal, Make, Load, Help, Version}
 use Rattle.command_line.proofs.Numbers.{begins, by_digit}
 
 -- a command and the text of a number
@@ -26,6 +26,11 @@ serial_taken : (trail : Bool) → takes program_app (spelled (Serial trail)) ≡
 unfolding clap_on_literals
 serial_taken true = refl
 serial_taken false = refl
+
+-- and `journal`
+journal_taken : takes program_app (spelled Journal) ≡ true
+unfolding clap_on_literals
+journal_taken = refl
 
 -- `clap` takes this command with each word that begins with this digit
 abbrev IsTaken : Text → ℕ → Type 0
@@ -98,10 +103,16 @@ unfolding clap_on_literals
 serial_found true = (refl, refl)
 serial_found false = (refl, refl)
 
+-- of `journal` the name is found
+journal_found : name_in (subcommand_of program_app (spelled Journal)) ≡ Some (codes "journal")
+unfolding clap_on_literals
+journal_found = refl
+
 -- `clap` takes the words of each command
 pub command_taken : (form : Form) → IsCommand form → takes program_app (spelled form) ≡ true
 command_taken (Run trail) fits = run_taken trail
 command_taken (Serial trail) fits = serial_taken trail
+command_taken Journal fits = journal_taken
 command_taken (Make num) fits = number_taken (codes "make") make_at num fits.0 fits.1
 command_taken (Load num) fits = number_taken (codes "load") load_at num fits.0 fits.1
 command_taken Help fits = absurd fits
@@ -126,6 +137,7 @@ name_of form = get_or (spelled form) 0 []
 finds_name : (form : Form) → IsCommand form → name_in (subcommand_of program_app (spelled form)) ≡ Some (name_of form)
 finds_name (Run trail) fits = (run_found trail).0
 finds_name (Serial trail) fits = (serial_found trail).0
+finds_name Journal fits = journal_found
 finds_name (Make num) fits = (make_found num fits.0 fits.1).0
 finds_name (Load num) fits = (load_found num fits.0 fits.1).0
 finds_name Help fits = absurd fits
@@ -149,6 +161,7 @@ pub run_form : (form : Form) → IsCommand form → (found : Option (Text × Lis
     → Some (Run has) ≡ Some form
 run_form (Run trail) fits found is name run named rows at has reads = ap (λ t. Some (Run t)) (reads trail (flag_found (spelled (Run trail)) (codes "run") found is trail (run_found trail) rows at))
 run_form (Serial trail) fits found is name run named rows at has reads = absurd (let bad : 114 ≡ 115 = differ name (codes "run") (codes "serial") run (named_so (Serial trail) fits found is name named) in omega (arith, bad))
+run_form Journal fits found is name run named rows at has reads = absurd (let bad : 114 ≡ 106 = differ name (codes "run") (codes "journal") run (named_so Journal fits found is name named) in omega (arith, bad))
 run_form (Make num) fits found is name run named rows at has reads = absurd (let bad : 114 ≡ 109 = differ name (codes "run") (codes "make") run (named_so (Make num) fits found is name named) in omega (arith, bad))
 run_form (Load num) fits found is name run named rows at has reads = absurd (let bad : 114 ≡ 108 = differ name (codes "run") (codes "load") run (named_so (Load num) fits found is name named) in omega (arith, bad))
 run_form Help fits found is name run named rows at has reads = absurd fits
@@ -160,10 +173,22 @@ pub serial_form : (form : Form) → IsCommand form → (found : Option (Text × 
     → Some (Serial has) ≡ Some form
 serial_form (Run trail) fits found is name serial named rows at has reads = absurd (let bad : 115 ≡ 114 = differ name (codes "serial") (codes "run") serial (named_so (Run trail) fits found is name named) in omega (arith, bad))
 serial_form (Serial trail) fits found is name serial named rows at has reads = ap (λ t. Some (Serial t)) (reads trail (flag_found (spelled (Serial trail)) (codes "serial") found is trail (serial_found trail) rows at))
+serial_form Journal fits found is name serial named rows at has reads = absurd (let bad : 115 ≡ 106 = differ name (codes "serial") (codes "journal") serial (named_so Journal fits found is name named) in omega (arith, bad))
 serial_form (Make num) fits found is name serial named rows at has reads = absurd (let bad : 115 ≡ 109 = differ name (codes "serial") (codes "make") serial (named_so (Make num) fits found is name named) in omega (arith, bad))
 serial_form (Load num) fits found is name serial named rows at has reads = absurd (let bad : 115 ≡ 108 = differ name (codes "serial") (codes "load") serial (named_so (Load num) fits found is name named) in omega (arith, bad))
 serial_form Help fits found is name serial named rows at has reads = absurd fits
 serial_form Version fits found is name serial named rows at has reads = absurd fits
+
+-- where `journal` was found, the words spell it
+pub journal_form : (form : Form) → IsCommand form → (found : Option (Text × List Row)) → found ≡ subcommand_of program_app (spelled form) → (name : Text) → name ≡ codes "journal"
+    → Some name ≡ name_in found → Some Journal ≡ Some form
+journal_form (Run trail) fits found is name journal named = absurd (let bad : 106 ≡ 114 = differ name (codes "journal") (codes "run") journal (named_so (Run trail) fits found is name named) in omega (arith, bad))
+journal_form (Serial trail) fits found is name journal named = absurd (let bad : 106 ≡ 115 = differ name (codes "journal") (codes "serial") journal (named_so (Serial trail) fits found is name named) in omega (arith, bad))
+journal_form Journal fits found is name journal named = refl
+journal_form (Make num) fits found is name journal named = absurd (let bad : 106 ≡ 109 = differ name (codes "journal") (codes "make") journal (named_so (Make num) fits found is name named) in omega (arith, bad))
+journal_form (Load num) fits found is name journal named = absurd (let bad : 106 ≡ 108 = differ name (codes "journal") (codes "load") journal (named_so (Load num) fits found is name named) in omega (arith, bad))
+journal_form Help fits found is name journal named = absurd fits
+journal_form Version fits found is name journal named = absurd fits
 
 -- what was read of the rows is the number of which they have the text
 abbrev pub Reads : Option ℕ → List Row → Type 0
@@ -180,6 +205,7 @@ pub make_form : (form : Form) → IsCommand form → (found : Option (Text × Li
     → Some name ≡ name_in found → (rows : List Row) → Some rows ≡ rows_in found → (num : Option ℕ) → Reads num rows → option_map Make num ≡ Some form
 make_form (Run trail) fits found is name make named rows at read reads = absurd (let bad : 109 ≡ 114 = differ name (codes "make") (codes "run") make (named_so (Run trail) fits found is name named) in omega (arith, bad))
 make_form (Serial trail) fits found is name make named rows at read reads = absurd (let bad : 109 ≡ 115 = differ name (codes "make") (codes "serial") make (named_so (Serial trail) fits found is name named) in omega (arith, bad))
+make_form Journal fits found is name make named rows at read reads = absurd (let bad : 109 ≡ 106 = differ name (codes "make") (codes "journal") make (named_so Journal fits found is name named) in omega (arith, bad))
 make_form (Make num) fits found is name make named rows at read reads = ap (option_map Make) (number_found (spelled (Make num)) (codes "make") found is num fits (make_found num fits.0 fits.1) rows at read reads)
 make_form (Load num) fits found is name make named rows at read reads = absurd (let bad : 109 ≡ 108 = differ name (codes "make") (codes "load") make (named_so (Load num) fits found is name named) in omega (arith, bad))
 make_form Help fits found is name make named rows at read reads = absurd fits
@@ -190,6 +216,7 @@ pub load_form : (form : Form) → IsCommand form → (found : Option (Text × Li
     → Some name ≡ name_in found → (rows : List Row) → Some rows ≡ rows_in found → (num : Option ℕ) → Reads num rows → option_map Load num ≡ Some form
 load_form (Run trail) fits found is name load named rows at read reads = absurd (let bad : 108 ≡ 114 = differ name (codes "load") (codes "run") load (named_so (Run trail) fits found is name named) in omega (arith, bad))
 load_form (Serial trail) fits found is name load named rows at read reads = absurd (let bad : 108 ≡ 115 = differ name (codes "load") (codes "serial") load (named_so (Serial trail) fits found is name named) in omega (arith, bad))
+load_form Journal fits found is name load named rows at read reads = absurd (let bad : 108 ≡ 106 = differ name (codes "load") (codes "journal") load (named_so Journal fits found is name named) in omega (arith, bad))
 load_form (Make num) fits found is name load named rows at read reads = absurd (let bad : 108 ≡ 109 = differ name (codes "load") (codes "make") load (named_so (Make num) fits found is name named) in omega (arith, bad))
 load_form (Load num) fits found is name load named rows at read reads = ap (option_map Load) (number_found (spelled (Load num)) (codes "load") found is num fits (load_found num fits.0 fits.1) rows at read reads)
 load_form Help fits found is name load named rows at read reads = absurd fits

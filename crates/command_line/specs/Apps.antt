@@ -19,11 +19,15 @@ play_app name = with_rule (new_app name) trail_rule
 abbrev pub number_app : List ℕ → App
 number_app name = with_rule (new_app name) num_rule
 
+-- the command `journal`, with nothing behind it
+abbrev pub journal_app : App
+journal_app = new_app (codes "journal")
+
 -- the program, whose words come without its name
 abbrev pub bare_app : App
 bare_app = let app = new_app (codes "swift_sim") in
     record app { top = record app.top { no_binary_name = true; disable_help_flag = true; disable_help_subcommand = true } }
 
--- the program with its four subcommands
+-- the program with its five subcommands
 abbrev pub program_app : App
-program_app = with_subcommand (with_subcommand (with_subcommand (with_subcommand bare_app (play_app (codes "run")).top) (play_app (codes "serial")).top) (number_app (codes "make")).top) (number_app (codes "load")).top
+program_app = with_subcommand (with_subcommand (with_subcommand (with_subcommand (with_subcommand bare_app (play_app (codes "run")).top) (play_app (codes "serial")).top) journal_app.top) (number_app (codes "make")).top) (number_app (codes "load")).top

@@ -1,7 +1,7 @@
 -- Which words ask for which form.
 use Rattle.std.specs.Prelude.{◌≡◌, ◌≢◌, ◌≤◌, ⊤, ℕ, Bool, true, false, List, [], ◌∷◌, Option, Some, None, codes, decimal}
 use Rattle.command_line.specs.declared.form.Form.{Form}
-use Rattle.command_line.specs.declared.form.Form.TheVariants.{Run, Serial, Make, Load, Help, Version}
+use Rattle.command_line.specs.declared.form.Form.TheVariants.{Run, Serial, Journal, Make, Load, Help, Version}
 
 -- the greatest number of which a script is made
 abbrev pub most_num : ℕ
@@ -16,6 +16,7 @@ trail_flag false = []
 abbrev pub spelled : Form → List (List ℕ)
 spelled (Run trail) = codes "run" ∷ trail_flag trail
 spelled (Serial trail) = codes "serial" ∷ trail_flag trail
+spelled Journal = codes "journal" ∷ []
 spelled (Make num) = codes "make" ∷ decimal num ∷ []
 spelled (Load num) = codes "load" ∷ decimal num ∷ []
 spelled Help = codes "--help" ∷ []

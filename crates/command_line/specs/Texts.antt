@@ -3,7 +3,7 @@ use Rattle.std.specs.Prelude.{ℕ, List, ◌++◌, codes}
 
 -- the line for words of no form
 abbrev pub usage_text : List ℕ
-usage_text = codes "usage: swift_sim run|serial [--trail] or make|load NUM\n"
+usage_text = codes "usage: swift_sim run|serial [--trail], journal [DIR], recover DIR or make|load NUM\n"
 
 -- the line for `--version`
 abbrev pub version_text : List ℕ
@@ -23,6 +23,9 @@ forms_text = codes "\nusage:\n"
     ++ codes "                                     the transactions behind each value that was read\n"
     ++ codes "  swift_sim run < SCRIPT             plays the script with threads in its phases\n"
     ++ codes "  swift_sim run --trail < SCRIPT     and then prints the trails, as serial --trail does\n"
+    ++ codes "  swift_sim journal < SCRIPT         plays the script and prints what each centre's journal holds\n"
+    ++ codes "  swift_sim journal DIR < SCRIPT     and writes each centre's journal to new files in the folder DIR\n"
+    ++ codes "  swift_sim recover DIR              opens the journals in DIR and prints what they hold\n"
     ++ codes "  swift_sim make NUM                 prints a script generated from the seed NUM, 1 to 999999999\n"
     ++ codes "  swift_sim load NUM                 plays that script with threads and prints its last reads\n"
     ++ codes "  swift_sim .. --quiet               shows no progress on the terminal\n"
@@ -53,6 +56,8 @@ statuses_text = codes "\nexit status:\n"
     ++ codes "  4  reading failed\n"
     ++ codes "  5  writing failed\n"
     ++ codes "  6  out of memory\n"
+    ++ codes "  7  a journal's files are bad: standard error names the file and the place\n"
+    ++ codes "  8  a journal's files were not made, read or written\n"
     ++ codes "Unless it is 0, standard error says more.\n"
 
 -- the text for `--help`

@@ -27,13 +27,14 @@ fn numbered<'a>(alloc: Global, name: &'a str) -> Result<Command<'a>, AllocError>
     Command::new(alloc, name).arg(num)
 }
 
-/// Four subcommands: `run` and `serial` with one flag each, `make` and `load` with one value each. The words come
-/// without the program's name, and help is no business of `clap`.
+/// Five subcommands: `run` and `serial` with one flag each, `journal` with nothing, `make` and `load` with one value each.
+/// The words come without the program's name, and help is no business of `clap`.
 pub fn program<'a>(alloc: Global) -> Result<Command<'a>, AllocError>
     ensures { IfOk result (λ command. app_of command ≡ program_app) }
 {
     let run = player(alloc, "run")?;
     let serial = player(alloc, "serial")?;
+    let journal = Command::new(alloc, "journal");
     let make = numbered(alloc, "make")?;
     let load = numbered(alloc, "load")?;
     let program = Command::new(alloc, "swift_sim")
@@ -43,6 +44,7 @@ pub fn program<'a>(alloc: Global) -> Result<Command<'a>, AllocError>
     program
         .subcommand(run)?
         .subcommand(serial)?
+        .subcommand(journal)?
         .subcommand(make)?
         .subcommand(load)
 }

@@ -11,6 +11,8 @@ pub enum Form {
     Run { trail: bool },
     /// `serial`: to play a script on one thread, with `--trail` as above.
     Serial { trail: bool },
+    /// `journal`: to play a script on one thread, and to make the journal of each centre's trail in a disk in memory.
+    Journal,
     /// `make NUM`: to write the script that is made of the number, 1 to [`MOST_NUM`].
     Make { num: u32 },
     /// `load NUM`: to play with threads the script that is made of the number, 1 to [`MOST_NUM`], and to write the

@@ -68,6 +68,8 @@ pub fn form_in(matches: &ArgMatches<'_>) -> Option<Form>
                 Some(Form::Serial {
                     trail: has_trail(rows),
                 })
+            } else if name == "journal" {
+                Some(Form::Journal)
             } else if name == "make" {
                 make_of(number(rows))
             } else if name == "load" {

@@ -60,6 +60,7 @@ fn are_spelled(words: &[String], form: Form) -> bool
         Form::Run { trail: false } => is_one(words, "run"),
         Form::Serial { trail: true } => are_two(words, "serial", "--trail"),
         Form::Serial { trail: false } => is_one(words, "serial"),
+        Form::Journal => is_one(words, "journal"),
         Form::Make { num } => are_numbered(words, "make", num),
         Form::Load { num } => are_numbered(words, "load", num),
         Form::Help => is_one(words, "--help"),

@@ -11,7 +11,7 @@ pub fn usage_line(alloc: Global) -> Result<Vec<u8>, NoMemory>
 {
     Ok(Vec::from_slice(
         alloc,
-        b"usage: swift_sim run|serial [--trail] or make|load NUM\n",
+        b"usage: swift_sim run|serial [--trail], journal [DIR], recover DIR or make|load NUM\n",
     )?)
 }
 
@@ -34,6 +34,9 @@ usage:
                                      the transactions behind each value that was read
   swift_sim run < SCRIPT             plays the script with threads in its phases
   swift_sim run --trail < SCRIPT     and then prints the trails, as serial --trail does
+  swift_sim journal < SCRIPT         plays the script and prints what each centre's journal holds
+  swift_sim journal DIR < SCRIPT     and writes each centre's journal to new files in the folder DIR
+  swift_sim recover DIR              opens the journals in DIR and prints what they hold
   swift_sim make NUM                 prints a script generated from the seed NUM, 1 to 999999999
   swift_sim load NUM                 plays that script with threads and prints its last reads
   swift_sim .. --quiet               shows no progress on the terminal
@@ -60,6 +63,8 @@ exit status:
   4  reading failed
   5  writing failed
   6  out of memory
+  7  a journal's files are bad: standard error names the file and the place
+  8  a journal's files were not made, read or written
 Unless it is 0, standard error says more.
 
 docs/script.md explains scripts; examples/ has some.

@@ -23,7 +23,7 @@ use Rattle.dc_journal.specs.Open.{centre_of, settings_of, end_of, IsJournalOf}
 use Rattle.dc_journal.proofs.Reading.{only_read}
 
 -- a centre stands for each trail with the same state
-stands_same : (c : CentreView) (a b : List Entry) → IsSameState c.settings a b → StandsFor c a → StandsFor c b
+pub stands_same : (c : CentreView) (a b : List Entry) → IsSameState c.settings a b → StandsFor c a → StandsFor c b
 stands_same c a b same is = record {
   holds = subst (λ (C : List Sent). Holds c C) same.same_carried is.holds;
   told = λ j other low high. is.told j other low high ∙ same.same_told j;

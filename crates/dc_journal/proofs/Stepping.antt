@@ -34,11 +34,13 @@ answered_more s trail (a ∷ asks) ask =
     ap (λ (l : List Entry). e ∷ l) (answered_more s t asks ask)
     ∙ ap (λ (l : List Entry). e ∷ (answered s t asks ++ entry 0 ask (answer s l ask) ∷ [])) (append_assoc trail (e ∷ []) (answered s t asks))
 
-module _ (s : Settings) where
+module _ {T : Type 0} (of_ask : KeptAsk → T) (s : Settings) where
   -- none so far
-  pub takes_none : (c : CentreView) → TakesAsks s c c [] [] []
+  pub takes_none : (c : CentreView) → TakesAsks of_ask s c c [] [] []
   takes_none c = record {
     says_are = λ trail stood. refl;
+    taken = [];
+    items_are = refl;
     asks_are = λ trail stood. refl;
     stands = λ trail more stood same. subst (λ l. StandsFor c l) (sym (none trail more same)) stood;
     history = λ trail more stood same history. subst (λ l. History s l) (sym (none trail more same)) history;
@@ -47,7 +49,7 @@ module _ (s : Settings) where
       none : (trail more : List Entry) → AreSame more [] → trail ++ more ≡ trail
       none trail more same = ap (λ (l : List Entry). trail ++ l) (none_there of_any of_any more (sym same)) ∙ append-nil trail
 
-  module _ (old mid new : CentreView) (asks : List Ask) (says : List Say) (items : List KeptAsk) (r : TakesAsks s old mid asks says items) (ask : Ask) (says_after : List Say) (items_after : List KeptAsk) (t : TakesOne s mid new ask says items says_after items_after) where
+  module _ (old mid new : CentreView) (asks : List Ask) (says : List Say) (items : List T) (r : TakesAsks of_ask s old mid asks says items) (ask : Ask) (says_after : List Say) (items_after : List T) (t : TakesOne of_ask s mid new ask says items says_after items_after) where
     -- its entry, behind any trail
     abbrev last : List Entry → Entry
     last trail = entry 0 ask (answer s (trail ++ answered s trail asks) ask)
@@ -78,16 +80,17 @@ module _ (s : Settings) where
         }
 
     -- one more
-    pub takes_more : TakesAsks s old new (asks ++ ask ∷ []) says_after items_after
+    pub takes_more : TakesAsks of_ask s old new (asks ++ ask ∷ []) says_after items_after
     takes_more = record {
       says_are = λ trail stood.
           t.says_are
           ∙ (λ i. r.says_are trail stood i ++ say_is trail stood i ∷ [])
           ∙ sym (map-append said_in (answered s trail asks) (last trail ∷ []))
           ∙ ap (map said_in) (sym (answered_more s trail asks ask));
+      taken = r.taken ++ t.more;
+      items_are = t.items_are ∙ ap (λ (l : List T). l ++ map of_ask t.more) r.items_are ∙ sym (map-append of_ask r.taken t.more);
       asks_are = λ trail stood.
-          ap (map asked) t.items_are
-          ∙ asks_both s.me items t.more (answered s trail asks) (last trail ∷ []) (r.asks_are trail stood) (subst (λ y. AreAsksOf s.me t.more (entry 0 ask y ∷ [])) (say_is trail stood) (t.asks (trail ++ answered s trail asks) (r.stands trail (answered s trail asks) stood refl)))
+          asks_both s.me r.taken t.more (answered s trail asks) (last trail ∷ []) (r.asks_are trail stood) (subst (λ y. AreAsksOf s.me t.more (entry 0 ask y ∷ [])) (say_is trail stood) (t.asks (trail ++ answered s trail asks) (r.stands trail (answered s trail asks) stood refl)))
           ∙ ap (λ (l : List Entry). map (due s.me) (kept l)) (sym (answered_more s trail asks ask));
       stands = λ trail more stood same.
           let e = ends trail more stood same in
@@ -99,16 +102,16 @@ module _ (s : Settings) where
     }
 
   -- so many of some asks, and then the next
-  pub takes_next : (now : Settings) (old mid new : CentreView) (asks : List Ask) (i : ℕ) (ask : Ask) (says : List Say) (items : List KeptAsk) (says_after : List Say) (items_after : List KeptAsk) → now ≡ s → i < length asks → ask ≡ get_or asks i ask → TakesAsks s old mid (take i asks) says items → TakesOne now mid new ask says items says_after items_after → TakesAsks s old new (take (i + 1) asks) says_after items_after
+  pub takes_next : (now : Settings) (old mid new : CentreView) (asks : List Ask) (i : ℕ) (ask : Ask) (says : List Say) (items : List T) (says_after : List Say) (items_after : List T) → now ≡ s → i < length asks → ask ≡ get_or asks i ask → TakesAsks of_ask s old mid (take i asks) says items → TakesOne of_ask now mid new ask says items says_after items_after → TakesAsks of_ask s old new (take (i + 1) asks) says_after items_after
   takes_next now old mid new asks i ask says items says_after items_after same below here r t =
-      subst (λ (l : List Ask). TakesAsks s old new l says_after items_after) (sym (take_more asks i ask below ∙ ap (λ (a : Ask). take i asks ++ a ∷ []) (sym here)))
-      (takes_more old mid new (take i asks) says items r ask says_after items_after (subst (λ (g : Settings). TakesOne g mid new ask says items says_after items_after) same t))
+      subst (λ (l : List Ask). TakesAsks of_ask s old new l says_after items_after) (sym (take_more asks i ask below ∙ ap (λ (a : Ask). take i asks ++ a ∷ []) (sym here)))
+      (takes_more old mid new (take i asks) says items r ask says_after items_after (subst (λ (g : Settings). TakesOne of_ask g mid new ask says items says_after items_after) same t))
 
   -- the next has changed nothing
-  pub takes_no_more : (old mid new : CentreView) (asks : List Ask) (i : ℕ) (says : List Say) (items : List KeptAsk) (says_after : List Say) (items_after : List KeptAsk) → new ≡ mid → says_after ≡ says → items_after ≡ items → TakesAsks s old mid (take i asks) says items → TakesSome s old new asks says_after items_after
+  pub takes_no_more : (old mid new : CentreView) (asks : List Ask) (i : ℕ) (says : List Say) (items : List T) (says_after : List Say) (items_after : List T) → new ≡ mid → says_after ≡ says → items_after ≡ items → TakesAsks of_ask s old mid (take i asks) says items → TakesSome of_ask s old new asks says_after items_after
   takes_no_more old mid new asks i says items says_after items_after centre says_are items_are r = record {
     count = i;
-    takes = subst (λ (c : CentreView). TakesAsks s old c (take i asks) says_after items_after) (sym centre)
-        (subst (λ (l : List Say). TakesAsks s old mid (take i asks) l items_after) (sym says_are)
-        (subst (λ (l : List KeptAsk). TakesAsks s old mid (take i asks) says l) (sym items_are) r));
+    takes = subst (λ (c : CentreView). TakesAsks of_ask s old c (take i asks) says_after items_after) (sym centre)
+        (subst (λ (l : List Say). TakesAsks of_ask s old mid (take i asks) l items_after) (sym says_are)
+        (subst (λ (l : List T). TakesAsks of_ask s old mid (take i asks) says l) (sym items_are) r));
   }

@@ -1,16 +1,13 @@
 // A centre with a journal is asked many asks at once.
-ghost use Rattle.std.specs.Prelude.{◌≡◌, ◌≤◌, ◌<◌, ◌++◌, [], ◌∷◌, true, false, List, ℕ, length, take, map, Err, IsOk, IsErrOf, MatchResult, IfOk, IfErr, OnOk, OnErr};
+ghost use Rattle.std.specs.Prelude.{◌≡◌, ◌<◌, ◌++◌, true, false, List, ℕ, length, take, map, Err, IsOk, IsErrOf, MatchResult, IfOk};
 ghost use Rattle.journal_disk.specs.declared.disk.Moment.{Moment};
 ghost use Rattle.journal_disk.specs.Disk.{Ran, HasRisen};
 ghost use Rattle.dc_talk.specs.Entries.{Entry};
 ghost use Rattle.dc_journal.specs.Answered.{said_in, answered, AreSame};
 ghost use Rattle.dc_journal.specs.Files.{IsFileAround};
-ghost use Rattle.dc_journal.specs.Steps.{TakesOne, TakesSome};
 
-use crate::batch::{Batch, entry_of};
+use crate::answering::answer_all;
 use crate::journal_centre::JournalCentre;
-use crate::opening::is_kept;
-use crate::steps::step;
 use dc_talk::{Ask, Say};
 use journal_asks::KeptAsk;
 use journal_disk::Disk;
@@ -44,56 +41,10 @@ impl<D: Disk> JournalCentre<D> {
         if !self.journal.has_room() {
             return Err(JournalFault::NoMemory);
         }
-        let batch = self.answer_all(asks)?;
+        let batch = answer_all::<KeptAsk>(self.alloc, self.me, self.n, &mut self.centre, asks)?;
         let mut out = batch.out;
         out.push_reserved(0);
         self.journal.put(&batch.kept, &out)?;
         Ok(batch.says)
-    }
-
-    // Answers asks in order, and stops before one for which it finds no memory. The journal has none of them yet.
-    fn answer_all(&mut self, asks: &[Ask]) -> Result<Batch, JournalFault>
-        ensures takes { IfOk result (λ batch. TakesSome (settings_of self.old) self.old.centre self.new.centre asks.now batch.says.items batch.kept.items) }
-        ensures some { IfOk result (λ batch. 0 < length asks.now → 0 < length batch.says.items) }
-        ensures journal { self.new.journal ≡ self.old.journal }
-        ensures settings { settings_of self.new ≡ settings_of self.old }
-        ensures err { IfErr result (λ e. (e ≡ JournalFault.NoMemory) × (IsSame self.old self.new)) }
-    {
-        let mut batch = Batch::new(self.alloc)?;
-        for ask in asks {
-            if let Err(fault) = self.answer_into(ask, &mut batch) {
-                if batch.says.is_empty() {
-                    return Err(fault);
-                }
-                return Ok(batch);
-            }
-        }
-        Ok(batch)
-    }
-
-    // Answers an ask and puts it into a batch. All memory is there before the centre takes it.
-    fn answer_into(&mut self, ask: &Ask, batch: &mut Batch) -> Result<(), JournalFault>
-        ensures takes { OnOk result (TakesOne (settings_of self.old) self.old.centre self.new.centre ask.now batch.old.says.items batch.old.kept.items batch.new.says.items batch.new.kept.items) }
-        ensures journal { self.new.journal ≡ self.old.journal }
-        ensures settings { settings_of self.new ≡ settings_of self.old }
-        ensures same { OnErr result ((self.new.centre ≡ self.old.centre) × (batch.new.says.items ≡ batch.old.says.items) × (batch.new.kept.items ≡ batch.old.kept.items)) }
-        ensures err { IfErr result (λ e. e ≡ JournalFault.NoMemory) }
-    {
-        if !self.may_keep(ask) {
-            batch.reserve(&[])?;
-            let say = self.answer(ask)?;
-            batch.push(say);
-            return Ok(());
-        }
-        let item = KeptAsk::of(self.me, self.n, ask)?;
-        let bytes = entry_of(self.alloc, &item)?;
-        batch.reserve(&bytes)?;
-        let say = step(self.alloc, &mut self.centre, ask)?;
-        if !is_kept(&say) {
-            batch.push(say);
-            return Ok(());
-        }
-        batch.push_kept(say, item, &bytes);
-        Ok(())
     }
 }

@@ -1,26 +1,25 @@
-// Asks that were answered and are not in the journal yet.
+// Asks that were answered and are not in a journal yet.
 ghost use Rattle.std.specs.Prelude.{◌≡◌, ◌+◌, ◌<◌, ◌++◌, [], ◌∷◌, length, vec_len, vec_capacity, IfOk, OnOk};
 ghost use Rattle.journal_file.specs.Journal.{opened};
-ghost use Rattle.journal_asks.specs.Asks.{spelled};
 
 use dc_talk::Say;
-use journal_asks::KeptAsk;
 use journal_file::Item;
 use std::alloc::{AllocError, Global};
 
-/// The replies to some asks, those asks that are kept, and their bytes behind open gates, with room for one gate more.
+/// The replies to some asks, the items that stand for those asks that are kept, and the bytes of these behind open gates,
+/// with room for one gate more.
 #[derive(Drop)]
-pub struct Batch {
+pub struct Batch<T: Item> {
     pub says: Vec<Say>,
-    pub kept: Vec<KeptAsk>,
+    pub kept: Vec<T>,
     pub out: Vec<u8>,
-    ghost bytes: { out.items ≡ opened spelled kept.items },
+    ghost bytes: { out.items ≡ opened T.spelled kept.items },
     ghost room: { vec_len out < vec_capacity out },
 }
 
-impl Batch {
+impl<T: Item> Batch<T> {
     /// Nothing was asked yet.
-    pub fn new(alloc: Global) -> Result<Batch, AllocError>
+    pub fn new(alloc: Global) -> Result<Batch<T>, AllocError>
         ensures says { IfOk result (λ b. b.says.items ≡ []) }
         ensures kept { IfOk result (λ b. b.kept.items ≡ []) }
     {
@@ -31,7 +30,7 @@ impl Batch {
         })
     }
 
-    /// Takes room for a reply, and for an ask that is kept with these bytes.
+    /// Takes room for a reply, and for an item with these bytes.
     pub fn reserve(&mut self, bytes: &[u8]) -> Result<(), AllocError>
         ensures says { self.new.says.items ≡ self.old.says.items }
         ensures kept { self.new.kept.items ≡ self.old.kept.items }
@@ -51,10 +50,10 @@ impl Batch {
         self.says.push_reserved(say);
     }
 
-    /// Puts the reply to one that is kept behind the others, and this one with its bytes.
-    pub fn push_kept(&mut self, say: Say, item: KeptAsk, bytes: &[u8])
+    /// Puts the reply to one that is kept behind the others, and its item with its bytes.
+    pub fn push_kept(&mut self, say: Say, item: T, bytes: &[u8])
         requires room { (vec_len self.old.says < vec_capacity self.old.says) × (vec_len self.old.kept < vec_capacity self.old.kept) × (vec_len self.old.out + length bytes.now < vec_capacity self.old.out) }
-        requires bytes { bytes.now ≡ 1 ∷ spelled item }
+        requires bytes { bytes.now ≡ 1 ∷ T.spelled item }
         ensures says { self.new.says.items ≡ self.old.says.items ++ say ∷ [] }
         ensures kept { self.new.kept.items ≡ self.old.kept.items ++ item ∷ [] }
     {
@@ -64,9 +63,9 @@ impl Batch {
     }
 }
 
-/// The bytes of an ask behind an open gate.
-pub fn entry_of(alloc: Global, item: &KeptAsk) -> Result<Vec<u8>, AllocError>
-    ensures { IfOk result (λ bytes. bytes.items ≡ 1 ∷ spelled item.now) }
+/// The bytes of an item behind an open gate.
+pub fn entry_of<T: Item>(alloc: Global, item: &T) -> Result<Vec<u8>, AllocError>
+    ensures { IfOk result (λ bytes. bytes.items ≡ 1 ∷ T.spelled item.now) }
 {
     let mut bytes = Vec::new(alloc);
     bytes.push(1)?;

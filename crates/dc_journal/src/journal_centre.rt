@@ -13,11 +13,12 @@ ghost use Rattle.dc_centre.specs.Centre.{StandsFor};
 ghost use Rattle.journal_asks.specs.Spellings.{by_of, is_kept_by};
 ghost use Rattle.dc_journal.specs.Files.{numbers, IsFileOf, IsFileAround, IsFound, IsBadGate};
 
+use crate::answering::may_keep;
 use crate::opening::{is_kept, recover};
 use crate::steps::step;
 use dc_centre::Centre;
 use dc_talk::{Ask, Say};
-use journal_asks::{KeptAsk, is_kind};
+use journal_asks::KeptAsk;
 use journal_disk::Disk;
 use journal_file::{Journal, JournalFault, OpenFault, Unopened, spell_all};
 use std::alloc::Global;
@@ -143,7 +144,7 @@ impl<D: Disk> JournalCentre<D> {
         if self.journal.is_shut() {
             return Err(JournalFault::Shut);
         }
-        if !self.may_keep(ask) {
+        if !may_keep(self.n, ask) {
             return self.answer(ask);
         }
         let item = KeptAsk::of(self.me, self.n, ask)?;
@@ -179,7 +180,7 @@ impl<D: Disk> JournalCentre<D> {
     }
 
     // Answers an ask that no journal keeps.
-    pub(crate) fn answer(&mut self, ask: &Ask) -> Result<Say, JournalFault>
+    fn answer(&mut self, ask: &Ask) -> Result<Say, JournalFault>
         requires { is_kept_by (settings_of self.old) ask.now ≡ false }
         ensures journal { self.new.journal ≡ self.old.journal }
         ensures settings { settings_of self.new ≡ settings_of self.old }
@@ -189,13 +190,6 @@ impl<D: Disk> JournalCentre<D> {
     {
         let say = step(self.alloc, &mut self.centre, ask)?;
         Ok(say)
-    }
-
-    // Whether the ask may have a reply that is kept.
-    pub(crate) fn may_keep(&self, ask: &Ask) -> bool
-        ensures { result ≡ is_kept_by (settings_of self.now) ask.now }
-    {
-        is_kind(ask) && ask.fits(self.n)
     }
 
     // Answers an ask, and puts it in the journal where its reply is kept. Its bytes are there before the centre takes it.

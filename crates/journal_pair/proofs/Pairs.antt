@@ -1,10 +1,11 @@
 -- Two files, of which one goes on while the other stays.
-use Rattle.std.proofs.Common.{◌≡◌, ◌<◌, ◌+◌, ◌⊎◌, inl, inr, ℕ, Bool, true, false, ◌||◌, List, [], ◌∷◌, ◌++◌, map, Result, Ok, Err, MatchResult, OnErr, IfOk, IfErr, refl, sym, ◌∙◌, ap, subst, arith}
+use Rattle.std.proofs.Common.{◌≡◌, ◌<◌, ◌+◌, ◌⊎◌, inl, inr, ℕ, Bool, true, false, ◌||◌, List, [], ◌∷◌, ◌++◌, map, Result, Ok, Err, MatchResult, OnOk, OnErr, IfOk, IfErr, refl, sym, ◌∙◌, ap, subst, arith}
 use Rattle.journal_disk.specs.declared.disk.Moment.{Moment}
 use Rattle.journal_disk.specs.Disk.{MayLeave, Always, Ran}
 use Rattle.journal_disk.proofs.Histories.{ran_none, ran_weaker, always_weaker}
 use Rattle.journal_file.specs.Journal.{IsAt, IsEither, FileOf, Found}
 use Rattle.journal_file.proofs.Items.{at_file}
+use Rattle.journal_file.proofs.Bytes.{on_ok_more}
 use Rattle.journal_pair.specs.declared.mark.Mark.{Mark}
 use Rattle.journal_pair.specs.declared.entry.Entry.{Entry}
 use Rattle.journal_pair.specs.declared.entry.Entry.TheVariants.{Behind}
@@ -84,6 +85,14 @@ module _ {T : Type 0} (spelled : T → List ℕ) where
       appended stands next r one whole each ran =
           ran_weaker stands h (IsEither (entry_bytes spelled) Now (Now ++ put)) (λ x. (y : List ℕ) → MayLeave k y → IsEitherPair spelled checkpoint behind checkpoint (behind ++ items) x y) _ _ appended_file
           (λ l. on_match _ _ _ _ r (λ _ live. appended_at next l live) (λ _ live unshut. same_at next l (live (each unshut)))) ran
+
+      -- with their memory found before
+      pub put_there : {E : Type 0} (stands : List Moment → Type 0) (next : ℕ) (r : Result (Unit {0}) E)
+          → Ran stands h (IsEither (entry_bytes spelled) Now (Now ++ put)) (λ l. OnOk r (IsAt (entry_bytes spelled) next l (Now ++ put)))
+          → RanBeside stands h k (IsEitherPair spelled checkpoint behind checkpoint (behind ++ items)) (λ l. OnOk r (AreAt spelled mark next other_end size l k checkpoint (behind ++ items)))
+      put_there stands next r ran =
+          ran_weaker stands h (IsEither (entry_bytes spelled) Now (Now ++ put)) (λ x. (y : List ℕ) → MayLeave k y → IsEitherPair spelled checkpoint behind checkpoint (behind ++ items) x y) _ _ appended_file
+          (λ l. on_ok_more _ _ r (appended_at next l)) ran
 
     -- the other file was replaced by the next generation
     module _ (next : Mark) (later : number_of mark < number_of next) (kept : List T) (made : List (Entry T)) (made_is : made ≡ generation next kept []) where

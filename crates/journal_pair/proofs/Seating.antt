@@ -86,26 +86,25 @@ module _ {T : Type 0} where
 -- ---- the pair that was chosen
 
 module _ {D : Type 0} {disk : Ghosts D} {T : Type 0} (spelled : T → List ℕ) (stands : D → List Moment → Type 0) (h k : List Moment) (xs ys : List (Entry T)) where
-  abbrev pub Outcome : Journal D disk → Journal D disk → Mark → ℕ → List T → List T → Type 0
-  Outcome live other mark size checkpoint behind =
-      (RanBoth (stands live.disk) (stands other.disk) h k (FoundBoth spelled xs ys h k) (λ l m. AreAt spelled mark live.end other.end size l m checkpoint behind))
-      ⊎ (RanBoth (stands other.disk) (stands live.disk) h k (FoundBoth spelled xs ys h k) (λ l m. AreAt spelled mark live.end other.end size m l checkpoint behind))
+  abbrev pub Outcome : Side → Journal D disk → Journal D disk → Mark → ℕ → List T → List T → Type 0
+  Outcome side live other mark size checkpoint behind =
+      RanBoth (stands (at_side side live.disk other.disk)) (stands (beside side live.disk other.disk)) h k (FoundBoth spelled xs ys h k) (λ l m. AreAt spelled mark live.end other.end size (at_side side l m) (beside side l m) checkpoint behind)
 
   module _ (a b : Journal D disk) (mark : Mark) (size : ℕ) (checkpoint behind : List T) (size_is : size ≡ size_of spelled (generation mark checkpoint []) + 1) (first second : List (Entry T))
       (one : Ran (stands a.disk) h (Found (entry_bytes spelled) xs h) (λ l. (IsAt (entry_bytes spelled) a.end l xs) × (first ≡ xs)))
       (two : Ran (stands b.disk) k (Found (entry_bytes spelled) ys k) (λ l. (IsAt (entry_bytes spelled) b.end l ys) × (second ≡ ys))) where
-    pub by_side : (side : Side) → IsChosen side mark checkpoint behind first second → Outcome (at_side side a b) (beside side a b) mark size checkpoint behind
-    by_side First chosen = inl (found_both spelled xs ys h k (stands a.disk) (stands b.disk) _ _ (λ l m. AreAt spelled mark a.end b.end size l m checkpoint behind)
-        (λ l m p q. record { earlier = ys; live = subst (IsAt (entry_bytes spelled) a.end l) (sym p.1 ∙ chosen.live) p.0; other = q.0; before = subst (IsBefore mark) q.1 chosen.other; size_is = size_is }) one two)
-    by_side Second chosen = inr (found_both spelled xs ys h k (stands a.disk) (stands b.disk) _ _ (λ l m. AreAt spelled mark b.end a.end size m l checkpoint behind)
-        (λ l m p q. record { earlier = xs; live = subst (IsAt (entry_bytes spelled) b.end m) (sym q.1 ∙ chosen.live) q.0; other = p.0; before = subst (IsBefore mark) p.1 chosen.other; size_is = size_is }) one two)
+    pub by_side : (side : Side) → IsChosen side mark checkpoint behind first second → Outcome side (at_side side a b) (beside side a b) mark size checkpoint behind
+    by_side First chosen = found_both spelled xs ys h k (stands a.disk) (stands b.disk) _ _ (λ l m. AreAt spelled mark a.end b.end size l m checkpoint behind)
+        (λ l m p q. record { earlier = ys; live = subst (IsAt (entry_bytes spelled) a.end l) (sym p.1 ∙ chosen.live) p.0; other = q.0; before = subst (IsBefore mark) q.1 chosen.other; size_is = size_is }) one two
+    by_side Second chosen = found_both spelled xs ys h k (stands a.disk) (stands b.disk) _ _ (λ l m. AreAt spelled mark b.end a.end size m l checkpoint behind)
+        (λ l m p q. record { earlier = xs; live = subst (IsAt (entry_bytes spelled) b.end m) (sym q.1 ∙ chosen.live) q.0; other = p.0; before = subst (IsBefore mark) p.1 chosen.other; size_is = size_is }) one two
 
-  pub seated : (side : Side) (a b : Journal D disk) (mark : Mark) (size : ℕ) (checkpoint behind : List T) (p : Pair D disk) → IsSeated side a b mark size p → Outcome (at_side side a b) (beside side a b) mark size checkpoint behind → Outcome p.live p.other p.mark p.size checkpoint behind
+  pub seated : (side : Side) (a b : Journal D disk) (mark : Mark) (size : ℕ) (checkpoint behind : List T) (p : Pair D disk) → IsSeated side a b mark size p → Outcome side (at_side side a b) (beside side a b) mark size checkpoint behind → Outcome side p.live p.other p.mark p.size checkpoint behind
   seated side a b mark size checkpoint behind p seat out =
-      subst (λ j. Outcome j p.other p.mark p.size checkpoint behind) (sym seat.live)
-      (subst (λ j. Outcome (at_side side a b) j p.mark p.size checkpoint behind) (sym seat.other)
-      (subst (λ m. Outcome (at_side side a b) (beside side a b) m p.size checkpoint behind) (sym seat.mark_is)
-      (subst (λ n. Outcome (at_side side a b) (beside side a b) mark n checkpoint behind) (sym seat.size_is) out)))
+      subst (λ j. Outcome side j p.other p.mark p.size checkpoint behind) (sym seat.live)
+      (subst (λ j. Outcome side (at_side side a b) j p.mark p.size checkpoint behind) (sym seat.other)
+      (subst (λ m. Outcome side (at_side side a b) (beside side a b) m p.size checkpoint behind) (sym seat.mark_is)
+      (subst (λ n. Outcome side (at_side side a b) (beside side a b) mark n checkpoint behind) (sym seat.size_is) out)))
 
 -- each of the two disks is honest where those of the pair are
 pub both_honest : {D : Type 0} {disk : Ghosts D} (honest : D → Type 0) (side : Side) (a b : Journal D disk) (mark : Mark) (size : ℕ) (p : Pair D disk) → IsSeated side a b mark size p → honest p.live.disk → honest p.other.disk → (honest a.disk) × (honest b.disk)

@@ -35,6 +35,8 @@ pub struct Pair<D: Disk> {
 #[derive(Drop)]
 pub struct Opened<D: Disk, T> {
     pub pair: Pair<D>,
+    /// Which of the two disks has its live file.
+    pub side: Side,
     pub checkpoint: Vec<T>,
     pub behind: Vec<T>,
 }
@@ -48,13 +50,16 @@ pub struct Unopened<D: Disk> {
 }
 
 impl<D: Disk> Pair<D> {
-    ghost use Rattle.std.specs.Prelude.{◌++◌, ◌*◌, ◌<◌, ◌⊎◌, ◌↔◌, true, Err, IsOk, IsErrOf, IsTrue, MatchResult, OnOk, OnErr};
+    ghost use Rattle.std.specs.Prelude.{◌++◌, ◌∷◌, ◌*◌, ◌^◌, ◌<◌, ◌≤◌, ◌⊎◌, ◌↔◌, true, map, Err, IsOk, IsErr, IsErrOf, IsTrue, MatchResult, OnOk, OnErr};
     ghost use Rattle.journal_disk.specs.Disk.{seen, is_sound, HasRisen};
+    ghost use Rattle.journal_file.specs.Journal.{opened};
     ghost use Rattle.journal_pair.specs.declared.entry.Entry.{Entry as EntryOf};
+    ghost use Rattle.journal_pair.specs.declared.entry.Entry.TheVariants.{Behind as BehindOf};
     ghost use Rattle.journal_pair.specs.declared.pair.TheConstants.{FLOOR};
-    ghost use Rattle.journal_pair.specs.Entries.{ArePair};
+    ghost use Rattle.journal_pair.specs.Entries.{entry_bytes, ArePair};
     ghost use Rattle.journal_pair.specs.Files.{HasEntries, RanBeside, RanBoth, IsEitherPair, PairOf, FoundBoth};
     ghost use Rattle.journal_pair.specs.Causes.{HasCauseIn};
+    ghost use Rattle.journal_pair.specs.Choices.{at_side, beside};
     ghost use Rattle.journal_pair.specs.Pairs.{live_size, checkpoint_size};
 
     /// Makes a pair with an empty checkpoint on two disks, whatever they held. Until it answers, nothing is said of what
@@ -99,7 +104,7 @@ impl<D: Disk> Pair<D> {
     /// Opens the pair of two disks on which a call may have been cut short, and reads its checkpoint and the items behind.
     pub fn open<T: Item>(alloc: Global, first: D, second: D) -> Result<Opened<D, T>, Unopened<D>>
         ensures ok { IfOk result (λ r. (h k : List Moment) (xs ys : List (EntryOf T)) (checkpoint behind : List T) → D.is_honest (live_disk r.pair) → D.is_honest (other_disk r.pair) → D.stands first h → D.stands second k → is_sound h ≡ true → is_sound k ≡ true → HasEntries T.spelled xs (seen h) → HasEntries T.spelled ys (seen k) → ArePair checkpoint behind xs ys
-            → (r.checkpoint.items ≡ checkpoint) × (r.behind.items ≡ behind) × ((RanBoth (D.stands (live_disk r.pair)) (D.stands (other_disk r.pair)) h k (FoundBoth T.spelled xs ys h k) (λ l m. Has T.spelled r.pair l m checkpoint behind)) ⊎ (RanBoth (D.stands (other_disk r.pair)) (D.stands (live_disk r.pair)) h k (FoundBoth T.spelled xs ys h k) (λ l m. Has T.spelled r.pair m l checkpoint behind)))) }
+            → (r.checkpoint.items ≡ checkpoint) × (r.behind.items ≡ behind) × (RanBoth (D.stands (at_side r.side (live_disk r.pair) (other_disk r.pair))) (D.stands (beside r.side (live_disk r.pair) (other_disk r.pair))) h k (FoundBoth T.spelled xs ys h k) (λ l m. Has T.spelled r.pair (at_side r.side l m) (beside r.side l m) checkpoint behind))) }
         ensures is { IfOk result (λ r. (h k : List Moment) → D.is_honest (live_disk r.pair) → D.is_honest (other_disk r.pair) → D.stands first h → D.stands second k → is_sound h ≡ true → is_sound k ≡ true → PairOf T.spelled r.checkpoint.items r.behind.items (seen h) (seen k)) }
         ensures open { IfOk result (λ r. is_shut r.pair ≡ false) }
         ensures err { IfErr result (λ e. (h k : List Moment) (xs ys : List (EntryOf T)) (checkpoint behind : List T) → D.is_honest e.first → D.is_honest e.second → D.stands first h → D.stands second k → is_sound h ≡ true → is_sound k ≡ true → HasEntries T.spelled xs (seen h) → HasEntries T.spelled ys (seen k) → ArePair checkpoint behind xs ys
@@ -158,6 +163,32 @@ impl<D: Disk> Pair<D> {
         }
         let entries = behind_all(self.alloc, items)?;
         self.live.append(&entries)
+    }
+
+    /// Whether its live file is at most 2^62 bytes long, so that items can be put behind it.
+    pub fn has_room(&self) -> bool
+        ensures { IsTrue result ↔ (live_size self.now ≤ 2 ^ 62) }
+    {
+        self.live.has_room()
+    }
+
+    /// Puts items behind the others, whose entries `spell_all` gave: an append that finds its memory before. A crash at
+    /// any moment of the call leaves the old items or all, and after an `Ok` all. After an `Err` it is shut.
+    pub fn put<T: Item>(&mut self, entries: &[Entry<T>], out: &[u8]) -> Result<(), JournalFault>
+        requires few { live_size self.old ≤ 2 ^ 62 }
+        requires open { is_shut self.old ≡ false }
+        requires out { out.now ≡ opened (entry_bytes T.spelled) entries.now ++ 0 ∷ [] }
+        ensures moments { (h k : List Moment) (checkpoint behind items : List T) → entries.now ≡ map BehindOf items → D.stands (live_disk self.old) h → D.stands (other_disk self.old) k → Has T.spelled self.old h k checkpoint behind
+            → (RanBeside (D.stands (live_disk self.new)) h k (IsEitherPair T.spelled checkpoint behind checkpoint (behind ++ items)) (λ l. OnOk result (Has T.spelled self.new l k checkpoint (behind ++ items)))) × (D.stands (other_disk self.new) k) }
+        ensures open { IsOk result → is_shut self.new ≡ false }
+        ensures closes { IsErr result → is_shut self.new ≡ true }
+        ensures no_shut { IsErrOf result JournalFault.Shut → ⊥ }
+        ensures failed { IsErrOf result JournalFault.Disk → HasRisen (D.faults (live_disk self.old)) (D.faults (live_disk self.new)) }
+        ensures short { IsErrOf result JournalFault.NoMemory → HasRisen (D.shortages (live_disk self.old)) (D.shortages (live_disk self.new)) }
+        ensures honest { D.is_honest (live_disk self.new) → D.is_honest (live_disk self.old) }
+        ensures other { other_disk self.new ≡ other_disk self.old }
+    {
+        self.live.put(entries, out)
     }
 
     /// Goes on with a checkpoint in the place of all items so far: makes the next generation in the other file, which then
@@ -238,7 +269,7 @@ fn seat<D: Disk, T: Item>(
     side: Side,
     taken: Taken<T>,
 ) -> Result<Opened<D, T>, Unopened<D>>
-    ensures ok { IfOk result (λ r. (IsSeated side a b taken.mark (size_of T.spelled (generation taken.mark taken.checkpoint.items []) + 1) r.pair) × (r.checkpoint ≡ taken.checkpoint) × (r.behind ≡ taken.behind)) }
+    ensures ok { IfOk result (λ r. (IsSeated side a b taken.mark (size_of T.spelled (generation taken.mark taken.checkpoint.items []) + 1) r.pair) × (r.checkpoint ≡ taken.checkpoint) × (r.behind ≡ taken.behind) × (r.side ≡ side)) }
     ensures err { IfErr result (λ e. (e.why ≡ PairFault.NoMemory) × (e.first ≡ disk_of a) × (e.second ≡ disk_of b)) }
 {
     let Taken {
@@ -249,6 +280,7 @@ fn seat<D: Disk, T: Item>(
     match checkpoint_size(alloc, mark, &checkpoint) {
         Ok(size) => Ok(Opened {
             pair: sit(alloc, a, b, side, mark, size),
+            side,
             checkpoint,
             behind,
         }),

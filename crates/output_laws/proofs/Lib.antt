@@ -1,3 +1,4 @@
 pub mod TrailTexts
+pub mod JournalTexts
 pub mod Refusals
 pub mod Outputs

@@ -1,29 +1,33 @@
 -- What is owed for the same words and bytes is the same.
-use Rattle.std.proofs.Common.{◌≡◌, ◌≢◌, inl, inr, ℕ, Bool, true, false, List, ◌++◌, Option, Some, refl, sym, ap, ◌∙◌, subst}
+use Rattle.std.proofs.Common.{◌≡◌, ◌≢◌, inl, inr, ℕ, Bool, true, false, List, ◌++◌, map, Option, Some, refl, sym, ap, ◌∙◌, subst}
 use Rattle.io_edge.specs.Streams.{puts_behind}
+use Rattle.journal_disk.specs.declared.steady.SteadyDisk.{SteadyDisk}
+use Rattle.journal_disk.specs.Steady.{steady_bytes}
 use Rattle.std.specs.Prelude.{Ok}
 use Rattle.script_core.specs.declared.script.Script.{Script}
 use Rattle.script_reader.specs.Scripts.{script_read}
 use Rattle.script_reader.proofs.ScriptRanges.{script_in_range}
 use Rattle.run_book.specs.declared.book.Book.{Book}
 use Rattle.command_line.specs.declared.form.Form.{Form}
-use Rattle.command_line.specs.declared.form.Form.TheVariants.{Run, Serial, Make, Load, Help, Version}
+use Rattle.command_line.specs.declared.form.Form.TheVariants.{Run, Serial, Journal, Make, Load, Help, Version}
 use Rattle.command_line.specs.Forms.{IsForm, spelled}
 use Rattle.command_line.proofs.Spelled.{one_form}
 use Rattle.load_maker.specs.Made.{made_script}
 use Rattle.print_text.specs.Text.{text_of}
 use Rattle.trail_text.specs.Trails.{trail_text}
 use Rattle.run_book.specs.Setups.{Setup, setup_of}
-use Rattle.top_call.specs.Runs.{IsBookOf, IsDone, IsOwed, IsPlay, IsPlayed, IsRead, IsRefusal, IsRefusedFor, IsUsage, Played, Made, Told, Done, Refused, Misused, Plays, Wrote, form_text, run_text, told_text}
+use Rattle.top_call.specs.Runs.{HasText, IsBookOf, IsDone, IsOwed, IsPlay, IsPlayed, IsRead, IsRefusal, IsRefusedFor, IsUsage, Played, Made, Told, Done, Refused, Misused, Plays, Wrote, run_text, told_text}
 use Rattle.top_call.proofs.Owing.{asked_said, asks, no_question, one_play, play_known, play_of, played_of, plays_by, question_known, read_known, read_of, read_plays}
 use Rattle.std.proofs.lemmas.Option.{none-some}
 use Rattle.top_call.specs.declared.engine.Fault.{Fault}
 use Rattle.top_call.specs.declared.engine.Owed.{Owed}
 use Rattle.top_call.specs.declared.ending.Ended.{Ended}
+use Rattle.run_forks.proofs.Books.{AreRuns}
 use Rattle.run_laws.specs.OneBook.{AreOne}
 use Rattle.run_laws.proofs.InOrder.{IsInOrder, are_runs, one_self, ordered_book, run_in_order, sections_in_order}
 use Rattle.run_laws.proofs.Scripts.{one_script}
 use Rattle.output_laws.specs.Outputs.{given_bytes, AreAlike, AreFixed, HaveNoPhase, IsFixed, IsWhole, IsWholeRun, PrintAlike}
+use Rattle.output_laws.proofs.JournalTexts.{same_journal_texts}
 use Rattle.output_laws.proofs.Refusals.{not_refused, one_refusal}
 use Rattle.output_laws.proofs.TrailTexts.{same_trail_texts}
 
@@ -39,24 +43,27 @@ module _ (bytes : List ℕ) where
   fixed_run : (form : Form) (script : Script) (book : Book) → IsFixed bytes form → script_read bytes ≡ Ok script → IsBookOf form script book → IsInOrder script book
   fixed_run (Run trail) script book fixed read run = sections_in_order script book (script_in_range bytes script (sym read)) (fixed script read) run
   fixed_run (Serial trail) script book fixed read run = run_in_order script book run
+  fixed_run Journal script book fixed read run = run_in_order script book run
   fixed_run (Load num) script book fixed read run = absurd fixed
   fixed_run (Make num) script book fixed read run = absurd run
   fixed_run Help script book fixed read run = absurd run
   fixed_run Version script book fixed read run = absurd run
 
   -- and the text of that form of two runs of a script
-  fixed_text : (form : Form) (script : Script) (b c : Book) → IsFixed bytes form → text_of b.logs ≡ text_of c.logs → trail_text b (setup_of script) ≡ trail_text c (setup_of script) → form_text form script b ≡ form_text form script c
-  fixed_text (Run trail) script b c fixed texts trails = run_texts trail b c (setup_of script) texts trails
-  fixed_text (Serial trail) script b c fixed texts trails = run_texts trail b c (setup_of script) texts trails
-  fixed_text (Load num) script b c fixed texts trails = absurd fixed
-  fixed_text (Make num) script b c fixed texts trails = refl
-  fixed_text Help script b c fixed texts trails = refl
-  fixed_text Version script b c fixed texts trails = refl
+  fixed_text : (form : Form) (script : Script) (b c : Book) (text also : List ℕ) (disks others : List SteadyDisk) → IsFixed bytes form → AreRuns script b c → text_of b.logs ≡ text_of c.logs → HasText form script b text disks → HasText form script c also others → text ≡ also
+  fixed_text (Run trail) script b c text also disks others fixed runs texts is too = is.0 ∙ run_texts trail b c (setup_of script) texts (same_trail_texts script b c runs) ∙ sym too.0
+  fixed_text (Serial trail) script b c text also disks others fixed runs texts is too = is.0 ∙ run_texts trail b c (setup_of script) texts (same_trail_texts script b c runs) ∙ sym too.0
+  fixed_text Journal script b c text also disks others fixed runs texts is too = same_journal_texts script b c (map steady_bytes disks) (map steady_bytes others) text also runs is too
+  fixed_text (Load num) script b c text also disks others fixed runs texts is too = absurd fixed
+  fixed_text (Make num) script b c text also disks others fixed runs texts is too = is.0 ∙ sym too.0
+  fixed_text Help script b c text also disks others fixed runs texts is too = is.0 ∙ sym too.0
+  fixed_text Version script b c text also disks others fixed runs texts is too = is.0 ∙ sym too.0
 
   -- where it plays a script, it reads it
   fixed_read : (form : Form) → IsFixed bytes form → IsPlay form → IsRead form
   fixed_read (Run trail) fixed plays = tt
   fixed_read (Serial trail) fixed plays = tt
+  fixed_read Journal fixed plays = tt
   fixed_read (Load num) fixed plays = absurd fixed
   fixed_read (Make num) fixed plays = plays
   fixed_read Help fixed plays = plays
@@ -64,7 +71,7 @@ module _ (bytes : List ℕ) where
 
   module _ (words others : List (List ℕ)) (taken again : Option (List ℕ)) (one two : Owed) where
     -- two runs that the same bytes ask for, by forms that write the same
-    played_alike : (p : IsPlayed (given_bytes words bytes taken) one) (q : IsPlayed (given_bytes others bytes again) two) → IsFixed bytes p.asked → IsFixed bytes q.asked → ((script : Script) (book : Book) → form_text p.asked script book ≡ form_text q.asked script book) → AreAlike one two
+    played_alike : (p : IsPlayed (given_bytes words bytes taken) one) (q : IsPlayed (given_bytes others bytes again) two) → IsFixed bytes p.asked → IsFixed bytes q.asked → ((script : Script) (book : Book) (text : List ℕ) (disks : List SteadyDisk) → HasText q.asked script book text disks → HasText p.asked script book text disks) → AreAlike one two
     played_alike p q fixed also same =
         let said : script_read bytes ≡ Ok p.script = asked_said p.asked bytes p.script (fixed_read p.asked fixed p.plays) p.input in
         let told : script_read bytes ≡ Ok q.script = asked_said q.asked bytes q.script (fixed_read q.asked also q.plays) q.input in
@@ -72,10 +79,9 @@ module _ (bytes : List ℕ) where
         let mine : IsInOrder p.script one.book = fixed_run p.asked p.script one.book fixed said p.run in
         let ran : IsInOrder p.script two.book = subst (λ script. IsInOrder script two.book) (sym read) (fixed_run q.asked q.script two.book also told q.run) in
         let book = ordered_book p.script one.book two.book mine ran in
-        let trails = same_trail_texts p.script one.book two.book (are_runs p.script one.book two.book mine ran) in
-        let text : form_text p.asked p.script one.book ≡ form_text q.asked q.script two.book =
-        fixed_text p.asked p.script one.book two.book fixed book.texts trails ∙ (same p.script two.book ∙ ap (λ script. form_text q.asked script two.book) read) in
-        record { status = p.status ∙ sym q.status; text = p.text ∙ (text ∙ sym q.text); book = book }
+        let also_text : HasText p.asked p.script two.book two.text.items two.disks.items = same p.script two.book two.text.items two.disks.items (subst (λ script. HasText q.asked script two.book two.text.items two.disks.items) (sym read) q.text) in
+        let text : one.text.items ≡ two.text.items = fixed_text p.asked p.script one.book two.book one.text.items two.text.items one.disks.items two.disks.items fixed (are_runs p.script one.book two.book mine ran) book.texts p.text also_text in
+        record { status = p.status ∙ sym q.status; text = text; book = book }
 
     -- bytes that are refused, are so by the same line
     refused_alike : IsRefusal (given_bytes words bytes taken) one → IsRefusal (given_bytes others bytes again) two → AreAlike one two
@@ -85,7 +91,7 @@ module _ (bytes : List ℕ) where
 one_run : (words : List (List ℕ)) (bytes : List ℕ) (taken again : Option (List ℕ)) (one two : Owed) → AreFixed words bytes → IsPlayed (given_bytes words bytes taken) one → IsPlayed (given_bytes words bytes again) two → AreAlike one two
 one_run words bytes taken again one two fixed p q =
     let form : p.asked ≡ q.asked = one_play p.asked q.asked p.plays q.plays (sym p.form ∙ q.form) in
-    played_alike bytes words words taken again one two p q (fixed p.asked p.form) (fixed q.asked q.form) (λ script book. ap (λ form. form_text form script book) form)
+    played_alike bytes words words taken again one two p q (fixed p.asked p.form) (fixed q.asked q.form) (λ script book text disks is. subst (λ asked. HasText asked script book text disks) (sym form) is)
 
 -- what is done for the same words and bytes
 one_done : (words : List (List ℕ)) (bytes : List ℕ) (taken again : Option (List ℕ)) (one two : Owed) → AreFixed words bytes → IsDone (given_bytes words bytes taken) one → IsDone (given_bytes words bytes again) two → AreAlike one two
@@ -139,9 +145,9 @@ whole_text : (words : List (List ℕ)) (bytes : List ℕ) (taken now : Option (L
 whole_text words bytes taken now ended run = go run.status
   where
     go : IsWhole ended.status → Wrote IsOwed (given_bytes words bytes taken) ended now
-    go (inl status) = let w = run.done status in record { owed = w.owed; kind = Done w.kind; status = w.status; script = w.script; book = w.book; fault = w.fault; all = w.all }
-    go (inr (inl status)) = let w = run.misused status in record { owed = w.owed; kind = Misused w.kind; status = w.status; script = w.script; book = w.book; fault = w.fault; all = w.all }
-    go (inr (inr status)) = let w = run.refused status in record { owed = w.owed; kind = Refused w.kind; status = w.status; script = w.script; book = w.book; fault = w.fault; all = w.all }
+    go (inl status) = let w = run.done status in record { owed = w.owed; kind = Done w.kind; status = w.status; script = w.script; book = w.book; disks = w.disks; fault = w.fault; all = w.all }
+    go (inr (inl status)) = let w = run.misused status in record { owed = w.owed; kind = Misused w.kind; status = w.status; script = w.script; book = w.book; disks = w.disks; fault = w.fault; all = w.all }
+    go (inr (inr status)) = let w = run.refused status in record { owed = w.owed; kind = Refused w.kind; status = w.status; script = w.script; book = w.book; disks = w.disks; fault = w.fault; all = w.all }
 
 -- runs in which nothing failed, where what they owe is the same
 print_alike : (words others : List (List ℕ)) (bytes : List ℕ) (taken again now later : Option (List ℕ)) (one two : Ended) → ((owed also : Owed) → IsOwed (given_bytes words bytes taken) owed → IsOwed (given_bytes others bytes again) also → AreAlike owed also) → IsWholeRun words bytes taken one now → IsWholeRun others bytes again two later → PrintAlike one two taken again now later
@@ -186,7 +192,7 @@ run_as_serial trail bytes taken again one two lines (Done d) (Done e) =
     let p = done_run (Run trail) tt bytes taken one d in
     let q = done_run (Serial trail) tt bytes again two e in
     played_alike bytes (spelled (Run trail)) (spelled (Serial trail)) taken again one two p.0 q.0 (subst (IsFixed bytes) (sym p.1) lines) (subst (IsFixed bytes) (sym q.1) tt)
-    (λ script book. ap (λ form. form_text form script book) p.1 ∙ sym (ap (λ form. form_text form script book) q.1))
+    (λ script book text disks is. subst (λ form. HasText form script book text disks) (sym p.1) (subst (λ form. HasText form script book text disks) q.1 is))
 run_as_serial trail bytes taken again one two lines (Done d) (Refused q) = absurd (not_played (Run trail) tt bytes taken one q.fault q.refused d)
 run_as_serial trail bytes taken again one two lines (Refused p) (Done e) = absurd (not_played (Serial trail) tt bytes again two p.fault p.refused e)
 run_as_serial trail bytes taken again one two lines (Refused p) (Refused q) = refused_alike bytes (spelled (Run trail)) (spelled (Serial trail)) taken again one two p q

@@ -2,3 +2,5 @@ pub mod Picking
 pub mod Framed
 pub mod Spelled
 pub mod Items
+pub mod PlainParts
+pub mod PointKinds

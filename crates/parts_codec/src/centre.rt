@@ -1,5 +1,5 @@
 // A centre is put behind other bytes, and read from the front of bytes.
-ghost use Rattle.std.specs.Prelude.{◌≡◌, ◌++◌, OnOk, OnErr, IfOk, Err};
+ghost use Rattle.std.specs.Prelude.{◌≡◌, ◌↔◌, ◌++◌, OnOk, OnErr, IfOk, Err};
 ghost use Rattle.state_codec.specs.declared.writing.NotPut.TheVariants.{Unfit};
 ghost use Rattle.state_codec.specs.Reading.{Gives};
 ghost use Rattle.state_codec.specs.Fronts.{IsFront};
@@ -16,17 +16,20 @@ use state_codec::{NotPut, Stop};
 use std::alloc::Global;
 use vv_core::Vector;
 
-/// Puts the bytes of a centre behind others. An `Err` leaves those as they were. It is `Unfit` only where the centre has no
-/// bytes: a state, a record of the outbox or a transaction that is not folded has none. Where it has none, it is `Unfit`, or
-/// `NoMemory` where memory ran out before that was seen.
+/// Puts the bytes of a centre behind others. An `Err` leaves those as they were. It is `Unfit` exactly where the centre has no
+/// bytes: a state, a record of the outbox or a transaction that is not folded has none.
 pub fn put_centre(out: &mut Vec<u8>, centre: &PlainCentre) -> Result<(), NotPut>
     ensures ok { OnOk result (out.new.items ≡ out.old.items ++ centre_bytes centre.now) }
     ensures err { OnErr result (out.new.items ≡ out.old.items) }
     ensures fits { OnOk result (IsSpelledCentre centre.now) }
-    ensures unfit { result ≡ Err Unfit → IsSpelledCentre centre.now → ⊥ }
+    ensures unfit { result ≡ Err Unfit ↔ (IsSpelledCentre centre.now → ⊥) }
 {
+    if !centre.fits() {
+        return Err(NotPut::Unfit);
+    }
+    // It has bytes, so only memory can be wanting.
     let mut bytes = Vec::new(*out.allocator());
-    centre.put(&mut bytes)?;
+    taken!(centre.put(&mut bytes));
     taken!(out.extend_from_slice(&bytes));
     Ok(())
 }
@@ -53,6 +56,10 @@ impl Spell for Settings {
 
     ghost reading = { settings_at };
 
+    fn fits(&self) -> bool {
+        self.me.fits() && self.n.fits() && self.k.fits() && self.limit.fits()
+    }
+
     fn put(&self, out: &mut Vec<u8>) -> Result<(), NotPut> {
         self.me.put(out)?;
         self.n.put(out)?;
@@ -76,6 +83,16 @@ impl Spell for PlainCentre {
     ghost spelled = { centre_bytes };
 
     ghost reading = { centre_at };
+
+    fn fits(&self) -> bool {
+        self.settings.fits()
+            && self.stopped.fits()
+            && self.mark.fits()
+            && self.trimmed.fits()
+            && self.applied.fits()
+            && self.rows.fits()
+            && self.outbox.fits()
+    }
 
     fn put(&self, out: &mut Vec<u8>) -> Result<(), NotPut> {
         self.settings.put(out)?;

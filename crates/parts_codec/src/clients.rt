@@ -19,6 +19,10 @@ impl Spell for Stamp {
 
     ghost reading = { stamp_at };
 
+    fn fits(&self) -> bool {
+        self.centre.fits() && self.seq.fits()
+    }
+
     fn put(&self, out: &mut Vec<u8>) -> Result<(), NotPut> {
         self.centre.put(out)?;
         self.seq.put(out)
@@ -38,6 +42,10 @@ impl Spell for Noted {
     ghost spelled = { noted_bytes };
 
     ghost reading = { noted_at };
+
+    fn fits(&self) -> bool {
+        self.client.fits() && self.number.fits() && self.stamp.fits()
+    }
 
     fn put(&self, out: &mut Vec<u8>) -> Result<(), NotPut> {
         self.client.put(out)?;
@@ -67,6 +75,10 @@ impl Spell for Folded {
     ghost spelled = { folded_bytes };
 
     ghost reading = { folded_at };
+
+    fn fits(&self) -> bool {
+        self.client.fits() && self.number.fits()
+    }
 
     fn put(&self, out: &mut Vec<u8>) -> Result<(), NotPut> {
         self.client.put(out)?;

@@ -19,6 +19,10 @@ impl Spell for Item {
 
     ghost reading = { framed_at };
 
+    fn fits(&self) -> bool {
+        Item::fits(self)
+    }
+
     fn put(&self, out: &mut Vec<u8>) -> Result<(), NotPut> {
         if !self.fits() {
             return Err(NotPut::Unfit);

@@ -29,14 +29,17 @@ mod item;
 mod laws;
 mod lists;
 mod numbers;
+mod parted;
 mod parts_item;
 mod plain;
 mod point;
 mod records;
 mod spell;
+mod states;
 mod vectors;
 
 pub use centre::{centre_at, put_centre};
 pub use laws::law_one_spelling;
+pub use parted::{law_of_kind, law_plain_parts};
 pub use parts_item::PartsItem;
 pub use plain::{PlainApplied, PlainCentre, PlainPoint, PlainStates};

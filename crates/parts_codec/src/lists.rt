@@ -1,5 +1,5 @@
 // Lists of what has bytes.
-ghost use Rattle.std.specs.Prelude.{◌≡◌, ◌++◌, All, OnOk, Err};
+ghost use Rattle.std.specs.Prelude.{◌≡◌, ◌↔◌, ◌++◌, All, OnOk, Err, IsTrue};
 ghost use Rattle.std.specs.List.{flat_map};
 ghost use Rattle.state_codec.specs.declared.writing.NotPut.TheVariants.{Unfit};
 ghost use Rattle.state_codec.specs.Spelling.{list_bytes};
@@ -19,6 +19,12 @@ impl<T: Spell> Spell for List<T> {
 
     ghost reading = { list_at T.reading };
 
+    fn fits(&self) -> bool {
+        let items = self.as_slice();
+        let _count = items.len();
+        each_fits(items)
+    }
+
     fn put(&self, out: &mut Vec<u8>) -> Result<(), NotPut> {
         let items = self.as_slice();
         (items.len() as u64).put(out)?;
@@ -31,6 +37,13 @@ impl<T: Spell> Spell for List<T> {
         let (items, rest) = found!(some_at::<T>(alloc, count, rest));
         Ok((List::from_vec(items), rest))
     }
+}
+
+/// Whether each has bytes.
+pub fn each_fits<T: Spell>(items: &[T]) -> bool
+    ensures { IsTrue result ↔ All T.has_bytes items.now }
+{
+    items.iter().all(|item| item.fits())
 }
 
 /// Puts the bytes of each behind others, as `Spell::put` does.

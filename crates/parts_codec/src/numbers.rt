@@ -17,6 +17,11 @@ impl Spell for u8 {
 
     ghost reading = { byte_at };
 
+    fn fits(&self) -> bool {
+        let _number = *self;
+        true
+    }
+
     fn put(&self, out: &mut Vec<u8>) -> Result<(), NotPut> {
         taken!(out.push(*self));
         Ok(())
@@ -33,6 +38,11 @@ impl Spell for u32 {
     ghost spelled = { u32_bytes };
 
     ghost reading = { half_at };
+
+    fn fits(&self) -> bool {
+        let _number = *self;
+        true
+    }
 
     fn put(&self, out: &mut Vec<u8>) -> Result<(), NotPut> {
         taken!(put_u32(out, *self));
@@ -51,6 +61,11 @@ impl Spell for u64 {
 
     ghost reading = { number_at };
 
+    fn fits(&self) -> bool {
+        let _number = *self;
+        true
+    }
+
     fn put(&self, out: &mut Vec<u8>) -> Result<(), NotPut> {
         taken!(put_u64(out, *self));
         Ok(())
@@ -67,6 +82,10 @@ impl Spell for bool {
     ghost spelled = { flag_bytes };
 
     ghost reading = { flag_at };
+
+    fn fits(&self) -> bool {
+        true
+    }
 
     fn put(&self, out: &mut Vec<u8>) -> Result<(), NotPut> {
         u8::from(*self).put(out)

@@ -5,7 +5,6 @@ ghost use Rattle.parts_codec.specs.Spelling.{IsSpelledCentre};
 use crate::plain::PlainCentre;
 use crate::spell::Spell;
 use state_codec::NotPut;
-use std::alloc::Global;
 
 /// A centre that has bytes, as an item of a journal.
 #[derive(Drop)]
@@ -15,18 +14,19 @@ pub struct PartsItem {
 }
 
 impl PartsItem {
-    ghost use Rattle.std.specs.Prelude.{◌≡◌, IfOk, Err};
+    ghost use Rattle.std.specs.Prelude.{◌≡◌, ◌↔◌, IfOk, IfErr, Err};
     ghost use Rattle.state_codec.specs.declared.writing.NotPut.TheVariants.{Unfit};
 
-    /// A centre as an item. An `Err` lets the centre go. It is `Unfit` only where the centre has no bytes; where it has none,
-    /// it is `Unfit`, or `NoMemory` where memory ran out before that was seen.
-    pub fn of(alloc: Global, centre: PlainCentre) -> Result<PartsItem, NotPut>
+    /// A centre as an item. An `Err` lets the centre go; it is `Unfit`, exactly where the centre has no bytes. It takes no memory.
+    pub fn of(centre: PlainCentre) -> Result<PartsItem, NotPut>
         ensures ok { IfOk result (λ item. item.centre ≡ centre) }
         ensures fits { IfOk result (λ item. IsSpelledCentre centre) }
-        ensures unfit { result ≡ Err Unfit → IsSpelledCentre centre → ⊥ }
+        ensures unfit { result ≡ Err Unfit ↔ (IsSpelledCentre centre → ⊥) }
+        ensures err { IfErr result (λ refusal. refusal ≡ Unfit) }
     {
-        let mut bytes = Vec::new(alloc);
-        centre.put(&mut bytes)?;
+        if !centre.fits() {
+            return Err(NotPut::Unfit);
+        }
         Ok(PartsItem { centre })
     }
 }

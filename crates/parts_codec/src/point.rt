@@ -22,6 +22,10 @@ impl Spell for PlainPart {
 
     ghost reading = { named_at };
 
+    fn fits(&self) -> bool {
+        PlainPart::fits(self)
+    }
+
     fn put(&self, out: &mut Vec<u8>) -> Result<(), NotPut> {
         if !self.fits() {
             return Err(NotPut::Unfit);
@@ -46,6 +50,10 @@ impl Spell for PlainPoint {
     ghost spelled = { point_bytes };
 
     ghost reading = { point_at };
+
+    fn fits(&self) -> bool {
+        self.vector.fits() && self.folded.fits() && self.numbers.fits() && self.states.fits()
+    }
 
     fn put(&self, out: &mut Vec<u8>) -> Result<(), NotPut> {
         self.vector.put(out)?;
@@ -78,6 +86,14 @@ impl Spell for PlainApplied {
     ghost spelled = { applied_bytes };
 
     ghost reading = { applied_at };
+
+    fn fits(&self) -> bool {
+        self.vector.fits()
+            && self.top.fits()
+            && self.notes.fits()
+            && self.point.fits()
+            && self.rest.fits()
+    }
 
     fn put(&self, out: &mut Vec<u8>) -> Result<(), NotPut> {
         self.vector.put(out)?;

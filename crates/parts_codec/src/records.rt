@@ -14,7 +14,7 @@ use state_codec::{NotPut, Stop};
 use std::alloc::Global;
 use tx_core::{Record, RestPart, Stamps, Tx};
 use vv_core::{Stamp, Vector};
-use wire_codec::Item;
+use wire_codec::{Item, fits_record, fits_tx};
 
 impl Spell for Sent {
     ghost has_bytes = { IsSpelledSent };
@@ -22,6 +22,10 @@ impl Spell for Sent {
     ghost spelled = { sent_bytes };
 
     ghost reading = { sent_at };
+
+    fn fits(&self) -> bool {
+        fits_record(self.item.as_record(), self.hops)
+    }
 
     fn put(&self, out: &mut Vec<u8>) -> Result<(), NotPut> {
         let item = taken!(self.item.as_record().copy());
@@ -59,6 +63,10 @@ impl Spell for Tx {
     ghost spelled = { tx_bytes };
 
     ghost reading = { tx_at };
+
+    fn fits(&self) -> bool {
+        fits_tx(self.snap.width(), self)
+    }
 
     fn put(&self, out: &mut Vec<u8>) -> Result<(), NotPut> {
         let frame = taken!(frame_of(self));
@@ -123,6 +131,10 @@ impl Spell for RestPart {
     ghost spelled = { rest_bytes };
 
     ghost reading = { rest_at };
+
+    fn fits(&self) -> bool {
+        self.tx.fits() && self.stamps.fits()
+    }
 
     fn put(&self, out: &mut Vec<u8>) -> Result<(), NotPut> {
         self.tx.put(out)?;

@@ -1,5 +1,5 @@
 // What has bytes.
-ghost use Rattle.std.specs.Prelude.{◌≡◌, ◌++◌, OnOk, Err};
+ghost use Rattle.std.specs.Prelude.{◌≡◌, ◌↔◌, ◌++◌, OnOk, Err, IsTrue};
 ghost use Rattle.state_codec.specs.declared.writing.NotPut.TheVariants.{Unfit};
 ghost use Rattle.state_codec.specs.Reading.{Gives};
 
@@ -19,6 +19,10 @@ pub trait Spell: Drop {
 
     // The one with which bytes begin, and what stands behind it.
     ghost reading: { List ℕ → Reading Self };
+
+    /// Whether it has bytes. It takes no memory.
+    fn fits(&self) -> bool
+        ensures { IsTrue result ↔ has_bytes self.now };
 
     /// Puts its bytes behind others. After an `Err` some of them may stand there. It is `Unfit` only where it has none.
     fn put(&self, out: &mut Vec<u8>) -> Result<(), NotPut>

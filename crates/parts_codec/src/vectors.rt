@@ -6,7 +6,7 @@ ghost use Rattle.state_codec.specs.Reading.{Gives, times_at};
 ghost use Rattle.parts_codec.specs.Spelling.{vector_bytes, IsSpelledVector};
 ghost use Rattle.parts_codec.specs.Reading.{half_at, vector_at};
 
-use crate::lists::put_each;
+use crate::lists::{each_fits, put_each};
 use crate::spell::Spell;
 use ids_core::MOST_CENTRES;
 use state_codec::{NotPut, Stop, u8_at, u32_at};
@@ -19,6 +19,10 @@ impl Spell for Vector {
     ghost spelled = { vector_bytes };
 
     ghost reading = { vector_at };
+
+    fn fits(&self) -> bool {
+        each_fits(self.as_slice())
+    }
 
     fn put(&self, out: &mut Vec<u8>) -> Result<(), NotPut> {
         self.width().put(out)?;

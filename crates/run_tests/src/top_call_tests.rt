@@ -106,3 +106,57 @@ fn each_write_may_fail(rt: HostRuntime) -> Result<(), Fail> {
     }
     Ok(())
 }
+
+const JOURNAL_TEXT: &[u8] = b"journal 1 entries 1 bytes 67 vector 1\n";
+
+// Whether the first path by `journal` ends with this status over a sink that moves 16 bytes a call and fails at these:
+// the sink has so many bytes of the line, and there is one disk, whose file has the bytes of which the line tells.
+fn keeps_its_disk<R: Threads + Wait + Sync>(
+    rt: &R,
+    alloc: Global,
+    fails: Vec<u64>,
+    status: u8,
+    taken: usize,
+) -> Result<bool, AllocError> {
+    let mut source = SteadySource::new(Vec::from_slice(alloc, FIRST_PATH)?);
+    let mut sink = MemorySink::new(alloc, 16, fails);
+    let ended = ended_of(rt, alloc, "journal", &mut source, &mut sink, &FreeGate)?;
+    let front = match JOURNAL_TEXT.get(..taken) {
+        Some(front) => sink.bytes() == front,
+        None => false,
+    };
+    let kept = match ended.disks.as_slice() {
+        [disk] => disk.bytes().len() == 67,
+        _ => false,
+    };
+    Ok(ended.status == status && front && kept)
+}
+
+#[test]
+fn journals_are_handed_out(rt: HostRuntime) -> Result<(), Fail> {
+    let alloc = rt.alloc();
+    assert!(rt; keeps_its_disk(&rt, alloc, Vec::new(alloc), 0, 38)?);
+    assert!(rt; keeps_its_disk(&rt, alloc, vec![in alloc; 1]?, 5, 0)?);
+    assert!(rt; keeps_its_disk(&rt, alloc, vec![in alloc; 3]?, 5, 32)?);
+    Ok(())
+}
+
+// Whether the first path has no disks by this word.
+fn has_no_disks<R: Threads + Wait + Sync>(
+    rt: &R,
+    alloc: Global,
+    word: &str,
+) -> Result<bool, AllocError> {
+    let mut source = SteadySource::new(Vec::from_slice(alloc, FIRST_PATH)?);
+    let mut sink = SteadySink::new(alloc);
+    let ended = ended_of(rt, alloc, word, &mut source, &mut sink, &FreeGate)?;
+    Ok(ended.status == 0 && ended.disks.is_empty())
+}
+
+#[test]
+fn other_forms_have_no_disks(rt: HostRuntime) -> Result<(), Fail> {
+    for word in ["serial", "run", "--version"] {
+        assert!(rt; has_no_disks(&rt, rt.alloc(), word)?);
+    }
+    Ok(())
+}

@@ -1,5 +1,5 @@
 // States taken apart, and made again.
-ghost use Rattle.std.specs.Prelude.{◌≡◌, ◌↔◌, Err, IfOk};
+ghost use Rattle.std.specs.Prelude.{◌≡◌, ◌↔◌, Err, IfOk, IsTrue};
 ghost use Rattle.tally_core.specs.Listing.{AreStored};
 ghost use Rattle.tx_core.specs.declared.state.State.{State as StateOf};
 ghost use Rattle.state_codec.specs.declared.state.PlainState.TheVariants.{Set, Map};
@@ -37,6 +37,18 @@ impl PlainState {
             State::Register(last) => Ok(PlainState::Register(last.last())),
             State::Set(set) => Ok(PlainState::Set(List::from_vec(set.tallies(alloc)?))),
             State::Map(map) => Ok(PlainState::Map(List::from_vec(map.tallies(alloc)?))),
+        }
+    }
+
+    /// Whether it is that of a state. It takes no memory.
+    pub fn has_state(&self) -> bool
+        ensures { IsTrue result ↔ HasState self.now }
+    {
+        match self {
+            PlainState::Counter(_) => true,
+            PlainState::Register(_) => true,
+            PlainState::Set(tallies) => are_stored(tallies.as_slice()),
+            PlainState::Map(tallies) => are_stored(tallies.as_slice()),
         }
     }
 

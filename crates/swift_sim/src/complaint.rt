@@ -1,5 +1,6 @@
 // What the program says to its user where a run did not end well. It goes to standard error, of which no contract
 // speaks.
+use disk_forms::Fault as FileFault;
 use script_advice::advice;
 use std::io;
 use top_call::{Ended, Fault};
@@ -43,4 +44,9 @@ pub fn complain(rt: HostRuntime, words: &[String], ended: &Ended) -> io::Result<
         5 => eprintln!(rt; "swift_sim: standard output was not written: a write failed"),
         _ => eprintln!(rt; "swift_sim: memory ran out"),
     }
+}
+
+/// Says on standard error why the journals of a folder were not made or not opened.
+pub fn complain_of_files(rt: HostRuntime, fault: &FileFault) -> io::Result<()> {
+    eprintln!(rt; "swift_sim: {fault}")
 }

@@ -2,10 +2,13 @@
 #![tactic(auto)]
 
 mod complaint;
+mod journals;
 mod progress;
 
 use complaint::complain;
+use disk_forms::dir_form;
 use io_edge::{StdSink, StdSource};
+use journals::with_folder;
 use progress::Teller;
 use std::process::ExitCode;
 use std::rt::Env;
@@ -50,9 +53,12 @@ fn main(rt: HostRuntime) -> ExitCode {
             Vec::new(rt.alloc())
         }
     };
+    let teller = Teller::new(rt, take_quiet(&mut words));
+    if let Some((form, folder)) = dir_form(&words) {
+        return ExitCode::from(with_folder(rt, &teller, form, folder));
+    }
     let mut source = StdSource::new(rt.reader());
     let mut sink = StdSink::new(io::writer(&rt));
-    let teller = Teller::new(rt, take_quiet(&mut words));
     let ended = swift_main(&rt, rt.alloc(), &words, &mut source, &mut sink, &teller);
     teller.clear();
     // Where standard error takes nothing, the status says what there is to say.

@@ -15,14 +15,15 @@ use Rattle.run_book.specs.Setups.{setup_of}
 use Rattle.run_book.proofs.Causal.Theorem.{causal as book_causal}
 use Rattle.run_book.specs.declared.book.Book.{Book}
 use Rattle.run_sections.specs.Runs.{IsSectionRunOf}
+use Rattle.run_sections.specs.OneThread.{IsRunOf}
 use Rattle.top_call.specs.declared.engine.Fault.{Fault}
 use Rattle.top_call.specs.declared.engine.Owed.{Owed}
 use Rattle.top_call.specs.declared.input.Task.{Task}
 use Rattle.top_call.specs.declared.input.Task.TheVariants.{Play, Refuse}
 use Rattle.top_call.specs.declared.ending.Ended.{Ended}
-use Rattle.top_call.specs.Runs.{Given, AsksThreads, IsAnswerable, IsAsked, IsBookOf, IsDone, IsFitAndCausal, IsRefusedFor, IsOwed, IsPlay, IsRead, IsScriptIn, IsServed, IsTask, IsTaskIn, IsTaskOf, IsThreaded, IsToPlay, Played, Made, Told, Done, Refused, Misused, IsPlayed, IsSomeScript, IsStatus, EndsSo, Plays, Reads, Wrote, empty_book, form_text, given_form, told_text}
+use Rattle.top_call.specs.Runs.{Given, AsksThreads, IsAnswerable, IsAsked, IsBookOf, IsDone, IsFitAndCausal, IsRefusedFor, IsOwed, IsPlay, IsRead, IsScriptIn, IsServed, IsTask, IsTaskIn, IsTaskOf, IsThreaded, IsToPlay, Played, Made, Told, Done, Refused, Misused, IsPlayed, IsSomeScript, IsStatus, EndsSo, HasText, Plays, Reads, Wrote, empty_book, given_form, told_text}
 use Rattle.command_line.specs.declared.form.Form.{Form}
-use Rattle.command_line.specs.declared.form.Form.TheVariants.{Run, Serial, Make, Load, Help, Version}
+use Rattle.command_line.specs.declared.form.Form.TheVariants.{Run, Serial, Journal, Make, Load, Help, Version}
 use Rattle.command_line.specs.Forms.{IsForm, spelled}
 use Rattle.command_line.proofs.Spelled.{one_form}
 
@@ -31,13 +32,14 @@ pub book_fits : (form : Form) (script : Script) (book : Book) → IsBookOf form 
 book_fits (Run trail) script book run = run.fits
 book_fits (Serial trail) script book run = run.fits
 book_fits (Load num) script book run = run.fits
+book_fits Journal script book run = run.fits
 book_fits (Make num) script book run = absurd run
 book_fits Help script book run = absurd run
 book_fits Version script book run = absurd run
 
 -- what is owed for a script that a form plays
 pub run_plays : (form : Form) (left : Option (List ℕ)) (script : Script) (owed : Owed) → IsPlay form → IsAsked form left script → owed.status ≡ 0 → owed.script ≡ Some script
-    → IsBookOf form script owed.book → owed.text.items ≡ form_text form script owed.book → owed.fault ≡ None → IsOwed (given_form form left) owed
+    → IsBookOf form script owed.book → HasText form script owed.book owed.text.items owed.disks.items → owed.fault ≡ None → IsOwed (given_form form left) owed
 run_plays form left script owed plays input status kept run text sound = Done (Played (record {
   asked = form;
   plays = plays;
@@ -58,6 +60,7 @@ run_plays form left script owed plays input status kept run text sound = Done (P
 pub read_plays : (form : Form) → IsRead form → IsPlay form
 read_plays (Run trail) read = tt
 read_plays (Serial trail) read = tt
+read_plays Journal read = tt
 read_plays (Make num) read = read
 read_plays (Load num) read = absurd read
 read_plays Help read = read
@@ -67,6 +70,7 @@ read_plays Version read = read
 pub play_known : (form : Form) → IsPlay form → IsForm form
 play_known (Run trail) play = tt
 play_known (Serial trail) play = tt
+play_known Journal play = tt
 play_known (Make num) play = absurd play
 play_known (Load num) play = play
 play_known Help play = absurd play
@@ -80,6 +84,7 @@ read_known form read = play_known form (read_plays form read)
 pub question_known : (question : Form) (text : List ℕ) → told_text question ≡ Some text → IsForm question
 question_known (Run trail) text told = tt
 question_known (Serial trail) text told = tt
+question_known Journal text told = tt
 question_known (Make num) text told = absurd (none-some text told)
 question_known (Load num) text told = absurd (none-some text told)
 question_known Help text told = tt
@@ -89,6 +94,7 @@ question_known Version text told = tt
 pub no_question : (form : Form) (text : List ℕ) → told_text form ≡ Some text → IsPlay form → ⊥
 no_question (Run trail) text told play = none-some text told
 no_question (Serial trail) text told play = none-some text told
+no_question Journal text told play = none-some text told
 no_question (Make num) text told play = play
 no_question (Load num) text told play = none-some text told
 no_question Help text told play = play
@@ -116,6 +122,7 @@ one_play form again play too same = one_form form again (play_known form play) (
 pub threaded_plays : (form : Form) → IsThreaded form → IsPlay form
 threaded_plays (Run trail) threaded = tt
 threaded_plays (Serial trail) threaded = absurd threaded
+threaded_plays Journal threaded = absurd threaded
 threaded_plays (Make num) threaded = threaded
 threaded_plays (Load num) threaded = threaded
 threaded_plays Help threaded = threaded
@@ -125,10 +132,21 @@ threaded_plays Version threaded = threaded
 pub threaded_book : (form : Form) (script : Script) (book : Book) → IsThreaded form → IsSectionRunOf script book → IsBookOf form script book
 threaded_book (Run trail) script book threaded run = run
 threaded_book (Serial trail) script book threaded run = absurd threaded
+threaded_book Journal script book threaded run = absurd threaded
 threaded_book (Make num) script book threaded run = threaded
 threaded_book (Load num) script book threaded run = run
 threaded_book Help script book threaded run = threaded
 threaded_book Version script book threaded run = threaded
+
+-- a book of a run on one thread is one that each other form leaves which reads a script
+pub alone_book : (form : Form) (script : Script) (book : Book) → IsRead form → (IsThreaded form → ⊥) → IsRunOf script book → IsBookOf form script book
+alone_book (Run trail) script book read alone run = absurd (alone tt)
+alone_book (Serial trail) script book read alone run = run
+alone_book Journal script book read alone run = run
+alone_book (Make num) script book read alone run = read
+alone_book (Load num) script book read alone run = absurd read
+alone_book Help script book read alone run = read
+alone_book Version script book read alone run = read
 
 -- the form for which words ask for threads is one that the program knows
 asked_known : (words : List (List ℕ)) (asks : AsksThreads words) → IsForm asks.asked
@@ -203,6 +221,7 @@ script_said bytes script found = ap script_read found.input ∙ found.spelled
 pub asked_said : (form : Form) (bytes : List ℕ) (script : Script) → IsRead form → IsAsked form (Some bytes) script → script_read bytes ≡ Ok script
 asked_said (Run trail) bytes script read asked = script_said bytes script asked
 asked_said (Serial trail) bytes script read asked = script_said bytes script asked
+asked_said Journal bytes script read asked = script_said bytes script asked
 asked_said (Make num) bytes script read asked = absurd read
 asked_said (Load num) bytes script read asked = absurd read
 asked_said Help bytes script read asked = absurd read
@@ -214,6 +233,8 @@ task_asked (Run trail) left (Play script) read is = is
 task_asked (Run trail) left (Refuse fault) read is = (tt, is)
 task_asked (Serial trail) left (Play script) read is = is
 task_asked (Serial trail) left (Refuse fault) read is = (tt, is)
+task_asked Journal left (Play script) read is = is
+task_asked Journal left (Refuse fault) read is = (tt, is)
 task_asked (Make num) left task read is = absurd read
 task_asked (Load num) left task read is = absurd read
 task_asked Help left task read is = absurd read
@@ -243,10 +264,10 @@ task_end new bytes past (Refuse fault) limits whole refused play = absurd play
 -- what is owed for the words of a form is owed whatever the sink has
 pub owed_given : (form : Form) (given : Given) (left : Option (List ℕ)) (owed : Owed) → given.words ≡ spelled form → given.left ≡ left → IsOwed (given_form form left) owed → IsOwed given owed
 owed_given form given left owed spells same (Done (Played p)) = Done (Played (record { asked = p.asked; plays = p.plays; form = spells ∙ p.form; status = p.status; script = p.script; kept = p.kept; input = subst (λ l. IsAsked p.asked l p.script) (sym same) p.input; run = p.run; causal = p.causal; text = p.text; sound = p.sound }))
-owed_given form given left owed spells same (Done (Made m)) = Done (Made (record { num = m.num; known = m.known; form = spells ∙ m.form; status = m.status; text = m.text; script = m.script; book = m.book; sound = m.sound }))
-owed_given form given left owed spells same (Done (Told t)) = Done (Told (record { question = t.question; form = spells ∙ t.form; status = t.status; text = t.text; script = t.script; book = t.book; sound = t.sound }))
-owed_given form given left owed spells same (Refused r) = Refused (record { form = record { asked = r.form.asked; reads = r.form.reads; form = spells ∙ r.form.form }; status = r.status; fault = r.fault; refused = subst (λ l. IsRefusedFor l r.fault) (sym same) r.refused; text = r.text; script = r.script; book = r.book; told = r.told })
-owed_given form given left owed spells same (Misused u) = Misused (record { form = λ other known is. u.form other known (sym spells ∙ is); status = u.status; text = u.text; script = u.script; book = u.book; sound = u.sound })
+owed_given form given left owed spells same (Done (Made m)) = Done (Made (record { num = m.num; known = m.known; form = spells ∙ m.form; status = m.status; text = m.text; script = m.script; book = m.book; disks = m.disks; sound = m.sound }))
+owed_given form given left owed spells same (Done (Told t)) = Done (Told (record { question = t.question; form = spells ∙ t.form; status = t.status; text = t.text; script = t.script; book = t.book; disks = t.disks; sound = t.sound }))
+owed_given form given left owed spells same (Refused r) = Refused (record { form = record { asked = r.form.asked; reads = r.form.reads; form = spells ∙ r.form.form }; status = r.status; fault = r.fault; refused = subst (λ l. IsRefusedFor l r.fault) (sym same) r.refused; text = r.text; script = r.script; book = r.book; disks = r.disks; told = r.told })
+owed_given form given left owed spells same (Misused u) = Misused (record { form = λ other known is. u.form other known (sym spells ∙ is); status = u.status; text = u.text; script = u.script; book = u.book; disks = u.disks; sound = u.sound })
 
 -- ---- the ends
 
@@ -263,10 +284,10 @@ done_sound given owed (Made m) = m.sound
 done_sound given owed (Told t) = t.sound
 
 -- a run whose whole text was taken ends with what is owed
-pub wrote_ends : (given : Given) (owed : Owed) (ended : Ended) (taken : Option (List ℕ)) → IsOwed given owed → ended.status ≡ owed.status → ended.script ≡ owed.script → ended.book ≡ owed.book → ended.fault ≡ owed.fault → taken ≡ puts_behind owed.text.items given.taken → EndsSo given ended taken
-wrote_ends given owed ended taken (Done d) status script book fault all = record {
+pub wrote_ends : (given : Given) (owed : Owed) (ended : Ended) (taken : Option (List ℕ)) → IsOwed given owed → ended.status ≡ owed.status → ended.script ≡ owed.script → ended.book ≡ owed.book → ended.disks ≡ owed.disks → ended.fault ≡ owed.fault → taken ≡ puts_behind owed.text.items given.taken → EndsSo given ended taken
+wrote_ends given owed ended taken (Done d) status script book disks fault all = record {
   statuses = inl (status ∙ done_status given owed d);
-  done = λ _. record { owed = owed; kind = d; status = status; script = script; book = book; fault = fault; all = all };
+  done = λ _. record { owed = owed; kind = d; status = status; script = script; book = book; disks = disks; fault = fault; all = all };
   misused = λ other. absurd (omega (arith, other, status, done_status given owed d));
   refused = λ other. absurd (omega (arith, other, status, done_status given owed d));
   read_failed = λ other. absurd (omega (arith, other, status, done_status given owed d));
@@ -274,20 +295,20 @@ wrote_ends given owed ended taken (Done d) status script book fault all = record
   no_memory = λ other. absurd (omega (arith, other, status, done_status given owed d));
   sound = λ _. fault ∙ done_sound given owed d;
 }
-wrote_ends given owed ended taken (Refused r) status script book fault all = record {
+wrote_ends given owed ended taken (Refused r) status script book disks fault all = record {
   statuses = inr (inr (inl (status ∙ r.status)));
   done = λ other. absurd (omega (arith, other, status, r.status));
   misused = λ other. absurd (omega (arith, other, status, r.status));
-  refused = λ _. record { owed = owed; kind = r; status = status; script = script; book = book; fault = fault; all = all };
+  refused = λ _. record { owed = owed; kind = r; status = status; script = script; book = book; disks = disks; fault = fault; all = all };
   read_failed = λ other. absurd (omega (arith, other, status, r.status));
   write_failed = λ other. absurd (omega (arith, other, status, r.status));
   no_memory = λ other. absurd (omega (arith, other, status, r.status));
   sound = λ other. absurd (other (status ∙ r.status));
 }
-wrote_ends given owed ended taken (Misused u) status script book fault all = record {
+wrote_ends given owed ended taken (Misused u) status script book disks fault all = record {
   statuses = inr (inl (status ∙ u.status));
   done = λ other. absurd (omega (arith, other, status, u.status));
-  misused = λ _. record { owed = owed; kind = u; status = status; script = script; book = book; fault = fault; all = all };
+  misused = λ _. record { owed = owed; kind = u; status = status; script = script; book = book; disks = disks; fault = fault; all = all };
   refused = λ other. absurd (omega (arith, other, status, u.status));
   read_failed = λ other. absurd (omega (arith, other, status, u.status));
   write_failed = λ other. absurd (omega (arith, other, status, u.status));
@@ -296,28 +317,28 @@ wrote_ends given owed ended taken (Misused u) status script book fault all = rec
 }
 
 -- a run whose write failed ends with a front of what is owed
-pub front_ends : (given : Given) (owed : Owed) (ended : Ended) (taken : Option (List ℕ)) → IsOwed given owed → ended.status ≡ 5 → ended.script ≡ owed.script → ended.book ≡ owed.book → ended.fault ≡ None → TookFront owed.text.items given.taken taken → EndsSo given ended taken
-front_ends given owed ended taken kind five script book sound front = record {
+pub front_ends : (given : Given) (owed : Owed) (ended : Ended) (taken : Option (List ℕ)) → IsOwed given owed → ended.status ≡ 5 → ended.script ≡ owed.script → ended.book ≡ owed.book → ended.disks ≡ owed.disks → ended.fault ≡ None → TookFront owed.text.items given.taken taken → EndsSo given ended taken
+front_ends given owed ended taken kind five script book disks sound front = record {
   statuses = inr (inr (inr (inr (inl five))));
   done = λ other. absurd (omega (arith, other, five));
   misused = λ other. absurd (omega (arith, other, five));
   refused = λ other. absurd (omega (arith, other, five));
   read_failed = λ other. absurd (omega (arith, other, five));
-  write_failed = λ _. record { owed = owed; took = record { kind = kind; front = front }; script = script; book = book };
+  write_failed = λ _. record { owed = owed; took = record { kind = kind; front = front }; script = script; book = book; disks = disks };
   no_memory = λ other. absurd (omega (arith, other, five));
   sound = λ _. sound;
 }
 
 -- one that memory failed does too, and hands out no book
-pub short_ends : (given : Given) (owed : Owed) (ended : Ended) (taken : Option (List ℕ)) → IsOwed given owed → ended.status ≡ 6 → ended.script ≡ None → ended.book ≡ empty_book → ended.fault ≡ None → TookFront owed.text.items given.taken taken → EndsSo given ended taken
-short_ends given owed ended taken kind six script book sound front = record {
+pub short_ends : (given : Given) (owed : Owed) (ended : Ended) (taken : Option (List ℕ)) → IsOwed given owed → ended.status ≡ 6 → ended.script ≡ None → ended.book ≡ empty_book → ended.disks.items ≡ [] → ended.fault ≡ None → TookFront owed.text.items given.taken taken → EndsSo given ended taken
+short_ends given owed ended taken kind six script book disks sound front = record {
   statuses = inr (inr (inr (inr (inr six))));
   done = λ other. absurd (omega (arith, other, six));
   misused = λ other. absurd (omega (arith, other, six));
   refused = λ other. absurd (omega (arith, other, six));
   read_failed = λ other. absurd (omega (arith, other, six));
   write_failed = λ other. absurd (omega (arith, other, six));
-  no_memory = λ _. record { short = inr (owed, record { kind = kind; front = front }); script = script; book = book };
+  no_memory = λ _. record { short = inr (owed, record { kind = kind; front = front }); script = script; book = book; disks = disks };
   sound = λ _. sound;
 }
 

@@ -3,7 +3,7 @@ use Rattle.std.specs.Prelude.{◌≡◌, ◌≢◌, ◌⊎◌, ⊤, ℕ, Bool, t
 use Rattle.std.specs.Global.{Global}
 use Rattle.std.specs.String.{string_bytes}
 use Rattle.command_line.specs.declared.form.Form.{Form}
-use Rattle.command_line.specs.declared.form.Form.TheVariants.{Run, Serial, Make, Load, Help, Version}
+use Rattle.command_line.specs.declared.form.Form.TheVariants.{Run, Serial, Journal, Make, Load, Help, Version}
 use Rattle.command_line.specs.Forms.{IsForm, spelled}
 use Rattle.command_line.specs.Texts.{help_text, usage_text, version_text}
 use Rattle.io_edge.specs.Streams.{TookFront, puts_behind}
@@ -18,8 +18,11 @@ use Rattle.run_book.specs.declared.book.Book.{Book}
 use Rattle.run_book.specs.Setups.{Setup, setup_of}
 use Rattle.run_book.specs.Fit.{FitsWith}
 use Rattle.run_book.specs.Causal.{IsCausal}
+use Rattle.journal_disk.specs.declared.steady.SteadyDisk.{SteadyDisk}
+use Rattle.journal_disk.specs.Steady.{steady_bytes}
 use Rattle.print_text.specs.Text.{text_of}
 use Rattle.trail_text.specs.Trails.{trail_text}
+use Rattle.trail_journal.specs.Journals.{AreJournalsOf}
 use Rattle.load_text.specs.LastReads.{load_text}
 use Rattle.load_maker.specs.Made.{made_script}
 use Rattle.run_sections.specs.Runs.{IsSectionRunOf}
@@ -44,10 +47,11 @@ texts words = map string_bytes words
 abbrev pub given_by : List (String Global) → Option (List ℕ) → Option (List ℕ) → Given
 given_by words left taken = record { words = texts words; left = left; taken = taken }
 
--- a form that reads a script from the source and plays it: `run` or `serial`, with the trails or without
+-- a form that reads a script from the source and plays it: `run` or `serial`, with the trails or without, or `journal`
 abbrev pub IsRead : Form → Type 0
 IsRead (Run trail) = ⊤
 IsRead (Serial trail) = ⊤
+IsRead Journal = ⊤
 IsRead _ = ⊥
 
 -- a form that plays a script: one that it reads, or `load`, which plays the script that is made of its number
@@ -96,6 +100,7 @@ pub record IsScriptIn (left : Option (List ℕ)) (script : Script) : Type 0 wher
 abbrev pub IsAsked : Form → Option (List ℕ) → Script → Type 0
 IsAsked (Run trail) left script = IsScriptIn left script
 IsAsked (Serial trail) left script = IsScriptIn left script
+IsAsked Journal left script = IsScriptIn left script
 IsAsked (Load num) left script = script_read (made_script num) ≡ Ok script
 IsAsked _ left script = ⊥
 
@@ -106,6 +111,7 @@ IsAsked _ left script = ⊥
 abbrev pub IsBookOf : Form → Script → Book → Type 0
 IsBookOf (Run trail) script book = IsSectionRunOf script book
 IsBookOf (Serial trail) script book = IsRunOf script book
+IsBookOf Journal script book = IsRunOf script book
 IsBookOf (Load num) script book = IsSectionRunOf script book
 IsBookOf _ script book = ⊥
 
@@ -120,13 +126,19 @@ abbrev pub run_text : Bool → Book → Setup → List ℕ
 run_text false book setup = text_of book.logs
 run_text true book setup = text_of book.logs ++ trail_text book setup
 
--- the text that a form writes of a book that it leaves of a script: that of the run, or, for `load`, the values that were
--- read behind the last phase alone
+-- the text of a form that makes no journals, of a book that it leaves of a script: that of the run, or, for `load`, the
+-- values that were read behind the last phase alone
 abbrev pub form_text : Form → Script → Book → List ℕ
 form_text (Run trail) script book = run_text trail book (setup_of script)
 form_text (Serial trail) script book = run_text trail book (setup_of script)
 form_text (Load num) script book = load_text script book.logs
 form_text _ script book = []
+
+-- the text that a form writes of a book that it leaves of a script, and the disks that it hands out with it: for `journal`
+-- those with the journals of the book's trails, one for each centre, and for other forms none
+abbrev pub HasText : Form → Script → Book → List ℕ → List SteadyDisk → Type 0
+HasText Journal script book text disks = AreJournalsOf book script.limit text (map steady_bytes disks)
+HasText form script book text disks = (text ≡ form_text form script book) × (disks ≡ [])
 
 -- the line for an input that is no script: the number of the first line at fault, and the cause
 abbrev pub refusal_text : ℕ → Cause → List ℕ
@@ -153,10 +165,10 @@ pub record IsRefusedFor (left : Option (List ℕ)) (fault : Fault) : Type 0 wher
   pub whole : (rest ≡ []) ⊎ PassesLimits fault.input.items
   pub refused : script_read (fault.input.items ++ rest) ≡ Err (RefusedAt fault.line fault.cause)
 
--- ---- what is owed: a status, a text and a book
+-- ---- what is owed: a status, a text, a book and disks
 
 -- what is owed for a script: status 0, the script that is asked for, a book that the form leaves of it, which fits and is
--- causal, and the text that the form writes of this book
+-- causal, and the text that the form writes of this book, with its disks
 pub record IsPlayed (given : Given) (owed : Owed) : Type 0 where
   pub asked : Form
   pub plays : IsPlay asked
@@ -167,7 +179,7 @@ pub record IsPlayed (given : Given) (owed : Owed) : Type 0 where
   pub input : IsAsked asked given.left script
   pub run : IsBookOf asked script owed.book
   pub causal : IsFitAndCausal script owed.book
-  pub text : owed.text.items ≡ form_text asked script owed.book
+  pub text : HasText asked script owed.book owed.text.items owed.disks.items
   pub sound : owed.fault ≡ None
 
 -- what is owed for a number: status 0, and the script that is made of it
@@ -179,6 +191,7 @@ pub record IsMade (given : Given) (owed : Owed) : Type 0 where
   pub text : owed.text.items ≡ made_script num
   pub script : owed.script ≡ None
   pub book : owed.book ≡ empty_book
+  pub disks : owed.disks.items ≡ []
   pub sound : owed.fault ≡ None
 
 -- what is owed for a question: status 0, and the text that answers it
@@ -189,6 +202,7 @@ pub record IsTold (given : Given) (owed : Owed) : Type 0 where
   pub text : told_text question ≡ Some owed.text.items
   pub script : owed.script ≡ None
   pub book : owed.book ≡ empty_book
+  pub disks : owed.disks.items ≡ []
   pub sound : owed.fault ≡ None
 
 -- what is owed where the words have a form and the input, if it is read, is a script
@@ -207,6 +221,7 @@ pub record IsRefusal (given : Given) (owed : Owed) : Type 0 where
   pub text : owed.text.items ≡ refusal_text fault.line fault.cause
   pub script : owed.script ≡ None
   pub book : owed.book ≡ empty_book
+  pub disks : owed.disks.items ≡ []
   pub told : owed.fault ≡ Some fault
 
 -- what is owed for words of no form: status 2, and the line of usage
@@ -216,6 +231,7 @@ pub record IsUsage (given : Given) (owed : Owed) : Type 0 where
   pub text : owed.text.items ≡ usage_text
   pub script : owed.script ≡ None
   pub book : owed.book ≡ empty_book
+  pub disks : owed.disks.items ≡ []
   pub sound : owed.fault ≡ None
 
 -- what is owed for what is given, by cases
@@ -230,14 +246,15 @@ pub data IsOwed (given : Given) (owed : Owed) : Type 0 where
 abbrev pub IsStatus : ℕ → Type 0
 IsStatus status = (status ≡ 0) ⊎ ((status ≡ 2) ⊎ ((status ≡ 3) ⊎ ((status ≡ 4) ⊎ ((status ≡ 5) ⊎ (status ≡ 6)))))
 
--- something of this kind is owed, the run ended with its status, its script, its book and its fault, and the sink took
--- the whole text
+-- something of this kind is owed, the run ended with its status, its script, its book, its disks and its fault, and the
+-- sink took the whole text
 pub record Wrote (IsKind : Given → Owed → Type 0) (given : Given) (ended : Ended) (taken : Option (List ℕ)) : Type 0 where
   pub owed : Owed
   pub kind : IsKind given owed
   pub status : ended.status ≡ owed.status
   pub script : ended.script ≡ owed.script
   pub book : ended.book ≡ owed.book
+  pub disks : ended.disks ≡ owed.disks
   pub fault : ended.fault ≡ owed.fault
   pub all : taken ≡ puts_behind owed.text.items given.taken
 
@@ -246,12 +263,13 @@ pub record TookFrontOf (given : Given) (owed : Owed) (taken : Option (List ℕ))
   pub kind : IsOwed given owed
   pub front : TookFront owed.text.items given.taken taken
 
--- the sink took a front of what is owed, and its script and its book are handed out
+-- the sink took a front of what is owed, and its script, its book and its disks are handed out
 pub record WroteFront (given : Given) (ended : Ended) (taken : Option (List ℕ)) : Type 0 where
   pub owed : Owed
   pub took : TookFrontOf given owed taken
   pub script : ended.script ≡ owed.script
   pub book : ended.book ≡ owed.book
+  pub disks : ended.disks ≡ owed.disks
 
 -- a script was to be read, the sink took nothing, and there is no run
 pub record WroteNothing (given : Given) (ended : Ended) (taken : Option (List ℕ)) : Type 0 where
@@ -259,12 +277,14 @@ pub record WroteNothing (given : Given) (ended : Ended) (taken : Option (List �
   pub nothing : taken ≡ given.taken
   pub script : ended.script ≡ None
   pub book : ended.book ≡ empty_book
+  pub disks : ended.disks.items ≡ []
 
 -- the sink took nothing or a front of what is owed, and no run is handed out
 pub record WroteShort (given : Given) (ended : Ended) (taken : Option (List ℕ)) : Type 0 where
   pub short : (taken ≡ given.taken) ⊎ ((owed : Owed) × TookFrontOf given owed taken)
   pub script : ended.script ≡ None
   pub book : ended.book ≡ empty_book
+  pub disks : ended.disks.items ≡ []
 
 -- what a form wants of the source: that it tells that it has a script left, where one is read
 abbrev pub IsServed : Form → Option (List ℕ) → Type 0

@@ -1,9 +1,8 @@
 // The words that are done on one thread: all but those of `run` and of `load`. Nothing here may wait.
 ghost use Rattle.std.specs.Prelude.{◌≡◌, ◌≢◌, ◌⊎◌, ℕ, List, Option, None, [], Err, IfOk, IfSome, IsSomeAnd};
 ghost use Rattle.command_line.specs.Forms.{IsForm, spelled};
-ghost use Rattle.command_line.specs.declared.form.Form.TheVariants.{Serial};
 ghost use Rattle.io_edge.specs.Streams.{HasRisen};
-ghost use Rattle.top_call.specs.Runs.{AsksThreads, EndsSo, Given, IsAnswerable, IsAsked, IsBookOf, IsDone, IsFitAndCausal, IsOwed, IsRead, IsRefusal, IsStatus, IsThreaded, IsUsage, Plays, Reads, Wrote, WroteFront, WroteNothing, WroteShort, given_by, given_form, texts};
+ghost use Rattle.top_call.specs.Runs.{AsksThreads, EndsSo, Given, IsAnswerable, IsAsked, IsBookOf, IsDone, IsFitAndCausal, IsOwed, IsRead, IsRefusal, IsStatus, IsThreaded, IsUsage, Plays, Reads, Wrote, WroteFront, WroteNothing, WroteShort, given_by, texts};
 
 use crate::ending::{Ended, ended_empty, write_owed};
 use crate::engine::{Owed, answer, played, refusal, usage};
@@ -16,15 +15,18 @@ use run_progress::Progress;
 use std::alloc::Global;
 use world_core::serial_with;
 
-// Reads an input, and what is owed for it by `serial`.
+// Reads an input, and what is owed for it by a form that plays it on one thread: `serial` or `journal`.
+#[tactic(auto, using(crate::proofs::Owing::read_plays, crate::proofs::Owing::alone_book))]
 fn owed_by_turns<S: Source, G: Progress>(
     alloc: Global,
     gate: &G,
-    trail: bool,
+    form: Form,
     source: &mut S,
 ) -> Result<Owed, ReadFault>
+    requires reads { IsRead form }
+    requires alone { IsThreaded form → ⊥ }
     requires may_read { S.may_read source.old }
-    ensures owed { IfOk result (IsOwed (given_form (Serial trail) (S.left source.old))) }
+    ensures owed { IfOk result (λ owed. (given : Given) → given.words ≡ spelled form → given.left ≡ S.left source.old → IsOwed given owed) }
     ensures end { IfOk result (λ owed. owed.status ≡ 0 → IfSome (S.left source.new) (λ rest. rest ≡ [])) }
     ensures failed { result ≡ Err ReadFault.Failed → HasRisen (S.faults source.old) (S.faults source.new) }
     ensures quiet { result ≢ Err ReadFault.Failed → S.faults source.new ≡ S.faults source.old }
@@ -32,7 +34,7 @@ fn owed_by_turns<S: Source, G: Progress>(
     match read_task(alloc, source)? {
         Task::Play(script) => {
             let book = serial_with(alloc, &script, gate)?;
-            let owed = played(alloc, Form::Serial { trail }, script, book)?;
+            let owed = played(alloc, form, script, book)?;
             Ok(owed)
         }
         Task::Refuse(fault) => {
@@ -61,8 +63,8 @@ fn owed_by<S: Source, G: Progress>(
     ensures quiet { result ≢ Err ReadFault.Failed → S.faults source.new ≡ S.faults source.old }
 {
     match form {
-        Form::Serial { trail } => {
-            let owed = owed_by_turns(alloc, gate, trail, source)?;
+        Form::Serial { .. } | Form::Journal => {
+            let owed = owed_by_turns(alloc, gate, form, source)?;
             Ok(owed)
         }
         Form::Make { num } => Ok(answer(alloc, script_of(alloc, num)?)),
@@ -129,8 +131,8 @@ fn run_alone<S: Source, W: Sink, G: Progress>(
 }
 
 /// Does on one thread what the words ask for, where they ask for no threads
-/// ([`form_with_threads`](crate::form_with_threads)): by `serial` it plays the script that the source has, by `make` it
-/// writes a script, and it answers questions, words of no form, and inputs that are no script. It has no leave to wait, so
+/// ([`form_with_threads`](crate::form_with_threads)): by `serial` and `journal` it plays the script that the source has, by
+/// `make` it writes a script, and it answers questions, words of no form, and inputs that are no script. It has no leave to wait, so
 /// it returns. Its clauses are those of [`swift_main`](crate::swift_main), which say what they mean.
 pub fn swift_alone<S: Source, W: Sink, G: Progress>(
     alloc: Global,

@@ -1,13 +1,15 @@
-// What is owed: a status, a text, and what was played.
-ghost use Rattle.std.specs.Prelude.{◌≡◌, ℕ, List, Option, Some, None, IfOk};
+// What is owed: a status, a text, what was played, and disks.
+ghost use Rattle.std.specs.Prelude.{◌≡◌, ℕ, List, Option, Some, None, [], IfOk};
 ghost use Rattle.command_line.specs.Texts.{usage_text};
+ghost use Rattle.load_text.specs.LastReads.{load_text};
 ghost use Rattle.run_book.specs.Fit.{FitsWith};
 ghost use Rattle.run_book.specs.Setups.{Setup, setup_of};
-ghost use Rattle.top_call.specs.Runs.{IsAsked, IsBookOf, IsOwed, IsPlay, empty_book, form_text, given_form, refusal_text, run_text};
+ghost use Rattle.top_call.specs.Runs.{HasText, IsAsked, IsBookOf, IsOwed, IsPlay, empty_book, given_form, refusal_text, run_text};
 
 use crate::refusal::refusal_line;
 use command_line::{Form, usage_line};
 use ids_core::NoMemory;
+use journal_disk::SteadyDisk;
 use load_text::load_text;
 use print_text::text_of;
 use run_book::Book;
@@ -15,6 +17,7 @@ use script_core::Script;
 use script_reader::Cause;
 use std::alloc::Global;
 use std::fmt;
+use trail_journal::{Journals, journals_of};
 use trail_text::trail_text;
 
 /// Why an input is no script.
@@ -36,14 +39,15 @@ impl fmt::Display for Fault {
     }
 }
 
-/// What is owed: the status, the text, the script and the book with which a run ends where nothing fails, and the fault
-/// of an input that is no script.
+/// What is owed: the status, the text, the script, the book and the disks with which a run ends where nothing fails, and
+/// the fault of an input that is no script.
 #[derive(Drop)]
 pub struct Owed {
     pub status: u8,
     pub text: Vec<u8>,
     pub script: Option<Script>,
     pub book: Book,
+    pub disks: Vec<SteadyDisk>,
     pub fault: Option<Fault>,
 }
 
@@ -53,6 +57,7 @@ pub fn answer(alloc: Global, text: Vec<u8>) -> Owed
     ensures text { result.text ≡ text }
     ensures script { result.script ≡ None }
     ensures book { result.book ≡ empty_book }
+    ensures disks { result.disks.items ≡ [] }
     ensures sound { result.fault ≡ None }
 {
     Owed {
@@ -60,6 +65,7 @@ pub fn answer(alloc: Global, text: Vec<u8>) -> Owed
         text,
         script: None,
         book: Book::new(alloc, 1, 1),
+        disks: Vec::new(alloc),
         fault: None,
     }
 }
@@ -70,6 +76,7 @@ pub fn usage(alloc: Global) -> Result<Owed, NoMemory>
     ensures text { IfOk result (λ owed. owed.text.items ≡ usage_text) }
     ensures script { IfOk result (λ owed. owed.script ≡ None) }
     ensures book { IfOk result (λ owed. owed.book ≡ empty_book) }
+    ensures disks { IfOk result (λ owed. owed.disks.items ≡ []) }
     ensures sound { IfOk result (λ owed. owed.fault ≡ None) }
 {
     Ok(Owed {
@@ -77,6 +84,7 @@ pub fn usage(alloc: Global) -> Result<Owed, NoMemory>
         text: usage_line(alloc)?,
         script: None,
         book: Book::new(alloc, 1, 1),
+        disks: Vec::new(alloc),
         fault: None,
     })
 }
@@ -87,6 +95,7 @@ pub fn refusal(alloc: Global, fault: Fault) -> Result<Owed, NoMemory>
     ensures text { IfOk result (λ owed. owed.text.items ≡ refusal_text fault.line fault.cause) }
     ensures script { IfOk result (λ owed. owed.script ≡ None) }
     ensures book { IfOk result (λ owed. owed.book ≡ empty_book) }
+    ensures disks { IfOk result (λ owed. owed.disks.items ≡ []) }
     ensures told { IfOk result (λ owed. owed.fault ≡ Some fault) }
 {
     Ok(Owed {
@@ -94,6 +103,7 @@ pub fn refusal(alloc: Global, fault: Fault) -> Result<Owed, NoMemory>
         text: refusal_line(alloc, fault.line, fault.cause)?,
         script: None,
         book: Book::new(alloc, 1, 1),
+        disks: Vec::new(alloc),
         fault: Some(fault),
     })
 }
@@ -109,15 +119,44 @@ fn text_of_run(alloc: Global, book: &Book, trail: bool) -> Result<Vec<u8>, NoMem
     Ok(text)
 }
 
-// The text that a form writes of the book that it left of a script.
-fn text_by(alloc: Global, form: Form, script: &Script, book: &Book) -> Result<Vec<u8>, NoMemory>
+// The text of a run, without disks.
+fn made_of_run(
+    alloc: Global,
+    script: &Script,
+    book: &Book,
+    trail: bool,
+) -> Result<Journals, NoMemory>
+    requires fits { FitsWith book.now (setup_of script.now) }
+    ensures { IfOk result (λ made. (made.text.items ≡ run_text trail book.now (setup_of script.now)) × (made.disks.items ≡ [])) }
+{
+    let text = text_of_run(alloc, book, trail)?;
+    Ok(Journals {
+        text,
+        disks: Vec::new(alloc),
+    })
+}
+
+// The text of the last reads of a run, without disks.
+fn made_of_load(alloc: Global, script: &Script, book: &Book) -> Result<Journals, NoMemory>
+    ensures { IfOk result (λ made. (made.text.items ≡ load_text script.now book.now.logs) × (made.disks.items ≡ [])) }
+{
+    let text = load_text(alloc, script, book.logs.as_slice())?;
+    Ok(Journals {
+        text,
+        disks: Vec::new(alloc),
+    })
+}
+
+// The text that a form writes of the book that it left of a script, and the disks of its journals.
+fn made_by(alloc: Global, form: Form, script: &Script, book: &Book) -> Result<Journals, NoMemory>
     requires play { IsPlay form }
     requires fits { FitsWith book.now (setup_of script.now) }
-    ensures { IfOk result (λ text. text.items ≡ form_text form script.now book.now) }
+    ensures { IfOk result (λ made. HasText form script.now book.now made.text.items made.disks.items) }
 {
     match form {
-        Form::Run { trail } | Form::Serial { trail } => text_of_run(alloc, book, trail),
-        Form::Load { .. } => load_text(alloc, script, book.logs.as_slice()),
+        Form::Run { trail } | Form::Serial { trail } => made_of_run(alloc, script, book, trail),
+        Form::Journal => journals_of(alloc, book, script.limit),
+        Form::Load { .. } => made_of_load(alloc, script, book),
         _ => unreachable!(),
     }
 }
@@ -129,12 +168,13 @@ pub fn played(alloc: Global, form: Form, script: Script, book: Book) -> Result<O
     requires run { IsBookOf form script book }
     ensures { IfOk result (λ owed. (left : Option (List ℕ)) → IsAsked form left script → IsOwed (given_form form left) owed) }
 {
-    let text = text_by(alloc, form, &script, &book)?;
+    let made = made_by(alloc, form, &script, &book)?;
     Ok(Owed {
         status: 0,
-        text,
+        text: made.text,
         script: Some(script),
         book,
+        disks: made.disks,
         fault: None,
     })
 }

@@ -14,12 +14,13 @@ use std::sync::Wait;
 use std::thread::Threads;
 
 /// Does what the words ask for ([`Form`](command_line::Form)): plays the script that the source has and writes the text
-/// of the run to the sink, the values read and the answers of the steps; plays the script that is made of a number and
-/// writes the values that are read behind its last phase; writes the script that is made of a number; or tells how the
-/// program is used. The statuses are those of [`Ended`]. After the first read or write that fails no other is made. `run`
-/// and `load` play a script with threads, and each call that one of them makes of a centre passes through the gate; so
-/// there it may wait for ever. All other words are done by [`swift_alone`], which may not. In each form that plays a
-/// script the gate hears how far the play is.
+/// of the run to the sink, the values read and the answers of the steps; plays it, makes the journal of each centre's trail
+/// in a disk in memory, and writes a line of each; plays the script that is made of a number and writes the values that are
+/// read behind its last phase; writes the script that is made of a number; or tells how the program is used. The statuses
+/// are those of [`Ended`]. After the first read or write that fails no other is made. `run` and `load` play a script with
+/// threads, and each call that one of them makes of a centre passes through the gate; so there it may wait for ever. All
+/// other words are done by [`swift_alone`], which may not. In each form that plays a script the gate hears how far the
+/// play is.
 pub fn swift_main<R: Threads + Wait + Sync, S: Source, W: Sink, G: Gate + Progress>(
     rt: &R,
     alloc: Global,
@@ -39,10 +40,11 @@ pub fn swift_main<R: Threads + Wait + Sync, S: Source, W: Sink, G: Gate + Progre
     // 0: the words have a form. Where it is one that plays a script, this is all that the source had, or for `load` what
     // is made of its number; the book is one that the form leaves of the script, and the sink took the text of that
     // book, and of its trails where they were asked for, or for `load` only the lines with the values that were read
-    // behind the last phase. `serial` leaves a run on one thread; `run` and `load` leave one section by section, where
-    // the actors of a phase did all that is theirs and no more, each in its order, in whatever order among them. By
-    // `make` the sink took the script that is made of its number, and of a question the text that answers it; then the
-    // book is empty.
+    // behind the last phase. `serial` and `journal` leave a run on one thread; `run` and `load` leave one section by section,
+    // where the actors of a phase did all that is theirs and no more, each in its order, in whatever order among them. By
+    // `journal` the sink took for each centre in order the line of its journal, and there is a disk for each in this order:
+    // its bytes are just the journal of the centre's trail. By `make` the sink took the script that is made of its number,
+    // and of a question the text that answers it; then the book is empty. There are no disks but by `journal`.
     ensures success { result.status ≡ 0 → Wrote IsDone (given_by words.now (S.left source.old) (W.taken sink.old)) result (W.taken sink.new) }
 
     // What is read is read to its end.
@@ -80,7 +82,7 @@ pub fn swift_main<R: Threads + Wait + Sync, S: Source, W: Sink, G: Gate + Progre
     ensures read_fault { result.status ≡ 4 → HasRisen (S.faults source.old) (S.faults source.new) }
     ensures failed_read { result.status ≡ 4 → WroteNothing (given_by words.now (S.left source.old) (W.taken sink.old)) result (W.taken sink.new) }
 
-    // 5: a write failed, and the sink took a front of what is owed; script and book are those of the run.
+    // 5: a write failed, and the sink took a front of what is owed; script, book and disks are those of the run.
     ensures write_fault { result.status ≡ 5 → HasRisen (W.faults sink.old) (W.faults sink.new) }
     ensures failed_write { result.status ≡ 5 → WroteFront (given_by words.now (S.left source.old) (W.taken sink.old)) result (W.taken sink.new) }
 

@@ -24,7 +24,7 @@ risen_some before now (inl more) = omega (arith, more)
 risen_some before now (inr most) = omega (arith, most)
 
 -- the front of a history is one
-history_take : (s : Settings) (front later : List Entry) → History s (front ++ later) → History s front
+pub history_take : (s : Settings) (front later : List Entry) → History s (front ++ later) → History s front
 history_take s front later history = subst (λ l. History s l) (take_at front later (length front) refl) (each_take (λ before e. IsAnswer s before e.ask e.say) (front ++ later) (length front) history)
 
 -- there is an entry for each ask
@@ -39,7 +39,7 @@ all_answered s trail asks count says are enough =
     take_all count asks (omega (arith, many, enough, length-take count asks))
 
 -- and the entries of a history are those of its asks
-group_same : (s : Settings) (front group : List Entry) (asks : List Ask) (count : ℕ) (says : List Say) → asks ≡ map ask_in group → says ≡ map said_in (answered s front (take count asks)) → length group ≤ length says → History s (front ++ group) → AreSame group (answered s front (take count asks))
+pub group_same : (s : Settings) (front group : List Entry) (asks : List Ask) (count : ℕ) (says : List Say) → asks ≡ map ask_in group → says ≡ map said_in (answered s front (take count asks)) → length group ≤ length says → History s (front ++ group) → AreSame group (answered s front (take count asks))
 group_same s front group asks count says asks_are says_are enough history =
     let many : length asks ≡ length group = ap length asks_are ∙ length-map group ask_in in
     let all : take count asks ≡ map ask_in group = all_answered s front asks count says says_are (omega (arith, many, enough)) ∙ asks_are in

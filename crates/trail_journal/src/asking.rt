@@ -60,8 +60,8 @@ fn ask_group<D: Disk>(
     Ok(())
 }
 
-// Copies of the asks of entries.
-fn asks_in(alloc: Global, entries: &[Entry]) -> Result<Vec<Ask>, AllocError>
+/// Copies of the asks of entries.
+pub fn asks_in(alloc: Global, entries: &[Entry]) -> Result<Vec<Ask>, AllocError>
     ensures { IfOk result (λ asks. asks.items ≡ map ask_in entries.now) }
 {
     let mut asks = Vec::new(alloc);

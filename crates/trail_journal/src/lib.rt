@@ -8,6 +8,7 @@ mod journals;
 mod steady;
 mod told;
 
+pub use asking::asks_in;
 pub use journal::{journal_of, reopened};
 pub use journals::{Journals, journals_of};
 pub use told::{Told, write_told};

@@ -27,7 +27,8 @@ impl Item {
     }
 }
 
-fn fits_record(item: &Record, hops: u8) -> bool
+/// Whether a record with its hops has the fields of the version that is written. It takes no memory.
+pub fn fits_record(item: &Record, hops: u8) -> bool
     ensures { IsTrue result ↔ IsSpelledRecord VERSION item.now hops }
 {
     is_within(0, u64::from(MOST_CENTRES - 1), u64::from(hops))
@@ -48,7 +49,8 @@ fn are_entries(vector: &Vector) -> bool
     vector.as_slice().iter().all(|entry| *entry <= MOST_RECORDS)
 }
 
-fn fits_tx(width: u8, tx: &Tx) -> bool
+/// Whether a transaction has fields, where the vectors of its record have so many entries. It takes no memory.
+pub fn fits_tx(width: u8, tx: &Tx) -> bool
     ensures { IsTrue result ↔ IsSpelledTx width tx.now }
 {
     let updates = tx.updates.as_slice();

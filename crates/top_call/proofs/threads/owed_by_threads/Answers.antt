@@ -16,5 +16,6 @@ returns-in_ok-owed-in-Refuse-clause-owed g c =
       text = c.in_ok-owed-in-Refuse.ensures.text;
       script = c.in_ok-owed-in-Refuse.ensures.script;
       book = c.in_ok-owed-in-Refuse.ensures.book;
+      disks = c.in_ok-owed-in-Refuse.ensures.disks;
       told = c.in_ok-owed-in-Refuse.ensures.told;
     })

@@ -1,7 +1,6 @@
 use Rattle.std.proofs.Common.{◌≡◌, ◌+◌, ◌++◌, [], ◌∷◌, length, vec_len, Result, Ok, Err, is_ok, IsOk, if◌then◌else◌, sym, ◌∙◌, ap, append_assoc, arith}
 use Rattle.journal_file.specs.Journal.{opened}
 use Rattle.journal_file.proofs.Items.{opened-push}
-use Rattle.journal_asks.specs.Asks.{spelled}
 use Rattle.dc_journal.proofs.batch.Batch.push_kept.Goals as goal
 
 ok_case : {T E X : Type 0} (r : Result T E) (a b now : X) → now ≡ (if is_ok r then a else b) → IsOk r → now ≡ a
@@ -9,7 +8,8 @@ ok_case (Ok x) a b now is ok = is
 ok_case (Err e) a b now is ok = absurd (cc ok)
 
 pub invariant_of-self : goal.invariant_of-self
-invariant_of-self c =
+invariant_of-self g c =
+    let spelled = g.T.Item.spelled in
     let self = c.args.self.now in
     let item = c.args.item in
     let put = c.extend_from_slice-done in

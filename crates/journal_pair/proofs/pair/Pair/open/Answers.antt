@@ -47,7 +47,8 @@ returns-in-Ok-choose-clause-ok g c = on_if_ok _ _ c.seat.result (λ r sits. λ h
     (by_side spelled g.D.Disk.stands h k xs ys a b t.mark size t.checkpoint.items t.behind.items refl read_a read_b ran_a ran_b side chosen) in (
       ap (λ v. v.items) sits.1 ∙ same.0,
       ap (λ v. v.items) sits.2 ∙ same.1,
-      subst (λ l. Outcome spelled g.D.Disk.stands h k xs ys p.live p.other p.mark p.size l behind) same.0 (subst (λ l. Outcome spelled g.D.Disk.stands h k xs ys p.live p.other p.mark p.size t.checkpoint.items l) same.1 out),
+      subst (λ v. Outcome spelled g.D.Disk.stands h k xs ys v p.live p.other p.mark p.size checkpoint behind) (sym sits.3)
+          (subst (λ l. Outcome spelled g.D.Disk.stands h k xs ys side p.live p.other p.mark p.size l behind) same.0 (subst (λ l. Outcome spelled g.D.Disk.stands h k xs ys side p.live p.other p.mark p.size t.checkpoint.items l) same.1 out)),
     )) c.seat.ensures.ok
 
 pub returns-in-Ok-choose-clause-is : goal.returns-in-Ok-choose-clause-is

@@ -1,0 +1,6 @@
+pub mod Keeping
+pub mod One
+pub mod Checkpoints
+pub mod Following
+pub mod Starting
+pub mod Opened
