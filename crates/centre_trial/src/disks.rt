@@ -18,6 +18,17 @@ pub fn make_file<R: Files<File = fs::File> + AllocGlobal>(rt: &R, path: &str) ->
     }
 }
 
+// The disk over a new file.
+pub fn new_disk<R: Files<File = fs::File> + AllocGlobal>(
+    rt: &R,
+    path: &str,
+) -> Result<FileDisk, Fault> {
+    match FileDisk::create(rt, rt.alloc(), path) {
+        Ok(disk) => Ok(disk),
+        Err(_) => Err(Fault::NotOpened),
+    }
+}
+
 // The disk over the file.
 pub fn file_disk<R: Files<File = fs::File> + AllocGlobal>(
     rt: &R,

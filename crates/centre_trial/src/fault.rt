@@ -2,6 +2,8 @@
 use ids_core::{BadName, NoMemory};
 use journal_disk::DiskFault;
 use journal_file::{JournalFault, OpenFault};
+use journal_pair::PairFault;
+use pair_centre::CentreFault;
 use std::alloc::{AllocError, AllocFailed};
 use std::io;
 
@@ -80,6 +82,16 @@ impl From<OpenFault> for Fault {
             OpenFault::Bad(_) => Fault::Differs,
             OpenFault::NoMemory => Fault::NoMemory,
             OpenFault::Disk => Fault::Disk,
+        }
+    }
+}
+
+impl From<CentreFault> for Fault {
+    fn from(fault: CentreFault) -> Self {
+        match fault {
+            CentreFault::Pair(PairFault::NoMemory) => Fault::NoMemory,
+            CentreFault::Pair(PairFault::File(_, fault)) => fault.into(),
+            _ => Fault::Differs,
         }
     }
 }

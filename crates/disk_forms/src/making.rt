@@ -2,7 +2,7 @@
 ghost use Rattle.std.specs.Prelude.{◌<◌, ◌≤◌};
 
 use crate::fault::Fault;
-use crate::folder::{files_of, make_folder, path_of};
+use crate::folder::{Wanted, disks_of, files_of, make_folder};
 use crate::numbers::{Numbers, write_numbers};
 use crate::told::tell;
 use file_disk::FileDisk;
@@ -12,20 +12,6 @@ use run_book::Book;
 use std::fs;
 use std::fs::Files;
 use trail_pair::ask_trail;
-
-// The disk over a new file of a centre.
-fn new_disk<R: Files<File = fs::File> + AllocGlobal>(
-    rt: &R,
-    folder: &str,
-    centre: u8,
-    letter: char,
-) -> Result<FileDisk, Fault> {
-    let path = path_of(rt.alloc(), folder, centre, letter)?;
-    match FileDisk::create(rt, rt.alloc(), path.as_str()) {
-        Ok(disk) => Ok(disk),
-        Err(error) => Err(Fault::File(path, error)),
-    }
-}
 
 // A centre with an empty journal in two new files.
 fn new_pair<R: Files<File = fs::File> + AllocGlobal>(
@@ -37,8 +23,7 @@ fn new_pair<R: Files<File = fs::File> + AllocGlobal>(
     requires { before < numbers.n }
 {
     let me = before + 1;
-    let first = new_disk(rt, folder, me, 'a')?;
-    let second = new_disk(rt, folder, me, 'b')?;
+    let (first, second) = disks_of(rt, folder, me, Wanted::New)?;
     let Numbers { n, k, limit } = numbers;
     match PairCentre::create(rt.alloc(), me, n, k, limit, first, second) {
         Ok(pair) => Ok(pair),

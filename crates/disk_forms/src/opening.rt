@@ -2,27 +2,12 @@
 ghost use Rattle.std.specs.Prelude.{◌<◌};
 
 use crate::fault::Fault;
-use crate::folder::{files_of, path_of};
+use crate::folder::{Wanted, disks_of, files_of};
 use crate::numbers::{Numbers, read_numbers};
 use crate::told::tell;
-use file_disk::FileDisk;
 use pair_centre::PairCentre;
 use std::fs;
 use std::fs::Files;
-
-// The disk over a file of a centre that is there.
-fn old_disk<R: Files<File = fs::File> + AllocGlobal>(
-    rt: &R,
-    folder: &str,
-    centre: u8,
-    letter: char,
-) -> Result<FileDisk, Fault> {
-    let path = path_of(rt.alloc(), folder, centre, letter)?;
-    match FileDisk::open(rt, rt.alloc(), path.as_str()) {
-        Ok(disk) => Ok(disk),
-        Err(error) => Err(Fault::File(path, error)),
-    }
-}
 
 // Opens the two files of a centre, and prints the line of its journal.
 fn open_one<R: Files<File = fs::File> + Print + AllocGlobal>(
@@ -34,8 +19,7 @@ fn open_one<R: Files<File = fs::File> + Print + AllocGlobal>(
     requires { before < numbers.n }
 {
     let me = before + 1;
-    let first = old_disk(rt, folder, me, 'a')?;
-    let second = old_disk(rt, folder, me, 'b')?;
+    let (first, second) = disks_of(rt, folder, me, Wanted::Old)?;
     let Numbers { n, k, limit } = numbers;
     match PairCentre::open(rt.alloc(), me, n, k, limit, first, second) {
         Ok(pair) => tell(rt, me, &pair),

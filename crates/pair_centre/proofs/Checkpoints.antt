@@ -1,16 +1,17 @@
 -- A checkpoint takes the place of a centre's asks.
-use Rattle.std.proofs.Common.{◌≡◌, inl, inr, ℕ, List, [], ◌∷◌, ◌++◌, map, refl, sym, ◌∙◌, ap, subst}
+use Rattle.std.proofs.Common.{◌≡◌, ◌+◌, inl, inr, ℕ, List, [], ◌∷◌, ◌++◌, map, refl, sym, ◌∙◌, ap, subst, arith}
 use Rattle.std.proofs.lemmas.List.{append-nil}
 use Rattle.journal_disk.specs.declared.disk.Disk.{Ghosts}
 use Rattle.journal_disk.specs.declared.disk.Moment.{Moment}
 use Rattle.journal_disk.specs.Disk.{MayLeave, Ran}
 use Rattle.journal_disk.proofs.Histories.{ran_none, ran_weaker}
+use Rattle.journal_file.specs.Open.{end_of}
 use Rattle.journal_pair.specs.Entries.{ArePair}
 use Rattle.journal_pair.specs.declared.entry.Entry as pair
 use Rattle.journal_pair.specs.Files.{PairOf, IsEitherPair, RanBeside, AreAt}
 use Rattle.journal_pair.specs.declared.pair.Pair.{Pair}
 use Rattle.journal_pair.specs.Pairs as pairs
-use Rattle.journal_pair.proofs.States.{pair_left}
+use Rattle.journal_pair.proofs.States.{pair_left, live_long}
 use Rattle.dc_talk.specs.declared.settings.Settings.{Settings}
 use Rattle.dc_talk.specs.Answers.{History}
 use Rattle.dc_talk.specs.Entries.{Entry}
@@ -19,7 +20,7 @@ use Rattle.pair_centre.specs.declared.item.PairItem.{PairItem}
 use Rattle.pair_centre.specs.declared.pair_centre.PairCentre.{PairCentre}
 use Rattle.pair_centre.specs.Items.{item_bytes}
 use Rattle.pair_centre.specs.States.{IsCheckpointOf, IsStateOf, IsPairFileOf}
-use Rattle.pair_centre.specs.Open.{centre_of, settings_of, IsPairOf}
+use Rattle.pair_centre.specs.Open.{centre_of, settings_of, live_size, checkpoint_size, IsPairOf}
 
 -- a checkpoint alone
 pub state_alone : (s : Settings) (trail : List Entry) (checkpoint : List PairItem) → IsCheckpointOf s trail checkpoint → IsStateOf s trail checkpoint []
@@ -40,6 +41,13 @@ swapped checkpoint behind xs ys (mark, inr one) = (mark, inl one)
 
 pub file_swapped : (s : Settings) (trail : List Entry) (x y : List ℕ) → IsPairFileOf s trail x y → IsPairFileOf s trail y x
 file_swapped s trail x y (checkpoint, (behind, (state, (xs, (ys, (are, (one, two))))))) = (checkpoint, (behind, (state, (ys, (xs, (swapped checkpoint behind xs ys are, (two, one)))))))
+
+-- with its checkpoint alone the live file is as long as that
+pub small_alone : {D : Type 0} {disk : Ghosts D} (p : PairCentre D disk) (l h : List Moment) (checkpoint : List PairItem) → pairs.Has item_bytes p.pair l h checkpoint [] → live_size p ≡ checkpoint_size p
+small_alone p l h checkpoint files =
+    let q = p.pair in
+    let long : end_of q.live + 1 ≡ q.size + 0 = live_long item_bytes q.mark (end_of q.live) (end_of q.other) q.size l h checkpoint [] files in
+    omega (arith, long)
 
 module _ {D : Type 0} {disk : Ghosts D} (old new : PairCentre D disk) (h k : List Moment) (trail : List Entry) (is : IsPairOf old h k trail) where
   -- either checkpoint stands for the trail

@@ -67,12 +67,13 @@ impl<D: Disk> PairCentre<D> {
         self.pair.is_due()
     }
 
-    /// Makes a checkpoint of what the centre keeps in the other file, which then is the live one. A crash at any moment of
-    /// the call leaves the files of the same trail, and so does an `Err` that did not shut it. It is `Unfit` only where the
-    /// parts of the centre have no bytes, or a state of another kind than its object.
+    /// Makes a checkpoint of what the centre keeps in the other file, which then is the live one and has nothing else. A
+    /// crash at any moment of the call leaves the files of the same trail, and so does an `Err` that did not shut it. It is
+    /// `Unfit` only where the parts of the centre have no bytes, or a state of another kind than its object.
     pub fn compact(&mut self) -> Result<Compacted, JournalFault>
         ensures done { result ≡ Ok Done → (h k : List Moment) (trail : List Entry) → D.stands (live_disk self.old) h → D.stands (other_disk self.old) k → IsPairOf self.old h k trail
             → (RanBeside (D.stands (live_disk self.new)) k h (IsPairFileOf (settings_of self.old) trail) (λ later. IsPairOf self.new later h trail)) × (D.stands (other_disk self.new) h) }
+        ensures small { result ≡ Ok Done → (h k : List Moment) (trail : List Entry) → D.stands (live_disk self.old) h → D.stands (other_disk self.old) k → IsPairOf self.old h k trail → live_size self.new ≡ checkpoint_size self.new }
         ensures unfit { result ≡ Ok Unfit → IsSame self.old self.new }
         ensures cause { result ≡ Ok Unfit → (parts : PartsOf) → MeetsAll parts → ArePartsOf (centre_of self.old) parts → AreOfKind parts → IsSpelledCentre (plain_centre parts) → ⊥ }
         ensures kept { OnErr result ((h k : List Moment) (trail : List Entry) → is_shut self.old ≡ false → D.stands (live_disk self.old) h → D.stands (other_disk self.old) k → IsPairOf self.old h k trail
@@ -85,6 +86,10 @@ impl<D: Disk> PairCentre<D> {
         ensures closes { IsErrOf result JournalFault.Disk → is_shut self.new ≡ true }
         ensures short { IsErrOf result JournalFault.NoMemory → is_shut self.old ≡ false → is_shut self.new ≡ true → HasRisen (D.shortages (other_disk self.old)) (D.shortages (other_disk self.new)) }
         ensures same { IsErrOf result JournalFault.NoMemory → is_shut self.new ≡ false → IsSame self.old self.new }
+        ensures honest { result ≡ Ok Done → D.is_honest (live_disk self.new) → D.is_honest (other_disk self.old) }
+        ensures honest_still { OnErr result (D.is_honest (other_disk self.new) → D.is_honest (other_disk self.old)) }
+        ensures swapped { result ≡ Ok Done → other_disk self.new ≡ live_disk self.old }
+        ensures live { OnErr result (live_disk self.new ≡ live_disk self.old) }
     {
         if self.pair.is_shut() {
             return Err(JournalFault::Shut);

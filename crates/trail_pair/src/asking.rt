@@ -16,8 +16,9 @@ use trail_journal::asks_in;
 pub const GROUP: usize = 64;
 
 /// Asks a centre all asks of a trail, group by group, and has it make a checkpoint behind each group after which that is
-/// due. Where it stood for a front of a history, and these are the entries behind that, it stands for the history then.
-/// After an `Err` it stands for a front of it as far as it is not shut: the call of a disk failed, or memory ran out.
+/// due. Where it stood for a front of a history, and these are the entries behind that, it stands for the history then. An
+/// `Err` is that the call of a disk failed, or that memory ran out. It was then asked some of the first groups, and no clause
+/// says which.
 pub fn ask_trail<D: Disk>(
     alloc: Global,
     pair: &mut PairCentre<D>,
