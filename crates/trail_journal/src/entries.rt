@@ -1,8 +1,9 @@
 // How many entries the journal of a trail has.
 ghost use Rattle.std.specs.Prelude.{◌≡◌, length};
-ghost use Rattle.trail_kept.specs.Kept.{is_kept, kept};
+ghost use Rattle.trail_kept.specs.Kept.{kept};
 
-use dc_talk::{Entry, Say};
+use dc_journal::is_kept;
+use dc_talk::Entry;
 
 /// How many entries of a trail are put in a journal.
 pub(crate) fn entries_in(trail: &[Entry]) -> u64
@@ -15,19 +16,4 @@ pub(crate) fn entries_in(trail: &[Entry]) -> u64
         }
     }
     count as u64
-}
-
-// Whether an ask with this reply is put in a journal.
-fn is_kept(say: &Say) -> bool
-    ensures { result ≡ is_kept say.now }
-{
-    matches!(
-        say,
-        Say::Stamped { .. }
-            | Say::Applied { .. }
-            | Say::Learned { .. }
-            | Say::Base { .. }
-            | Say::Stopped
-            | Say::Started
-    )
 }
