@@ -20,7 +20,7 @@ use Rattle.pair_centre.specs.declared.item.PairItem.{PairItem}
 use Rattle.pair_centre.specs.declared.pair_centre.PairCentre.{PairCentre}
 use Rattle.pair_centre.specs.Items.{item_bytes}
 use Rattle.pair_centre.specs.States.{IsCheckpointOf, IsStateOf, IsPairFileOf}
-use Rattle.pair_centre.specs.Open.{centre_of, settings_of, live_size, checkpoint_size, IsPairOf}
+use Rattle.pair_centre.specs.Open.{centre_of, settings_of, IsPairOf}
 
 -- a checkpoint alone
 pub state_alone : (s : Settings) (trail : List Entry) (checkpoint : List PairItem) → IsCheckpointOf s trail checkpoint → IsStateOf s trail checkpoint []
@@ -43,9 +43,8 @@ pub file_swapped : (s : Settings) (trail : List Entry) (x y : List ℕ) → IsPa
 file_swapped s trail x y (checkpoint, (behind, (state, (xs, (ys, (are, (one, two))))))) = (checkpoint, (behind, (state, (ys, (xs, (swapped checkpoint behind xs ys are, (two, one)))))))
 
 -- with its checkpoint alone the live file is as long as that
-pub small_alone : {D : Type 0} {disk : Ghosts D} (p : PairCentre D disk) (l h : List Moment) (checkpoint : List PairItem) → pairs.Has item_bytes p.pair l h checkpoint [] → live_size p ≡ checkpoint_size p
-small_alone p l h checkpoint files =
-    let q = p.pair in
+pub small_alone : {D : Type 0} {disk : Ghosts D} (q : Pair D disk) (l h : List Moment) (checkpoint : List PairItem) → pairs.Has item_bytes q l h checkpoint [] → pairs.live_size q ≡ pairs.checkpoint_size q
+small_alone q l h checkpoint files =
     let long : end_of q.live + 1 ≡ q.size + 0 = live_long item_bytes q.mark (end_of q.live) (end_of q.other) q.size l h checkpoint [] files in
     omega (arith, long)
 

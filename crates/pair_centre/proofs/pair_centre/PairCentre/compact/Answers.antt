@@ -1,4 +1,4 @@
-use Rattle.std.proofs.Common.{◌≡◌, false, refl, sym, ◌∙◌}
+use Rattle.std.proofs.Common.{◌≡◌, ◌++◌, false, refl, sym, ◌∙◌}
 use Rattle.journal_disk.proofs.Histories.{ran_weaker}
 use Rattle.pair_centre.proofs.Checkpoints.{small_alone, either_file, compacted, uncompacted, other_untouched}
 use Rattle.pair_centre.proofs.pair_centre.PairCentre.compact.Goals as goal
@@ -18,7 +18,7 @@ pub returns-in-Ok-compact-clause-small : goal.returns-in-Ok-compact-clause-small
 returns-in-Ok-compact-clause-small g c = λ is_done h k trail one two is.
     let unshut = sym c.is_shut.ensures ∙ c.if-is_shut.false in
     let made = c.in-Ok-compact.ensures.done h k is.checkpoint is.behind unshut one two is.files in
-    small_alone _ _ h c.in-Ok.checkpoint.items made.0.ends
+    small_alone c.compact.new.self (made.0.later ++ k) h c.in-Ok.checkpoint.items made.0.ends
 
 pub returns-in-Err-clause-kept : goal.returns-in-Err-clause-kept
 returns-in-Err-clause-kept g c = λ h k trail unshut one two is.
