@@ -1,0 +1,13 @@
+pub mod Trails
+pub mod Inside
+pub mod Rests
+pub mod Lists
+pub mod Timely
+pub mod Steps
+pub mod Cuts
+pub mod Givers
+pub mod Given
+pub mod OneCut
+pub mod Ascending
+pub mod CutOf
+pub mod Handed
