@@ -22,7 +22,7 @@ use Rattle.read_tap.specs.declared.asks.Fed.TheVariants.{Shown, Down, Pruned, Re
 use Rattle.read_tap.specs.declared.asks.Fetched.TheVariants as fetch
 use Rattle.read_tap.specs.declared.asks.Found.{Found}
 use Rattle.read_tap.specs.declared.asks.Found.TheVariants.{Whole, Ended}
-use Rattle.read_tap.specs.Feeds.{end_by, fetch_of, fetches_of, FetchesAll, FetchesSome, Fetches, HasFetched, AfterPrune, Finds, Feeds}
+use Rattle.read_tap.specs.Feeds.{end_by, fetch_of, fetches_of, FetchesAll, FetchesSome, Fetches, HasFetched, AfterPrune, Finds, IsShown, Feeds}
 
 -- ---- answers
 
@@ -121,6 +121,22 @@ feeds_show centre objects old new fed show a b so shown more = record { deeds = 
 -- without one the shows stay
 pub feeds_end : (centre : ℕ) (objects : List ObjectId) (shows : List Show) (fed : Fed) (a b : Acting) → AddsSuch (Finds centre objects (Ended fed)) a b → AddsSuch (Feeds centre objects shows shows fed) a b
 feeds_end centre objects shows fed a b so = record { deeds = so.deeds; such = record { found = Ended fed; finds = so.such; shown = (refl, refl) }; adds = so.adds }
+
+-- what holds where a feed found a show, and where it found none, holds of each feed. Where it found one its prune was
+-- answered with the show's vector, and its fetches are those of all objects there, answered with the show's states.
+pub by_feed : (P : Type 0) (centre : ℕ) (objects : List ObjectId) (old new : List Show) (fed : Fed) (deeds : List Deed) → Feeds centre objects old new fed deeds
+    → ((show : Show) (folded trimmed : ℕ) (later : List Deed) → fed ≡ Shown show.vector → new ≡ old ++ show ∷ [] → deeds ≡ Asked centre Prune (Unheard (said.Base show.vector folded trimmed)) ∷ later → FetchesAll centre show.vector objects show.states later → P)
+    → (new ≡ old → P)
+    → P
+by_feed P centre objects old new fed deeds feeds whole none = go feeds.found feeds.finds feeds.shown
+  where
+    based : (show : Show) (answer : Say) (later : List Deed) → fed ≡ Shown show.vector → new ≡ old ++ show ∷ [] → deeds ≡ Asked centre Prune (Unheard answer) ∷ later → AfterPrune centre objects (Whole show) answer later → P
+    based show (said.Base base folded trimmed) later shown more is follows = whole show folded trimmed later shown more (is ∙ ap (λ v. Asked centre Prune (Unheard (said.Base v folded trimmed)) ∷ later) (sym follows.0)) (subst (λ v. FetchesAll centre v objects show.states later) (sym follows.0) follows.1)
+    based show answer later shown more is follows = absurd follows.1
+
+    go : (found : Found) → Finds centre objects found deeds → IsShown old found fed new → P
+    go (Whole show) finds shown = based show finds.answer finds.later shown.0 shown.1 finds.whole finds.follows
+    go (Ended end) finds shown = none shown.1
 
 -- an early end at once behind asks
 pub cut_such : (Are : List Deed → Type 0) (a b : Acting) → AddsSuch Are a b → IsCutShort a b

@@ -1,0 +1,6 @@
+mod Staying
+mod Rising
+mod Subsequences
+mod Fronts
+mod Feeding
+mod Showing

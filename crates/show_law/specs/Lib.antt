@@ -1,0 +1,3 @@
+pub mod Subsequences
+pub mod Fronts
+pub mod Shows
