@@ -1,9 +1,11 @@
 -- A sender's round over the links to the first centres, and over the next one.
-use Rattle.std.proofs.Common.{◌≡◌, ◌≢◌, ◌≤◌, ◌<◌, ◌⊎◌, inl, inr, ℕ, ◌+◌, ◌-◌, ◌==◌, cond, List, [], ◌++◌, length, get_or, set, append_assoc, refl, sym, ap, ◌∙◌}
+use Rattle.std.proofs.Common.{◌≡◌, ◌≢◌, ◌≤◌, ◌<◌, ◌⊎◌, inl, inr, ℕ, ◌+◌, ◌-◌, ◌==◌, cond, List, [], ◌∷◌, ◌++◌, length, get_or, set, append_assoc, refl, sym, ap, ◌∙◌}
 use Rattle.std.proofs.lemmas.Bool.{cases_eq, eq-eqb, ne_eqb}
 use Rattle.std.proofs.lemmas.List.{append-nil}
+use Rattle.std.proofs.lemmas.List.Elements.{filter-append}
 use Rattle.dc_talk.specs.declared.sent.Sent.{Sent}
 use Rattle.dc_talk.specs.Acting.{Acting}
+use Rattle.link_frames.specs.Frames.{is_deliverable, framed}
 use Rattle.mail_link.specs.Ends.{GiverView}
 use Rattle.script_core.specs.Carrying.{Route, route, no_turn}
 use Rattle.script_core.specs.Rounds.{Mails, mailed}
@@ -38,7 +40,7 @@ pub sends_to : (i to number : ℕ) (givers : List (GiverView Sent)) (giver new :
 sends_to i to number givers giver new a b low lt is posts = record {
   items = posts.items;
   mails = posts.mails;
-  put = put_more to givers giver new posts.items low lt is posts.put;
+  put = put_more to givers giver new (framed posts.items) low lt is posts.put;
   rest = put_rest to givers new low;
 }
 
@@ -69,22 +71,22 @@ sent_next k i next old mid new a b c is other before one = record {
 }
   where
     all : ℕ → List Sent
-    all to = mailed to (before.deeds ++ one.mails.deeds)
+    all to = framed (mailed to (before.deeds ++ one.mails.deeds))
 
     -- what is mailed grows by the items of the link
-    grown : (to : ℕ) → all to ≡ mailed to before.deeds ++ cond (next == to) one.items []
+    grown : (to : ℕ) → mailed to (before.deeds ++ one.mails.deeds) ≡ mailed to before.deeds ++ cond (next == to) one.items []
     grown to = mailed_then 0 to before.deeds one.mails.deeds (mails_fresh (route i next) one.mails.deeds one.items one.mails.such) ∙ ap (λ more. mailed to before.deeds ++ more) (mailed_over 0 (route i next) one.mails.deeds one.items to one.mails.such)
 
     each : (to : ℕ) → 1 ≤ to → (to ≡ next) ⊎ (to ≢ next) → put_to new to ≡ put_to old to ++ all to
     each to low (inl this) =
-        let now : all to ≡ mailed to before.deeds ++ one.items = grown to ∙ ap (λ test. mailed to before.deeds ++ cond test one.items []) (eq-eqb next to (sym this)) in
+        let now : all to ≡ framed (mailed to before.deeds) ++ framed one.items = ap framed (grown to ∙ ap (λ test. mailed to before.deeds ++ cond test one.items []) (eq-eqb next to (sym this))) ∙ filter-append is_deliverable (mailed to before.deeds) one.items in
         ap (put_to new) this
         ∙ (one.put
-        ∙ (ap (λ j. put_to mid j ++ one.items) (sym this)
-        ∙ (ap (λ put. put ++ one.items) (before.put to low)
-        ∙ (append_assoc (put_to old to) (mailed to before.deeds) one.items ∙ ap (λ more. put_to old to ++ more) (sym now)))))
+        ∙ (ap (λ j. put_to mid j ++ framed one.items) (sym this)
+        ∙ (ap (λ put. put ++ framed one.items) (before.put to low)
+        ∙ (append_assoc (put_to old to) (framed (mailed to before.deeds)) (framed one.items) ∙ ap (λ more. put_to old to ++ more) (sym now)))))
     each to low (inr else) =
-        let now : all to ≡ mailed to before.deeds = grown to ∙ (ap (λ test. mailed to before.deeds ++ cond test one.items []) (ne_eqb next to (λ same. else (sym same))) ∙ append-nil (mailed to before.deeds)) in
+        let now : all to ≡ framed (mailed to before.deeds) = ap framed (grown to ∙ (ap (λ test. mailed to before.deeds ++ cond test one.items []) (ne_eqb next to (λ same. else (sym same))) ∙ append-nil (mailed to before.deeds))) in
         one.rest to low else ∙ (before.put to low ∙ ap (λ more. put_to old to ++ more) (sym now))
 
 -- but not to the centre itself
@@ -96,3 +98,16 @@ sent_self k i next old mid a b is self before = record {
   carries = before.carries;
   put = before.put;
 }
+
+-- ---- the records of one answer
+
+-- one record more was put, where it has a frame
+pub put_next : (old mid new items rest : List Sent) (item : Sent) → old ++ framed items ≡ mid ++ framed (item ∷ rest) → new ≡ mid ++ framed (item ∷ []) → old ++ framed items ≡ new ++ framed rest
+put_next old mid new items rest item before is =
+    before
+    ∙ (ap (λ more. mid ++ more) (filter-append is_deliverable (item ∷ []) rest)
+    ∙ (sym (append_assoc mid (framed (item ∷ [])) (framed rest)) ∙ ap (λ put. put ++ framed rest) (sym is)))
+
+-- so more was put
+pub more_next : (old mid new more : List Sent) → IsMore old mid → new ≡ mid ++ more → IsMore old new
+more_next old mid new more before is = (before.0 ++ more, is ∙ (ap (λ put. put ++ more) before.1 ∙ append_assoc old before.0 more))

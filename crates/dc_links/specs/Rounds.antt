@@ -3,6 +3,7 @@ use Rattle.std.specs.Prelude.{◌≡◌, ◌≢◌, ◌≤◌, ◌<◌, ◌⊎�
 use Rattle.dc_talk.specs.declared.sent.Sent.{Sent}
 use Rattle.dc_talk.specs.declared.log.Deed.{Deed}
 use Rattle.dc_talk.specs.Acting.{Acting, IsCutShort}
+use Rattle.link_frames.specs.Frames.{framed}
 use Rattle.mail_link.specs.Ends.{GiverView, TakerView}
 use Rattle.script_core.specs.declared.rounds.TheConstants.{MOST_MAILED}
 use Rattle.script_core.specs.Carrying.{route}
@@ -24,19 +25,19 @@ Later = Inlet Sent → List Sent → Inlet Sent
 -- ---- a sender
 
 -- the sender of a centre made a round over the links to the others of the first n: a log and what a door shows grow by
--- its deeds, and it put what they mailed
+-- its deeds, and it put what they mailed, so far as it has frames
 pub record SendsOver (n i : ℕ) (old new : List (GiverView Sent)) (a b : Acting) : Type 0 where
   pub deeds : List Deed
   pub such : SenderDeeds n i deeds
   pub adds : Adds a b deeds
   pub carries : CarriesAll [] deeds
-  pub put : (to : ℕ) → 1 ≤ to → put_to new to ≡ put_to old to ++ mailed to deeds
+  pub put : (to : ℕ) → 1 ≤ to → put_to new to ≡ put_to old to ++ framed (mailed to deeds)
 
--- it asked for what one centre lacks, and put the records of the answer on the link to that one
+-- it asked for what one centre lacks, and put the records of the answer that have frames on the link to that one
 pub record SendsTo (i to : ℕ) (old new : List (GiverView Sent)) (a b : Acting) : Type 0 where
   pub items : List Sent
   pub mails : CarriesSuch (λ deeds. Mails (route i to) deeds items) a b
-  pub put : put_to new to ≡ put_to old to ++ items
+  pub put : put_to new to ≡ put_to old to ++ framed items
   pub rest : (j : ℕ) → 1 ≤ j → j ≢ to → put_to new j ≡ put_to old j
 
 -- some first ones of the records for one centre were put on its link

@@ -8,10 +8,12 @@ ghost use Rattle.dc_links.specs.Rounds.{inward, DrainsOver, DrainsFrom, TakesPar
 
 use crate::links::Links;
 use crate::takes::drain_round;
-use dc_talk::{Door, Log, Sent};
+use dc_talk::{Door, Log};
 use dc_worker::Inlet;
 use ids_core::NoMemory;
+use link_frames::Frame;
 use mail_link::{Giver, Taker};
+use std::alloc::Global;
 use std::sync::Wait;
 
 /// Takes from the link from each other centre of the `n` behind the door all that was put there, where no more is put,
@@ -20,12 +22,13 @@ use std::sync::Wait;
 /// fault was set: the round was made over the links from some first centres, and over the next one in part.
 pub fn drain_all<R: Wait, D: Door>(
     rt: &R,
+    alloc: Global,
     door: &mut D,
     n: u8,
     to: u8,
     links: &Links,
-    givers: &[Vec<Giver<Sent>>],
-    takers: &mut Vec<Taker<Sent>>,
+    givers: &[Vec<Giver<Frame>>],
+    takers: &mut Vec<Taker<Frame>>,
     inlets: &mut Vec<Inlet>,
     log: &mut Log,
 ) -> Result<(), NoMemory>
@@ -47,7 +50,9 @@ pub fn drain_all<R: Wait, D: Door>(
         if from == to {
             continue 'others;
         }
-        drain_over(rt, door, from, to, links, givers, takers, inlets, log)?;
+        drain_over(
+            rt, alloc, door, from, to, links, givers, takers, inlets, log,
+        )?;
     }
     Ok(())
 }
@@ -55,12 +60,13 @@ pub fn drain_all<R: Wait, D: Door>(
 // The same over the link from one centre.
 fn drain_over<R: Wait, D: Door>(
     rt: &R,
+    alloc: Global,
     door: &mut D,
     from: u8,
     to: u8,
     links: &Links,
-    givers: &[Vec<Giver<Sent>>],
-    takers: &mut Vec<Taker<Sent>>,
+    givers: &[Vec<Giver<Frame>>],
+    takers: &mut Vec<Taker<Frame>>,
     inlets: &mut Vec<Inlet>,
     log: &mut Log,
 ) -> Result<(), NoMemory>
@@ -82,6 +88,7 @@ fn drain_over<R: Wait, D: Door>(
     let giver = &givers[place][usize::from(to) - 1];
     drain_round(
         rt,
+        alloc,
         door,
         to,
         &mut inlets[place],

@@ -3,8 +3,8 @@ ghost use Rattle.std.specs.Prelude.{◌≡◌, ◌-◌, [], ℕ, Some, length, s
 ghost use Rattle.dc_links.specs.Links.{IsMore, IsAmong, rows_of, row_of, column_of, AreGiverRows, AreTakerRows, put_between, taken_between};
 
 use crate::rows::{close_rows, lay_row, no_rows};
-use dc_talk::Sent;
 use ids_core::NoMemory;
+use link_frames::Frame;
 use mail_link::{Giver, Link, Taker};
 use std::alloc::Global;
 use std::marker::Model;
@@ -14,7 +14,7 @@ use std::sync::Wait;
 /// links these are: a row for each centre, in order, with its links to all.
 #[derive(Drop)]
 pub struct Links {
-    rows: Vec<Vec<Link<Sent>>>,
+    rows: Vec<Vec<Link<Frame>>>,
 }
 
 impl Model for Links {
@@ -34,8 +34,8 @@ impl Model for Links {
 #[derive(Drop)]
 pub struct Laid {
     pub links: Links,
-    pub givers: Vec<Vec<Giver<Sent>>>,
-    pub takers: Vec<Vec<Taker<Sent>>>,
+    pub givers: Vec<Vec<Giver<Frame>>>,
+    pub takers: Vec<Vec<Taker<Frame>>>,
 }
 
 impl Links {
@@ -63,7 +63,7 @@ impl Links {
     }
 
     // The link from one centre to another.
-    pub(crate) fn between(&self, from: u8, to: u8) -> &Link<Sent>
+    pub(crate) fn between(&self, from: u8, to: u8) -> &Link<Frame>
         requires from { IsAmong (length self.now) from }
         requires to { IsAmong (length self.now) to }
         ensures row { slice_get (row_of self.now from) (to - 1) ≡ Some result.now }
@@ -77,8 +77,8 @@ impl Links {
     pub fn close<R: Wait>(
         self,
         rt: &R,
-        givers: Vec<Vec<Giver<Sent>>>,
-        takers: Vec<Vec<Taker<Sent>>>,
+        givers: Vec<Vec<Giver<Frame>>>,
+        takers: Vec<Vec<Taker<Frame>>>,
     )
         requires givers { AreGiverRows self (rows_of givers.items) }
         requires takers { AreTakerRows self (rows_of takers.items) }

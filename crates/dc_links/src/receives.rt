@@ -8,10 +8,12 @@ ghost use Rattle.dc_links.specs.Rounds.{inward, ReceivesOver, ReceivesFrom, Take
 
 use crate::links::Links;
 use crate::takes::take_round;
-use dc_talk::{Door, Log, Sent};
+use dc_talk::{Door, Log};
 use dc_worker::Inlet;
 use ids_core::NoMemory;
+use link_frames::Frame;
 use mail_link::Taker;
+use std::alloc::Global;
 use std::sync::Wait;
 
 /// Takes from the link from each other centre of the `n` behind the door at most 64 records, and delivers to this one
@@ -19,11 +21,12 @@ use std::sync::Wait;
 /// set: the round was made over the links from some first centres, and over the next one in part.
 pub fn receive_all<R: Wait, D: Door>(
     rt: &R,
+    alloc: Global,
     door: &mut D,
     n: u8,
     to: u8,
     links: &Links,
-    takers: &mut Vec<Taker<Sent>>,
+    takers: &mut Vec<Taker<Frame>>,
     inlets: &mut Vec<Inlet>,
     log: &mut Log,
 ) -> Result<(), NoMemory>
@@ -44,7 +47,7 @@ pub fn receive_all<R: Wait, D: Door>(
         if from == to {
             continue 'others;
         }
-        receive_over(rt, door, from, to, links, takers, inlets, log)?;
+        receive_over(rt, alloc, door, from, to, links, takers, inlets, log)?;
     }
     Ok(())
 }
@@ -52,11 +55,12 @@ pub fn receive_all<R: Wait, D: Door>(
 // The same over the link from one centre.
 fn receive_over<R: Wait, D: Door>(
     rt: &R,
+    alloc: Global,
     door: &mut D,
     from: u8,
     to: u8,
     links: &Links,
-    takers: &mut Vec<Taker<Sent>>,
+    takers: &mut Vec<Taker<Frame>>,
     inlets: &mut Vec<Inlet>,
     log: &mut Log,
 ) -> Result<(), NoMemory>
@@ -76,6 +80,7 @@ fn receive_over<R: Wait, D: Door>(
     let place = usize::from(from) - 1;
     take_round(
         rt,
+        alloc,
         door,
         to,
         &mut inlets[place],

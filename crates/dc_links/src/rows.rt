@@ -4,14 +4,14 @@ ghost use Rattle.dc_links.specs.Links.{IsMore, IsAmong, rows_of, row_of, AreSqua
 ghost use Rattle.dc_links.specs.Laying.{ends, giver_links, taker_links, HasLink, LaysRow};
 ghost use Rattle.dc_links.specs.Closing.{ClosesRow};
 
-use dc_talk::Sent;
 use ids_core::NoMemory;
+use link_frames::Frame;
 use mail_link::{Giver, Link, Taker};
 use std::alloc::Global;
 use std::sync::Wait;
 
 /// Empty rows of ends, for so many receivers.
-pub(crate) fn no_rows(alloc: Global, n: u8) -> Result<Vec<Vec<Taker<Sent>>>, NoMemory>
+pub(crate) fn no_rows(alloc: Global, n: u8) -> Result<Vec<Vec<Taker<Frame>>>, NoMemory>
     ensures { IfOk result (λ rows. rows_of rows.items ≡ replicate n []) }
 {
     let mut takers = Vec::new(alloc);
@@ -24,9 +24,9 @@ pub(crate) fn no_rows(alloc: Global, n: u8) -> Result<Vec<Vec<Taker<Sent>>>, NoM
 // Lays one link, with its ends.
 fn lay_one(
     alloc: Global,
-    row: &mut Vec<Link<Sent>>,
-    givers: &mut Vec<Giver<Sent>>,
-    takers: &mut Vec<Taker<Sent>>,
+    row: &mut Vec<Link<Frame>>,
+    givers: &mut Vec<Giver<Frame>>,
+    takers: &mut Vec<Taker<Frame>>,
 ) -> Result<(), NoMemory>
     ensures { OnOk result (HasLink (ends row.old.items givers.old.items takers.old.items) (ends row.new.items givers.new.items takers.new.items)) }
 {
@@ -41,8 +41,8 @@ fn lay_one(
 pub(crate) fn lay_row(
     alloc: Global,
     n: u8,
-    takers: &mut Vec<Vec<Taker<Sent>>>,
-) -> Result<(Vec<Link<Sent>>, Vec<Giver<Sent>>), NoMemory>
+    takers: &mut Vec<Vec<Taker<Frame>>>,
+) -> Result<(Vec<Link<Frame>>, Vec<Giver<Frame>>), NoMemory>
     requires { length takers.old.items ≡ n }
     ensures number { IfOk result (λ r. length r.0.items ≡ n) }
     ensures lays { IfOk result (λ r. LaysRow r.0.items r.1.items (rows_of takers.old.items) (rows_of takers.new.items)) }
@@ -61,7 +61,12 @@ pub(crate) fn lay_row(
 }
 
 // Takes a link out of use, with its end that puts and the first one of a row of those that take.
-fn close_one<R: Wait>(rt: &R, link: Link<Sent>, giver: Giver<Sent>, takers: &mut Vec<Taker<Sent>>)
+fn close_one<R: Wait>(
+    rt: &R,
+    link: Link<Frame>,
+    giver: Giver<Frame>,
+    takers: &mut Vec<Taker<Frame>>,
+)
     requires giver { giver.link ≡ link }
     requires taker { slice_get (taker_links takers.old.items) 0 ≡ Some link }
     ensures rest { takers.new.items ≡ drop 1 takers.old.items }
@@ -74,9 +79,9 @@ fn close_one<R: Wait>(rt: &R, link: Link<Sent>, giver: Giver<Sent>, takers: &mut
 // Takes the links from one centre out of use, with the first end of each receiver.
 fn close_row<R: Wait>(
     rt: &R,
-    row: Vec<Link<Sent>>,
-    givers: Vec<Giver<Sent>>,
-    takers: &mut Vec<Vec<Taker<Sent>>>,
+    row: Vec<Link<Frame>>,
+    givers: Vec<Giver<Frame>>,
+    takers: &mut Vec<Vec<Taker<Frame>>>,
 )
     requires number { length takers.old.items ≡ length row.items }
     requires givers { giver_links givers.items ≡ row.items }
@@ -95,9 +100,9 @@ fn close_row<R: Wait>(
 /// Takes links out of use, with all their ends.
 pub(crate) fn close_rows<R: Wait>(
     rt: &R,
-    rows: Vec<Vec<Link<Sent>>>,
-    givers: Vec<Vec<Giver<Sent>>>,
-    takers: Vec<Vec<Taker<Sent>>>,
+    rows: Vec<Vec<Link<Frame>>>,
+    givers: Vec<Vec<Giver<Frame>>>,
+    takers: Vec<Vec<Taker<Frame>>>,
 )
     requires square { AreSquare (rows_of rows.items) }
     requires givers { AreGiverRows (rows_of rows.items) (rows_of givers.items) }

@@ -7,9 +7,11 @@ ghost use Rattle.dc_links.specs.Rounds.{SendsOver, SendsTo, SendsPart, PutsPart}
 
 use crate::links::Links;
 use crate::puts::send_round;
-use dc_talk::{Door, Log, Sent};
+use dc_talk::{Door, Log};
 use ids_core::NoMemory;
+use link_frames::Frame;
 use mail_link::Giver;
+use std::alloc::Global;
 use std::sync::Wait;
 
 /// Puts on the link from a centre to each other one of the `n` behind the door what that one lacks of this centre's
@@ -17,11 +19,12 @@ use std::sync::Wait;
 /// over the next one in part.
 pub fn send_all<R: Wait, D: Door>(
     rt: &R,
+    alloc: Global,
     door: &mut D,
     n: u8,
     from: u8,
     links: &Links,
-    givers: &mut Vec<Giver<Sent>>,
+    givers: &mut Vec<Giver<Frame>>,
     log: &mut Log,
 ) -> Result<(), NoMemory>
     requires centres { (D.shown door.old).centres ≡ n }
@@ -39,7 +42,7 @@ pub fn send_all<R: Wait, D: Door>(
         if to == from {
             continue 'others;
         }
-        send_over(rt, door, from, to, links, givers, log)?;
+        send_over(rt, alloc, door, from, to, links, givers, log)?;
     }
     Ok(())
 }
@@ -47,11 +50,12 @@ pub fn send_all<R: Wait, D: Door>(
 // The same over the link to one centre.
 fn send_over<R: Wait, D: Door>(
     rt: &R,
+    alloc: Global,
     door: &mut D,
     from: u8,
     to: u8,
     links: &Links,
-    givers: &mut Vec<Giver<Sent>>,
+    givers: &mut Vec<Giver<Frame>>,
     log: &mut Log,
 ) -> Result<(), NoMemory>
     requires from { IsBehind (D.shown door.old) from }
@@ -68,6 +72,7 @@ fn send_over<R: Wait, D: Door>(
     let link = links.between(from, to);
     send_round(
         rt,
+        alloc,
         door,
         from,
         to,

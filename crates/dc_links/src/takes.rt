@@ -7,23 +7,26 @@ ghost use Rattle.mail_link.specs.Ends.{one_more};
 ghost use Rattle.dc_worker.specs.Brings.{Receives, Closes, StopsAt, ReceivesPart, incoming};
 ghost use Rattle.dc_links.specs.Links.{IsMore};
 
-use dc_talk::{Door, Log, Sent};
+use dc_talk::{Door, Log};
 use dc_worker::{Inlet, bring_held, bring_one};
 use ids_core::NoMemory;
+use link_frames::Frame;
 use mail_link::{Giver, Link, Taker};
 use script_core::MOST_MAILED;
+use std::alloc::Global;
 use std::sync::Wait;
 
-/// Takes records from a link, at most `MOST_MAILED` of them, until none is found, and delivers to a centre behind the
-/// door what comes of them, whatever it answers. Answers how many were taken. An `Err` is want of memory, or that
+/// Takes frames from a link, at most `MOST_MAILED` of them, until none is found, and delivers to a centre behind the
+/// door what comes of their records, whatever it answers. Answers how many were taken. An `Err` is want of memory, or that
 /// 2^64 - 1 records were taken since the fault was set: some may have been taken, and what comes of them delivered.
 pub fn take_round<R: Wait, D: Door>(
     rt: &R,
+    alloc: Global,
     door: &mut D,
     at: u8,
     inlet: &mut Inlet,
-    link: &Link<Sent>,
-    taker: &mut Taker<Sent>,
+    link: &Link<Frame>,
+    taker: &mut Taker<Frame>,
     log: &mut Log,
 ) -> Result<u32, NoMemory>
     requires at { IsBehind (D.shown door.old) at }
@@ -39,25 +42,26 @@ pub fn take_round<R: Wait, D: Door>(
     ensures kept { OnErr result (IsMore taker.old.taken taker.new.taken) }
 {
     'items: for number in 0..MOST_MAILED {
-        if !take_one(rt, door, at, inlet, link, taker, log)? {
+        if !take_one(rt, alloc, door, at, inlet, link, taker, log)? {
             return Ok(number);
         }
     }
     Ok(MOST_MAILED)
 }
 
-/// Takes records from a link until all that were put were taken, trying again where none is found, and delivers to a
-/// centre behind the door what comes of them where no more come, whatever it answers. It ends when the link gives what
+/// Takes frames from a link until all that were put were taken, trying again where none is found, and delivers to a
+/// centre behind the door what comes of their records where no more come, whatever it answers. It ends when the link gives what
 /// lies on it. Answers how many were taken. An `Err` is want of memory, or that 2^64 - 1 records were taken since the
 /// fault was set: some may have been taken, and what comes of them delivered.
 pub fn drain_round<R: Wait, D: Door>(
     rt: &R,
+    alloc: Global,
     door: &mut D,
     at: u8,
     inlet: &mut Inlet,
-    link: &Link<Sent>,
-    giver: &Giver<Sent>,
-    taker: &mut Taker<Sent>,
+    link: &Link<Frame>,
+    giver: &Giver<Frame>,
+    taker: &mut Taker<Frame>,
     log: &mut Log,
 ) -> Result<u64, NoMemory>
     requires at { IsBehind (D.shown door.old) at }
@@ -71,7 +75,7 @@ pub fn drain_round<R: Wait, D: Door>(
     ensures part { OnErr result (ReceivesPart at (incoming (acting (D.shown door.old) log.old) inlet.old taker.old.taken) (incoming (acting (D.shown door.new) log.new) inlet.new taker.new.taken)) }
     ensures kept { OnErr result (IsMore taker.old.taken taker.new.taken) }
 {
-    let number = take_all(rt, door, at, inlet, link, giver, taker, log)?;
+    let number = take_all(rt, alloc, door, at, inlet, link, giver, taker, log)?;
     bring_held(door, at, inlet, log)?;
     Ok(number)
 }
@@ -79,12 +83,13 @@ pub fn drain_round<R: Wait, D: Door>(
 // The same while more may come: what is held at the end stays so.
 fn take_all<R: Wait, D: Door>(
     rt: &R,
+    alloc: Global,
     door: &mut D,
     at: u8,
     inlet: &mut Inlet,
-    link: &Link<Sent>,
-    giver: &Giver<Sent>,
-    taker: &mut Taker<Sent>,
+    link: &Link<Frame>,
+    giver: &Giver<Frame>,
+    taker: &mut Taker<Frame>,
     log: &mut Log,
 ) -> Result<u64, NoMemory>
     requires at { IsBehind (D.shown door.old) at }
@@ -102,19 +107,20 @@ fn take_all<R: Wait, D: Door>(
         if taker.takes() == giver.puts() {
             break 'items;
         }
-        take_one(rt, door, at, inlet, link, taker, log)?;
+        take_one(rt, alloc, door, at, inlet, link, taker, log)?;
     }
     Ok(taker.takes() - before)
 }
 
-// Takes a record from a link, where one is found, and delivers what comes of it. Answers whether one was found.
+// Takes a frame from a link, where one is found, and delivers what comes of its record. Answers whether one was found.
 fn take_one<R: Wait, D: Door>(
     rt: &R,
+    alloc: Global,
     door: &mut D,
     at: u8,
     inlet: &mut Inlet,
-    link: &Link<Sent>,
-    taker: &mut Taker<Sent>,
+    link: &Link<Frame>,
+    taker: &mut Taker<Frame>,
     log: &mut Log,
 ) -> Result<bool, NoMemory>
     requires at { IsBehind (D.shown door.old) at }
@@ -129,7 +135,8 @@ fn take_one<R: Wait, D: Door>(
     ensures kept { OnErr result (IsMore taker.old.taken taker.new.taken) }
 {
     match link.take(rt, taker) {
-        Some(item) => {
+        Some(frame) => {
+            let item = frame.read(alloc)?;
             bring_one(door, at, inlet, item, log)?;
             Ok(true)
         }

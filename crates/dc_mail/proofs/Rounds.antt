@@ -3,9 +3,11 @@ use Rattle.std.proofs.Common.{◌≡◌, ◌≢◌, ◌≤◌, ◌<◌, ◌⊎�
 use Rattle.std.specs.Prelude.{◌&&◌, nat_le}
 use Rattle.std.proofs.lemmas.Bool.{cases_eq, eq-eqb, ne_eqb, leb-true, leb-false, le-leb, lt-leb}
 use Rattle.std.proofs.lemmas.List.{append-nil}
+use Rattle.std.proofs.lemmas.List.Elements.{filter-append}
 use Rattle.dc_talk.specs.declared.sent.Sent.{Sent}
 use Rattle.dc_talk.specs.declared.line.Line.{Line}
 use Rattle.dc_talk.specs.Acting.{Acting}
+use Rattle.link_frames.specs.Frames.{is_deliverable, framed}
 use Rattle.script_core.specs.Carrying.{route, Tells, no_turn}
 use Rattle.script_core.specs.Mail.{Post, post_put}
 use Rattle.script_core.specs.Rounds.{Mails, mailed, Brings, ReporterDeeds}
@@ -42,7 +44,7 @@ sent_none i posts a = record {
     same false post = refl
 
 -- over one link more
-pub sent_next : (k i next : ℕ) (old mid new : List Post) (a b c : Acting) (items : List Sent) → next ≡ k + 1 → next ≢ i → HasSent k i old mid a b → CarriesSuch (λ deeds. Mails (route i next) deeds items) b c → HasSet i next (post_put items (post_at mid i next)) mid new → HasSent next i old new a c
+pub sent_next : (k i next : ℕ) (old mid new : List Post) (a b c : Acting) (items : List Sent) → next ≡ k + 1 → next ≢ i → HasSent k i old mid a b → CarriesSuch (λ deeds. Mails (route i next) deeds items) b c → HasSet i next (post_put (framed items) (post_at mid i next)) mid new → HasSent next i old new a c
 sent_next k i next old mid new a b c items is other before mails put = record {
   deeds = before.deeds ++ mails.deeds;
   such = turns_next k i next is before.deeds mails.deeds other before.such (items, mails.such);
@@ -56,25 +58,25 @@ sent_next k i next old mid new a b c items is other before mails put = record {
     grown : (to : ℕ) → mailed to (before.deeds ++ mails.deeds) ≡ mailed to before.deeds ++ cond (next == to) items []
     grown to = mailed_then 0 to before.deeds mails.deeds (mails_fresh (route i next) mails.deeds items mails.such) ∙ ap (λ more. mailed to before.deeds ++ more) (mailed_over 0 (route i next) mails.deeds items to mails.such)
 
-    each : (from to : ℕ) → IsCentre from → IsCentre to → (from ≡ i) ⊎ (from ≢ i) → (to ≡ next) ⊎ (to ≢ next) → cond (from == i && to == next) (post_put items (post_at mid i next)) (post_at mid from to) ≡ cond (from == i && not (to == i)) (post_put (mailed to (before.deeds ++ mails.deeds)) (post_at old from to)) (post_at old from to)
+    each : (from to : ℕ) → IsCentre from → IsCentre to → (from ≡ i) ⊎ (from ≢ i) → (to ≡ next) ⊎ (to ≢ next) → cond (from == i && to == next) (post_put (framed items) (post_at mid i next)) (post_at mid from to) ≡ cond (from == i && not (to == i)) (post_put (framed (mailed to (before.deeds ++ mails.deeds))) (post_at old from to)) (post_at old from to)
     each from to f t (inr away) two =
-        ap (λ test. cond (test && to == next) (post_put items (post_at mid i next)) (post_at mid from to)) (ne_eqb from i away)
+        ap (λ test. cond (test && to == next) (post_put (framed items) (post_at mid i next)) (post_at mid from to)) (ne_eqb from i away)
         ∙ (before.posts from to f t
-        ∙ (ap (λ test. cond (test && not (to == i)) (post_put (mailed to before.deeds) (post_at old from to)) (post_at old from to)) (ne_eqb from i away)
-        ∙ sym (ap (λ test. cond (test && not (to == i)) (post_put (mailed to (before.deeds ++ mails.deeds)) (post_at old from to)) (post_at old from to)) (ne_eqb from i away))))
+        ∙ (ap (λ test. cond (test && not (to == i)) (post_put (framed (mailed to before.deeds)) (post_at old from to)) (post_at old from to)) (ne_eqb from i away)
+        ∙ sym (ap (λ test. cond (test && not (to == i)) (post_put (framed (mailed to (before.deeds ++ mails.deeds))) (post_at old from to)) (post_at old from to)) (ne_eqb from i away))))
     each from to f t (inl one) (inl two) =
         let apart : to ≢ i = λ same. other (sym two ∙ same) in
-        let put_now : mailed to (before.deeds ++ mails.deeds) ≡ mailed to before.deeds ++ items = grown to ∙ ap (λ test. mailed to before.deeds ++ cond test items []) (eq-eqb next to (sym two)) in
-        let was : post_at mid from to ≡ post_put (mailed to before.deeds) (post_at old from to) = before.posts from to f t ∙ (λ j. cond (eq-eqb from i one j && not (ne_eqb to i apart j)) (post_put (mailed to before.deeds) (post_at old from to)) (post_at old from to)) in
-        (λ j. cond (eq-eqb from i one j && eq-eqb to next two j) (post_put items (post_at mid i next)) (post_at mid from to))
-        ∙ ((λ j. post_put items (post_at mid (sym one j) (sym two j)))
-        ∙ (ap (post_put items) was
-        ∙ (put_both (mailed to before.deeds) items (post_at old from to)
+        let put_now : framed (mailed to (before.deeds ++ mails.deeds)) ≡ framed (mailed to before.deeds) ++ framed items = ap framed (grown to ∙ ap (λ test. mailed to before.deeds ++ cond test items []) (eq-eqb next to (sym two))) ∙ filter-append is_deliverable (mailed to before.deeds) items in
+        let was : post_at mid from to ≡ post_put (framed (mailed to before.deeds)) (post_at old from to) = before.posts from to f t ∙ (λ j. cond (eq-eqb from i one j && not (ne_eqb to i apart j)) (post_put (framed (mailed to before.deeds)) (post_at old from to)) (post_at old from to)) in
+        (λ j. cond (eq-eqb from i one j && eq-eqb to next two j) (post_put (framed items) (post_at mid i next)) (post_at mid from to))
+        ∙ ((λ j. post_put (framed items) (post_at mid (sym one j) (sym two j)))
+        ∙ (ap (post_put (framed items)) was
+        ∙ (put_both (framed (mailed to before.deeds)) (framed items) (post_at old from to)
         ∙ (ap (λ all. post_put all (post_at old from to)) (sym put_now)
-        ∙ sym (λ j. cond (eq-eqb from i one j && not (ne_eqb to i apart j)) (post_put (mailed to (before.deeds ++ mails.deeds)) (post_at old from to)) (post_at old from to))))))
+        ∙ sym (λ j. cond (eq-eqb from i one j && not (ne_eqb to i apart j)) (post_put (framed (mailed to (before.deeds ++ mails.deeds))) (post_at old from to)) (post_at old from to))))))
     each from to f t (inl one) (inr two) =
-        let same : mailed to (before.deeds ++ mails.deeds) ≡ mailed to before.deeds = grown to ∙ (ap (λ test. mailed to before.deeds ++ cond test items []) (ne_eqb next to (λ same. two (sym same))) ∙ append-nil (mailed to before.deeds)) in
-        (λ j. cond (eq-eqb from i one j && ne_eqb to next two j) (post_put items (post_at mid i next)) (post_at mid from to))
+        let same : framed (mailed to (before.deeds ++ mails.deeds)) ≡ framed (mailed to before.deeds) = ap framed (grown to ∙ (ap (λ test. mailed to before.deeds ++ cond test items []) (ne_eqb next to (λ same. two (sym same))) ∙ append-nil (mailed to before.deeds))) in
+        (λ j. cond (eq-eqb from i one j && ne_eqb to next two j) (post_put (framed items) (post_at mid i next)) (post_at mid from to))
         ∙ (before.posts from to f t ∙ ap (λ all. cond (from == i && not (to == i)) (post_put all (post_at old from to)) (post_at old from to)) (sym same))
 
 -- but not to the centre itself

@@ -3,6 +3,7 @@ use Rattle.std.specs.Prelude.{◌≡◌, ◌≢◌, ◌<◌, ℕ, ◌+◌, ◌==
 use Rattle.dc_talk.specs.declared.sent.Sent.{Sent}
 use Rattle.dc_talk.specs.declared.log.Deed.{Deed}
 use Rattle.dc_talk.specs.Acting.{Acting, IsCutShort}
+use Rattle.link_frames.specs.Frames.{framed}
 use Rattle.script_core.specs.Provenance.{CarriesAll}
 use Rattle.script_core.specs.Mail.{Post, post_put}
 use Rattle.script_core.specs.Rounds.{SenderDeeds, mailed, ReceiverDeeds}
@@ -10,13 +11,13 @@ use Rattle.dc_worker.specs.Work.{Adds}
 use Rattle.dc_mail.specs.Posts.{post_at, IsCentre, PostsPart}
 
 -- the sender of a centre made a round over the links to the others of the first n: a log and what a door shows grow by
--- its deeds, and what they put lies on the links from the centre
+-- its deeds, and what they mail lies on the links from the centre, so far as it has frames
 pub record HasSent (n i : ℕ) (old new : List Post) (a b : Acting) : Type 0 where
   pub deeds : List Deed
   pub such : SenderDeeds n i deeds
   pub adds : Adds a b deeds
   pub carries : CarriesAll [] deeds
-  pub posts : (from to : ℕ) → IsCentre from → IsCentre to → post_at new from to ≡ cond (from == i && not (to == i)) (post_put (mailed to deeds) (post_at old from to)) (post_at old from to)
+  pub posts : (from to : ℕ) → IsCentre from → IsCentre to → post_at new from to ≡ cond (from == i && not (to == i)) (post_put (framed (mailed to deeds)) (post_at old from to)) (post_at old from to)
 
 -- a link to a centre from another one of the first n
 abbrev pub is_inward : ℕ → ℕ → ℕ → ℕ → Bool

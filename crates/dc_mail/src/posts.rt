@@ -3,6 +3,7 @@ ghost use Rattle.std.specs.Prelude.{◌≡◌, ◌<◌, ◌*◌, IfOk, OnOk, OnE
 ghost use Rattle.ids_core.specs.declared.limits.TheConstants.{MOST_CENTRES};
 ghost use Rattle.dc_talk.specs.Acting.{acting, IsCutShort};
 ghost use Rattle.dc_talk.specs.Doors.{IsBehind};
+ghost use Rattle.link_frames.specs.Frames.{framed};
 ghost use Rattle.script_core.specs.Links.{clean_inlet};
 ghost use Rattle.script_core.specs.Mail.{post_put, post_set, due_in_round, post_after_round, due_at_close, post_closed};
 ghost use Rattle.script_core.specs.Rounds.{Brings};
@@ -17,8 +18,9 @@ use ids_core::{MOST_CENTRES, NoMemory};
 use std::alloc::Global;
 use std::marker::Model;
 
-/// What lies on the links between centres, which are counted from 1 to 8: for each of them the records that were put
-/// and not yet taken, in order, and the end at which they are taken. Contracts see the links by their places.
+/// What lies on the links between centres, which are counted from 1 to 8: for each of them the frames of the records that
+/// were put and not yet taken, in order, and the end at which they are taken. Contracts see the links by their places, and
+/// the records on them.
 #[derive(Drop)]
 pub struct Posts {
     spots: Vec<Spot>,
@@ -89,20 +91,27 @@ impl Posts {
         self.spots[place_of(from, to)].give_back(inlet);
     }
 
-    // Puts records on the link from one centre to another, behind those that lie there. Nothing changes where memory is
-    // refused.
-    pub(crate) fn put(&mut self, from: u8, to: u8, items: Records) -> Result<(), NoMemory>
+    // Puts the frames of those of some records that have one on the link from one centre to another, behind what lies
+    // there. Nothing changes where memory is refused.
+    pub(crate) fn put(
+        &mut self,
+        alloc: Global,
+        from: u8,
+        to: u8,
+        items: &Records,
+    ) -> Result<(), NoMemory>
         requires from { IsCentre from }
         requires to { IsCentre to }
-        ensures ok { OnOk result (HasSet from to (post_put items (post_at self.old from to)) self.old self.new) }
+        ensures ok { OnOk result (HasSet from to (post_put (framed items.now) (post_at self.old from to)) self.old self.new) }
         ensures err { OnErr result (self.new ≡ self.old) }
     {
-        self.spots[place_of(from, to)].put(items)
+        self.spots[place_of(from, to)].put(alloc, items)
     }
 
     // Takes from a link what a round takes, and delivers what comes of it to the centre at its end.
     pub(crate) fn bring_round<D: Door>(
         &mut self,
+        alloc: Global,
         door: &mut D,
         from: u8,
         to: u8,
@@ -117,7 +126,7 @@ impl Posts {
         ensures short { OnErr result (IsCutShort (acting (D.shown door.old) log.old) (acting (D.shown door.new) log.new)) }
         ensures part { OnErr result (PostsPart from to self.old self.new (acting (D.shown door.old) log.old) (acting (D.shown door.new) log.new)) }
     {
-        self.spots[place_of(from, to)].bring_round(door, to, log)
+        self.spots[place_of(from, to)].bring_round(alloc, door, to, log)
     }
 
     // Takes all from a link, and delivers what comes of it and what is held to the centre at its end.

@@ -9,11 +9,13 @@ ghost use Rattle.dc_mail.specs.Rounds.{HasReceived, ReceivedPart};
 use crate::posts::Posts;
 use dc_talk::{Door, Log};
 use ids_core::NoMemory;
+use std::alloc::Global;
 
 /// Takes from the link from each other centre of the `n` behind the door at most 64 records, and delivers to this one
 /// what comes of them. An `Err` is want of memory: the round was made over the links from some first centres, and over
 /// the next one in part.
 pub fn receive_all<D: Door>(
+    alloc: Global,
     posts: &mut Posts,
     door: &mut D,
     n: u8,
@@ -33,7 +35,7 @@ pub fn receive_all<D: Door>(
         if from == to {
             continue 'others;
         }
-        posts.bring_round(door, from, to, log)?;
+        posts.bring_round(alloc, door, from, to, log)?;
     }
     Ok(())
 }

@@ -11,8 +11,8 @@ use dc_worker::mail_for;
 use ids_core::NoMemory;
 use std::alloc::Global;
 
-/// Puts on the link from a centre to each other one of the `n` behind the door what that one lacks of this centre's
-/// records, at most 64 each. An `Err` is want of memory: the round was made over the links to some first centres, and
+/// Puts on the link from a centre to each other one of the `n` behind the door the frames of what that one lacks of this
+/// centre's records, at most 64 each. An `Err` is want of memory: the round was made over the links to some first centres, and
 /// nothing was put on the others.
 pub fn send_all<D: Door>(
     alloc: Global,
@@ -36,7 +36,7 @@ pub fn send_all<D: Door>(
             continue 'others;
         }
         let items = mail_for(alloc, door, from, to, log)?;
-        posts.put(from, to, items)?;
+        posts.put(alloc, from, to, &items)?;
     }
     Ok(())
 }

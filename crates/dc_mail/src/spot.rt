@@ -2,6 +2,7 @@
 ghost use Rattle.std.specs.Prelude.{◌≡◌, ◌≤◌, [], take, drop, length, min, IfOk, OnOk, OnErr};
 ghost use Rattle.dc_talk.specs.Acting.{acting, IsCutShort};
 ghost use Rattle.dc_talk.specs.Doors.{IsBehind};
+ghost use Rattle.link_frames.specs.Frames.{framed};
 ghost use Rattle.script_core.specs.Links.{clean_inlet};
 ghost use Rattle.script_core.specs.Mail.{new_post, post_put, post_set, taken_in_round, due_in_round, post_after_round, due_at_close, post_closed};
 ghost use Rattle.script_core.specs.Rounds.{Brings};
@@ -12,16 +13,18 @@ ghost use Rattle.dc_mail.specs.Posts.{PostPart};
 use dc_talk::{Door, LinkFault, Log, Records, Sent};
 use dc_worker::{Inlet, bring, bring_rest};
 use ids_core::NoMemory;
+use link_frames::{Frame, fits};
 use script_core::MOST_MAILED;
 use std::alloc::Global;
 use std::collections::VecDeque;
 use std::marker::Model;
 use std::mem::replace;
 
-/// The records that were put on a link and not yet taken, in order, and the end at which they are taken.
+/// The records that were put on a link and not yet taken, in order, each as the bytes of its frame, and the end at which
+/// they are taken.
 #[derive(Drop)]
 pub(crate) struct Spot {
-    waits: VecDeque<Sent>,
+    waits: VecDeque<Frame>,
     inlet: Inlet,
 }
 
@@ -33,8 +36,8 @@ impl Model for Spot {
     ghost view = { λ s. record { waits = s.waits.items; inlet = s.inlet } };
 }
 
-// Takes the first items, at most so many. Nothing changes where memory is refused.
-fn take_first(waits: &mut VecDeque<Sent>, most: usize) -> Result<Vec<Sent>, NoMemory>
+// Takes the first frames, at most so many. Nothing changes where memory is refused.
+fn take_first(waits: &mut VecDeque<Frame>, most: usize) -> Result<Vec<Frame>, NoMemory>
     ensures taken { IfOk result (λ taken. taken.items ≡ take most waits.old.items) }
     ensures rest { OnOk result (waits.new.items ≡ drop most waits.old.items) }
     ensures err { OnErr result (waits.new.items ≡ waits.old.items) }
@@ -42,6 +45,30 @@ fn take_first(waits: &mut VecDeque<Sent>, most: usize) -> Result<Vec<Sent>, NoMe
     let count = most.min(waits.len());
     let later = waits.split_off(count)?;
     Ok(Vec::from(replace(waits, later)))
+}
+
+// The frames of those of some records that have one.
+fn frames_of(alloc: Global, items: &[Sent]) -> Result<Vec<Frame>, NoMemory>
+    ensures { IfOk result (λ frames. frames.items ≡ framed items.now) }
+{
+    let mut frames = Vec::new(alloc);
+    'items: for item in items {
+        if fits(item) {
+            frames.push(Frame::of(alloc, item)?)?;
+        }
+    }
+    Ok(frames)
+}
+
+// The records of frames.
+fn records_of(alloc: Global, frames: &[Frame]) -> Result<Vec<Sent>, NoMemory>
+    ensures { IfOk result (λ items. items.items ≡ frames.now) }
+{
+    let mut items = Vec::with_capacity(alloc, frames.len())?;
+    'frames: for frame in frames {
+        items.push(frame.read(alloc)?)?;
+    }
+    Ok(items)
 }
 
 impl Spot {
@@ -55,12 +82,13 @@ impl Spot {
         }
     }
 
-    /// Puts records behind those that lie there. Nothing changes where memory is refused.
-    pub(crate) fn put(&mut self, items: Records) -> Result<(), NoMemory>
-        ensures ok { OnOk result (self.new ≡ post_put items self.old) }
+    /// Puts the frames of those of some records that have one behind what lies there. Nothing changes where memory is
+    /// refused.
+    pub(crate) fn put(&mut self, alloc: Global, items: &Records) -> Result<(), NoMemory>
+        ensures ok { OnOk result (self.new ≡ post_put (framed items.now) self.old) }
         ensures err { OnErr result (self.new ≡ self.old) }
     {
-        let mut more = VecDeque::from(items.into_vec());
+        let mut more = VecDeque::from(frames_of(alloc, items.as_slice())?);
         self.waits.append(&mut more)?;
         Ok(())
     }
@@ -91,6 +119,7 @@ impl Spot {
     /// Takes what a round takes, and delivers to a centre behind the door what comes of it.
     pub(crate) fn bring_round<D: Door>(
         &mut self,
+        alloc: Global,
         door: &mut D,
         at: u8,
         log: &mut Log,
@@ -102,7 +131,8 @@ impl Spot {
         ensures short { OnErr result (IsCutShort (acting (D.shown door.old) log.old) (acting (D.shown door.new) log.new)) }
         ensures part { OnErr result (PostPart at self.old self.new (acting (D.shown door.old) log.old) (acting (D.shown door.new) log.new)) }
     {
-        let items = take_first(&mut self.waits, MOST_MAILED as usize)?;
+        let frames = take_first(&mut self.waits, MOST_MAILED as usize)?;
+        let items = records_of(alloc, &frames)?;
         bring(door, at, &mut self.inlet, items, log)
     }
 
@@ -121,7 +151,8 @@ impl Spot {
         ensures short { OnErr result (IsCutShort (acting (D.shown door.old) log.old) (acting (D.shown door.new) log.new)) }
         ensures part { OnErr result (PostPart at self.old self.new (acting (D.shown door.old) log.old) (acting (D.shown door.new) log.new)) }
     {
-        let items = Vec::from(replace(&mut self.waits, VecDeque::new(alloc)));
+        let frames = Vec::from(replace(&mut self.waits, VecDeque::new(alloc)));
+        let items = records_of(alloc, &frames)?;
         bring_rest(door, at, &mut self.inlet, items, log)
     }
 }

@@ -1,5 +1,5 @@
 -- Which records have a frame.
-use Rattle.std.specs.Prelude.{Bool, length}
+use Rattle.std.specs.Prelude.{Bool, List, length, filter}
 use Rattle.dc_talk.specs.declared.ask.Ask.TheVariants.{Deliver}
 use Rattle.dc_talk.specs.declared.sent.Sent.{Sent}
 use Rattle.dc_talk.specs.Answers.{fits}
@@ -14,3 +14,7 @@ HasFrame sent = IsSpelled VERSION (frame_of sent)
 -- the record can be delivered with its hops among as many centres as its dependencies have entries
 abbrev pub is_deliverable : Sent → Bool
 is_deliverable sent = fits (length sent.item.deps) (Deliver sent.item sent.hops)
+
+-- those of some records that can be, in their order
+abbrev pub framed : List Sent → List Sent
+framed items = filter is_deliverable items

@@ -64,8 +64,8 @@ fn see_frame(sent: &Sent)
     see_updates(item.tx.updates.as_slice());
 }
 
-// Updates that are fit have a spelling.
-fn see_updates(updates: &[Update])
+/// Updates that are fit have a spelling. The call has nothing to do.
+pub fn see_updates(updates: &[Update])
     requires { All IsFitUpdate updates.now }
     ensures { All IsSpelledUpdate updates.now }
 {

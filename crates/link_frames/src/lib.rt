@@ -3,6 +3,7 @@
 #![tactic(auto)]
 
 mod fault;
+mod frame;
 mod frames;
 mod laws;
 mod reading;
@@ -10,7 +11,8 @@ mod spelling;
 mod spoiling;
 
 pub use fault::FrameFault;
-pub use frames::fits;
+pub use frame::Frame;
+pub use frames::{fits, see_updates};
 pub use laws::{law_bend_is_bad, law_cut_is_short, law_decoded, law_item_read, law_one_item};
 pub use reading::read_item;
 pub use spelling::spell_item;

@@ -3,6 +3,7 @@ use Rattle.std.proofs.Common.{◌≡◌, ℕ, ◌+◌, List, [], ◌∷◌, ◌+
 use Rattle.std.specs.Prelude.{replicate}
 use Rattle.std.specs.List.{range_with_len}
 use Rattle.std.proofs.lemmas.List.{append-nil, map-append, map-id, replicate-append-replicate, length-replicate}
+use Rattle.std.proofs.lemmas.List.Elements.{filter-append}
 use Rattle.std.proofs.lemmas.List.FromFn.{map-range_with_len_more, length-range_with_len}
 use Rattle.dc_talk.specs.declared.sent.Sent.{Sent}
 use Rattle.dc_talk.specs.declared.log.Deed.{Deed}
@@ -14,6 +15,7 @@ use Rattle.script_core.specs.declared.steps.OperatorStep.{OperatorStep}
 use Rattle.script_core.specs.Orders.{OperatorDeeds}
 use Rattle.script_core.specs.Links.{arrivals, arrived}
 use Rattle.script_core.specs.Carrying.{route, InTurn, no_turn, next_turn}
+use Rattle.link_frames.specs.Frames.{is_deliverable, framed}
 use Rattle.script_core.specs.Rounds.{SenderDeeds, ReceiverDeeds, ReporterDeeds, PrunerDeeds, others, Mails, mailed_from, mailed}
 use Rattle.client_stub.specs.Playing.{Operates}
 use Rattle.dc_worker.specs.Work.{AddsSuch, CarriesSuch}
@@ -104,10 +106,14 @@ sender_more n i section before a b c log is was round =
             (subst (SenderDeeds n i) (sym (turn_deeds section (before + 1) round.deeds)) round.such));
       };
       puts = λ to range other.
+          let all : framed (mailed to (deeds_of mine)) ≡ framed (mailed to (deeds_of was.plays.mine)) ++ framed (mailed to round.deeds) =
+          ap (λ deeds. framed (mailed to deeds)) deeds
+          ∙ (ap framed (mailed_then 0 to (deeds_of was.plays.mine) round.deeds (sender_fresh i (others n i) round.deeds round.such))
+          ∙ filter-append is_deliverable (mailed to (deeds_of was.plays.mine)) (mailed to round.deeds)) in
           round.put to range.0
-          ∙ (ap (λ xs. xs ++ mailed to round.deeds) (was.puts to range other)
-          ∙ (append_assoc (put_to a.givers to) (mailed to (deeds_of was.plays.mine)) (mailed to round.deeds)
-          ∙ ap (λ xs. put_to a.givers to ++ xs) (sym (mailed_then 0 to (deeds_of was.plays.mine) round.deeds (sender_fresh i (others n i) round.deeds round.such)) ∙ ap (mailed to) (sym deeds))));
+          ∙ (ap (λ xs. xs ++ framed (mailed to round.deeds)) (was.puts to range other)
+          ∙ (append_assoc (put_to a.givers to) (framed (mailed to (deeds_of was.plays.mine))) (framed (mailed to round.deeds))
+          ∙ ap (λ xs. put_to a.givers to ++ xs) (sym all)));
     }
 
 -- ---- a receiver

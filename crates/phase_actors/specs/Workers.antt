@@ -4,6 +4,7 @@ use Rattle.std.specs.List.{range_with_len}
 use Rattle.dc_talk.specs.declared.sent.Sent.{Sent}
 use Rattle.dc_talk.specs.declared.log.Note.{Note}
 use Rattle.dc_talk.specs.Acting.{Acting}
+use Rattle.link_frames.specs.Frames.{framed}
 use Rattle.mail_link.specs.Ends.{GiverView, TakerView}
 use Rattle.script_core.specs.declared.steps.OperatorStep.{OperatorStep}
 use Rattle.script_core.specs.Steps.{IsCount}
@@ -34,10 +35,10 @@ pub record Sending : Type 0 where
   pub acting : Acting
   pub givers : List (GiverView Sent)
 
--- the sender of centre i makes so many rounds, and puts on each link what its deeds mail there
+-- the sender of centre i makes so many rounds, and puts on each link what its deeds mail there, so far as it has frames
 pub record PlaysSender (n i section rounds : ℕ) (old new : Sending) : Type 0 where
   pub plays : Plays (SenderGoes n i) section tt (range_with_len 1 rounds) old.acting new.acting tt
-  pub puts : (to : ℕ) → IsCount n to → to ≢ i → put_to new.givers to ≡ put_to old.givers to ++ mailed to (deeds_of plays.mine)
+  pub puts : (to : ℕ) → IsCount n to → to ≢ i → put_to new.givers to ≡ put_to old.givers to ++ framed (mailed to (deeds_of plays.mine))
 
 -- the ends of the links at which the receiver of a centre takes, beside its door and its log
 pub record Receiving : Type 0 where

@@ -15,11 +15,13 @@ use crate::pace::{Pace, Worker};
 use crate::scene::Scene;
 use dc_host::HostDoor;
 use dc_links::{Links, drain_all, receive_all};
-use dc_talk::{Door, Log, Sent};
+use dc_talk::{Door, Log};
 use dc_worker::Inlet;
 use ids_core::NoMemory;
 use io_edge::Gate;
+use link_frames::Frame;
 use mail_link::{Giver, Taker};
+use std::alloc::Global;
 use std::sync::Wait;
 
 /// A receiver as a caller, with the ends of the links to its centre and the fault of each with what it holds, one from
@@ -27,13 +29,14 @@ use std::sync::Wait;
 #[derive(Drop)]
 pub struct ReceiverEnd {
     pub caller: Caller,
-    pub takers: Vec<Taker<Sent>>,
+    pub takers: Vec<Taker<Frame>>,
     pub inlets: Vec<Inlet>,
 }
 
 // The rounds of the receiver of a centre through a door.
 fn receive_rounds<R: Wait, D: Door>(
     rt: &R,
+    alloc: Global,
     pace: &Pace,
     door: &mut D,
     n: u8,
@@ -41,7 +44,7 @@ fn receive_rounds<R: Wait, D: Door>(
     rounds: u32,
     centre: u8,
     links: &Links,
-    takers: &mut Vec<Taker<Sent>>,
+    takers: &mut Vec<Taker<Frame>>,
     inlets: &mut Vec<Inlet>,
     log: &mut Log,
 ) -> Result<(), NoMemory>
@@ -59,7 +62,7 @@ fn receive_rounds<R: Wait, D: Door>(
     'rounds: for before in 0..rounds {
         pace.wait_for(rt, Worker::Receiver, centre, before + 1);
         log.set(section, before + 1);
-        receive_all(rt, door, n, centre, links, takers, inlets, log)?;
+        receive_all(rt, alloc, door, n, centre, links, takers, inlets, log)?;
         pace.has_made(Worker::Receiver, centre);
     }
     Ok(())
@@ -69,6 +72,7 @@ fn receive_rounds<R: Wait, D: Door>(
 /// passes and ends are gone.
 pub fn receive_through<R: Wait, G: Gate>(
     rt: &R,
+    alloc: Global,
     scene: Scene<'_>,
     gate: &G,
     pace: &Pace,
@@ -90,6 +94,7 @@ pub fn receive_through<R: Wait, G: Gate>(
     let mut door = HostDoor::new(rt, scene.hosts, row, log.actor(), gate);
     receive_rounds(
         rt,
+        alloc,
         pace,
         &mut door,
         script.n,
@@ -113,10 +118,11 @@ pub fn receive_through<R: Wait, G: Gate>(
 /// given the ends of all senders. After an `Err`, want of memory, its passes and ends are gone.
 pub fn close_over<R: Wait, G: Gate>(
     rt: &R,
+    alloc: Global,
     scene: Scene<'_>,
     gate: &G,
     centre: u8,
-    givers: &[Vec<Giver<Sent>>],
+    givers: &[Vec<Giver<Frame>>],
     end: ReceiverEnd,
 ) -> Result<ReceiverEnd, NoMemory>
     requires scene { IsScene scene }
@@ -136,6 +142,7 @@ pub fn close_over<R: Wait, G: Gate>(
     log.set(scene.number, script.rounds + 1);
     drain_all(
         rt,
+        alloc,
         &mut door,
         script.n,
         centre,

@@ -14,22 +14,25 @@ use crate::pace::{Pace, Worker};
 use crate::scene::Scene;
 use dc_host::HostDoor;
 use dc_links::{Links, send_all};
-use dc_talk::{Door, Log, Sent};
+use dc_talk::{Door, Log};
 use ids_core::NoMemory;
 use io_edge::Gate;
+use link_frames::Frame;
 use mail_link::Giver;
+use std::alloc::Global;
 use std::sync::Wait;
 
 /// A sender as a caller, with the ends of the links from its centre, one to each centre in order.
 #[derive(Drop)]
 pub struct SenderEnd {
     pub caller: Caller,
-    pub givers: Vec<Giver<Sent>>,
+    pub givers: Vec<Giver<Frame>>,
 }
 
 // The rounds of the sender of a centre through a door.
 fn send_rounds<R: Wait, D: Door>(
     rt: &R,
+    alloc: Global,
     pace: &Pace,
     door: &mut D,
     n: u8,
@@ -37,7 +40,7 @@ fn send_rounds<R: Wait, D: Door>(
     rounds: u32,
     centre: u8,
     links: &Links,
-    givers: &mut Vec<Giver<Sent>>,
+    givers: &mut Vec<Giver<Frame>>,
     log: &mut Log,
 ) -> Result<(), NoMemory>
     requires centres { (D.shown door.old).centres ≡ n }
@@ -52,7 +55,7 @@ fn send_rounds<R: Wait, D: Door>(
     'rounds: for before in 0..rounds {
         pace.wait_for(rt, Worker::Sender, centre, before + 1);
         log.set(section, before + 1);
-        send_all(rt, door, n, centre, links, givers, log)?;
+        send_all(rt, alloc, door, n, centre, links, givers, log)?;
         pace.has_made(Worker::Sender, centre);
     }
     Ok(())
@@ -62,6 +65,7 @@ fn send_rounds<R: Wait, D: Door>(
 /// passes and ends are gone.
 pub fn send_through<R: Wait, G: Gate>(
     rt: &R,
+    alloc: Global,
     scene: Scene<'_>,
     gate: &G,
     pace: &Pace,
@@ -79,6 +83,7 @@ pub fn send_through<R: Wait, G: Gate>(
     let mut door = HostDoor::new(rt, scene.hosts, row, log.actor(), gate);
     send_rounds(
         rt,
+        alloc,
         pace,
         &mut door,
         script.n,

@@ -15,6 +15,7 @@ use phase_actors::{
     Caller, Pace, ReceiverEnd, Scene, SenderEnd, prune_through, receive_through, report_through,
     send_through,
 };
+use std::alloc::Global;
 use std::snapshot::Snapshot;
 use std::sync::Wait;
 use std::thread::{Promise, PromisedHandle, Scope, Threads};
@@ -90,6 +91,7 @@ impl<'a> Promise<Result<Caller, NoMemory>> for PrunerOf<'a> {
 /// for another one from then on.
 pub(crate) fn begin_sender<'s, E: 's, R: Wait + Sync, G: Gate>(
     rt: &'s R,
+    alloc: Global,
     scope: &'s Scope<'s, E>,
     scene: Scene<'s>,
     gate: &'s G,
@@ -134,7 +136,7 @@ pub(crate) fn begin_sender<'s, E: 's, R: Wait + Sync, G: Gate>(
             hosts,
             links,
         };
-        pace.ended(send_through(rt, scene, gate, pace, centre, sender))
+        pace.ended(send_through(rt, alloc, scene, gate, pace, centre, sender))
     };
     match scope.spawn_with(promise, sends) {
         Ok(handle) => Begun::There(handle),
@@ -162,6 +164,7 @@ pub(crate) fn end_sender<R: Threads>(
 /// for another one from then on.
 pub(crate) fn begin_receiver<'s, E: 's, R: Wait + Sync, G: Gate>(
     rt: &'s R,
+    alloc: Global,
     scope: &'s Scope<'s, E>,
     scene: Scene<'s>,
     gate: &'s G,
@@ -206,7 +209,7 @@ pub(crate) fn begin_receiver<'s, E: 's, R: Wait + Sync, G: Gate>(
             hosts,
             links,
         };
-        pace.ended(receive_through(rt, scene, gate, pace, centre, receiver))
+        pace.ended(receive_through(rt, alloc, scene, gate, pace, centre, receiver))
     };
     match scope.spawn_with(promise, receives) {
         Ok(handle) => Begun::There(handle),

@@ -41,6 +41,7 @@ pub(crate) struct BegunCrew<'a> {
 // The workers of a centre begin.
 fn begin_crew<'s, E: 's, R: Wait + Sync, G: Gate>(
     rt: &'s R,
+    alloc: Global,
     within: &'s Scope<'s, E>,
     scene: Scene<'s>,
     gate: &'s G,
@@ -58,8 +59,8 @@ fn begin_crew<'s, E: 's, R: Wait + Sync, G: Gate>(
         reporter,
         pruner,
     } = crew;
-    let sender = begin_sender(rt, within, scene, gate, pace, centre, sender);
-    let receiver = begin_receiver(rt, within, scene, gate, pace, centre, receiver);
+    let sender = begin_sender(rt, alloc, within, scene, gate, pace, centre, sender);
+    let receiver = begin_receiver(rt, alloc, within, scene, gate, pace, centre, receiver);
     let reporter = begin_reporter(rt, within, scene, gate, pace, centre, reporter);
     let pruner = begin_pruner(rt, within, scene, gate, pace, centre, pruner);
     BegunCrew {
@@ -112,7 +113,7 @@ pub(crate) fn begin_crews<'s, E: 's, R: Wait + Sync, G: Gate>(
 {
     let mut begun = Vec::with_capacity(alloc, crews.len())?;
     'crews: for crew in crews {
-        begun.push(begin_crew(rt, within, scene, gate, pace, crew))?;
+        begun.push(begin_crew(rt, alloc, within, scene, gate, pace, crew))?;
     }
     Ok(begun)
 }

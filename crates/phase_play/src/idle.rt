@@ -18,6 +18,7 @@ use std::sync::Wait;
 // The workers of a centre, one after another.
 fn idle_crew<R: Wait, G: Gate>(
     rt: &R,
+    alloc: Global,
     scene: Scene<'_>,
     gate: &G,
     pace: &Pace,
@@ -36,8 +37,8 @@ fn idle_crew<R: Wait, G: Gate>(
     } = crew;
     Ok(Crew {
         centre,
-        sender: send_through(rt, scene, gate, pace, centre, sender)?,
-        receiver: receive_through(rt, scene, gate, pace, centre, receiver)?,
+        sender: send_through(rt, alloc, scene, gate, pace, centre, sender)?,
+        receiver: receive_through(rt, alloc, scene, gate, pace, centre, receiver)?,
         reporter: report_through(rt, scene, gate, pace, centre, reporter)?,
         pruner: prune_through(rt, scene, gate, pace, centre, pruner)?,
     })
@@ -59,7 +60,7 @@ pub(crate) fn idle_crews<R: Wait, G: Gate>(
 {
     let mut played = Vec::with_capacity(alloc, crews.len())?;
     'crews: for crew in crews {
-        played.push(idle_crew(rt, scene, gate, pace, crew)?)?;
+        played.push(idle_crew(rt, alloc, scene, gate, pace, crew)?)?;
     }
     Ok(played)
 }

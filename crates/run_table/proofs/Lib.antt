@@ -4,3 +4,4 @@ pub mod Links
 pub mod Lines
 pub mod Allowing
 pub mod Reading
+pub mod Framing

@@ -10,7 +10,7 @@ use Rattle.dc_talk.specs.declared.sent.Sent.{Sent}
 use Rattle.script_core.specs.declared.steps.OperatorStep.TheVariants.{Link}
 use Rattle.script_core.specs.declared.rounds.Role.TheVariants.{Sender, Receiver, Reporter, Pruner}
 use Rattle.script_core.specs.Steps.{IsCount}
-use Rattle.script_core.specs.Mail.{Post, post_set, due_in_round, post_after_round, due_at_close, post_closed}
+use Rattle.script_core.specs.Mail.{Post, post_put, post_set, due_in_round, post_after_round, due_at_close, post_closed}
 use Rattle.script_core.specs.Rounds.{ReporterDeeds, PrunerDeeds}
 use Rattle.dc_talk.specs.declared.ask.Ask.TheVariants.{Prune}
 use Rattle.script_core.specs.declared.rounds.TheConstants.{ROUNDS_BETWEEN_PRUNES}
@@ -38,7 +38,7 @@ link_set n i j fault deeds old new few set from to f t = set.each from to (withi
 -- ---- what workers leave
 
 pub sender_worked : (n number i : ℕ) (old new : List Post) (a b : Acting) → n ≤ MOST_CENTRES → HasSent n i old new a b → HasWorked n number (worker_does i Sender) old new a b
-sender_worked n number i old new a b few is = record { deeds = is.deeds; such = is.such; leaves = is.adds.leaves; posts = λ from to f t. is.posts from to (within n from few f) (within n to few t) }
+sender_worked n number i old new a b few is = record { deeds = is.deeds; such = is.such; leaves = is.adds.leaves; posts = λ framed from to f t. is.posts from to (within n from few f) (within n to few t) ∙ ap (λ items. cond (from == i && not (to == i)) (post_put items (post_at old from to)) (post_at old from to)) (framed to) }
 
 -- of a receiver, whichever its round
 received : (due : Post → List Sent) (later : Post → Post) (n i : ℕ) (old new : List Post) (a b : Acting) → n ≤ MOST_CENTRES → HasReceived due later n i old new a b → (from to : ℕ) → IsCount n from → IsCount n to → post_at new from to ≡ cond (to == i && not (from == i)) (later (post_at old from to)) (post_at old from to)
@@ -51,16 +51,16 @@ received due later n i old new a b few is from to f t =
     whole false x y = refl
 
 pub receiver_worked : (n number i : ℕ) (old new : List Post) (a b : Acting) → n ≤ MOST_CENTRES → HasReceived due_in_round post_after_round n i old new a b → HasWorked n number (worker_does i Receiver) old new a b
-receiver_worked n number i old new a b few is = record { deeds = is.deeds; such = is.such; leaves = is.adds.leaves; posts = received due_in_round post_after_round n i old new a b few is }
+receiver_worked n number i old new a b few is = record { deeds = is.deeds; such = is.such; leaves = is.adds.leaves; posts = λ framed. received due_in_round post_after_round n i old new a b few is }
 
 pub closer_worked : (n number i : ℕ) (old new : List Post) (a b : Acting) → n ≤ MOST_CENTRES → HasReceived due_at_close post_closed n i old new a b → HasWorked n number (closes i) old new a b
-closer_worked n number i old new a b few is = record { deeds = is.deeds; such = is.such; leaves = is.adds.leaves; posts = received due_at_close post_closed n i old new a b few is }
+closer_worked n number i old new a b few is = record { deeds = is.deeds; such = is.such; leaves = is.adds.leaves; posts = λ framed. received due_at_close post_closed n i old new a b few is }
 
 pub reporter_worked : (n number i : ℕ) (old new : List Post) (a b : Acting) → new ≡ old → CarriesSuch (ReporterDeeds n i) a b → HasWorked n number (worker_does i Reporter) old new a b
-reporter_worked n number i old new a b same is = record { deeds = is.deeds; such = is.such; leaves = is.adds.leaves; posts = λ from to f t. ap (λ posts. post_at posts from to) same }
+reporter_worked n number i old new a b same is = record { deeds = is.deeds; such = is.such; leaves = is.adds.leaves; posts = λ framed from to f t. ap (λ posts. post_at posts from to) same }
 
 pub pruner_worked : (n number i : ℕ) (old new : List Post) (a b : Acting) → new ≡ old → AddsSuch (PrunerDeeds i number) a b → HasWorked n number (worker_does i Pruner) old new a b
-pruner_worked n number i old new a b same is = record { deeds = is.deeds; such = is.such; leaves = is.adds.leaves; posts = λ from to f t. ap (λ posts. post_at posts from to) same }
+pruner_worked n number i old new a b same is = record { deeds = is.deeds; such = is.such; leaves = is.adds.leaves; posts = λ framed from to f t. ap (λ posts. post_at posts from to) same }
 
 -- a pruner does nothing in a round whose number is no multiple
 pub prunes_none : (i number : ℕ) (a : Acting) → number % ROUNDS_BETWEEN_PRUNES ≢ 0 → AddsSuch (PrunerDeeds i number) a a

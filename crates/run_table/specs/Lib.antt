@@ -1,3 +1,4 @@
+pub mod Framing
 pub mod Dealing
 pub mod Works
 pub mod Tables

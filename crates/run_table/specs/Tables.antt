@@ -25,6 +25,7 @@ use Rattle.run_book.specs.Moves.{Does, operator_does}
 use Rattle.run_book.specs.Played.{Stage, new_progress, DoesSo, posts_after}
 use Rattle.run_table.specs.declared.table.Table.{Table}
 use Rattle.run_table.specs.declared.works.Work.{Work}
+use Rattle.run_table.specs.Framing.{AreFramed}
 use Rattle.run_table.specs.Works.{HasWorkedPart}
 
 -- ---- at first
@@ -117,12 +118,12 @@ abbrev pub stage_with : List Post → Stage
 stage_with posts = record { come = λ client. new_progress 0 client 0; posts = post_at posts }
 
 -- a worker made a round of a number over links, through a door: a log and what the door shows grow by deeds that are due,
--- and the links are as they leave them
+-- and the links are as they leave them, where all that they mail has frames
 pub record HasWorked (n number : ℕ) (does : Does) (old new : List Post) (a b : Acting) : Type 0 where
   pub deeds : List Deed
   pub such : DoesSo n (stage_with old) number does deeds
   pub leaves : Leaves a b deeds
-  pub posts : HasPosts n does deeds old new
+  pub posts : AreFramed deeds → HasPosts n does deeds old new
 
 -- a worker made a round in its turn
 pub record HasMadeRound (turn : Turn) (does : Does) (old new : Table) : Type 0 where

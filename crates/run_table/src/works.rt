@@ -88,7 +88,7 @@ pub(crate) fn make_round<D: Door>(
 {
     match does {
         Work::Round(Role::Sender) => send_all(alloc, posts, door, n, centre, log),
-        Work::Round(Role::Receiver) => receive_all(posts, door, n, centre, log),
+        Work::Round(Role::Receiver) => receive_all(alloc, posts, door, n, centre, log),
         Work::Round(Role::Reporter) => report_all(door, n, centre, log),
         Work::Round(Role::Pruner) => prune(door, number, centre, log),
         Work::Close => close_all(alloc, posts, door, n, centre, log),

@@ -1,10 +1,20 @@
 -- A phase that was played with threads was played as a section.
-use Rattle.std.proofs.Common.{◌≡◌, ℕ, suc, ◌+◌, ◌-◌, ◌≤◌, ◌<◌, ⊎_elim, List, [], ◌++◌, length, drop, refl, sym, ap, ◌∙◌, subst, arith}
-use Rattle.std.proofs.lemmas.Bool.{cases_lt}
+use Rattle.std.proofs.Common.{◌≡◌, ℕ, suc, ◌+◌, ◌-◌, ◌≤◌, ◌<◌, ◌==◌, ⊎_elim, Bool, true, false, cond, List, [], ◌++◌, length, drop, Some, None, refl, sym, ap, ◌∙◌, subst, arith}
+use Rattle.std.proofs.lemmas.Bool.{cases_lt, eq-eqb}
+use Rattle.std.proofs.lemmas.Option.{same_Some}
 use Rattle.std.proofs.lemmas.List.{length-map}
 use Rattle.list_core.specs.Members.{In}
 use Rattle.list_core.proofs.Gets.{get_within, all_get}
-use Rattle.dc_talk.specs.Logs.{Logged, entries_made}
+use Rattle.list_core.proofs.Members.{In_right, In_from_map}
+use Rattle.list_core.proofs.Passing.{In_filter_map, In_from_filter_map}
+use Rattle.dc_talk.specs.declared.ask.Ask.{Ask}
+use Rattle.dc_talk.specs.declared.ask.Ask.TheVariants.{Send}
+use Rattle.dc_talk.specs.declared.say.Say.{Say}
+use Rattle.dc_talk.specs.declared.say.Say.TheVariants.{Records}
+use Rattle.dc_talk.specs.declared.log.Fate.TheVariants.{Unheard}
+use Rattle.dc_talk.specs.declared.log.Deed.TheVariants.{Asked}
+use Rattle.dc_talk.specs.declared.log.Note.{Note}
+use Rattle.dc_talk.specs.Logs.{Logged, exchanged_in, entries_made}
 use Rattle.dc_talk.specs.Entries.{Entry}
 use Rattle.host_lock.specs.Hosts.{AllStood}
 use Rattle.host_lock.specs.Law.{calls_of}
@@ -13,12 +23,19 @@ use Rattle.dc_host.specs.HostDoors.{CentreHost, CentrePass}
 use Rattle.dc_host.specs.Hosts.{rows_of, new_rows, column}
 use Rattle.dc_door.specs.KeptDoors.{trail_at, settings_of}
 use Rattle.dc_host.proofs.Passes.{zip_long}
+use Rattle.script_core.specs.declared.rounds.Role.TheVariants.{Sender}
 use Rattle.script_core.specs.Steps.{IsCount}
+use Rattle.script_core.specs.Rounds.{worker_of}
 use Rattle.run_book.specs.Parts.{entries_by, exchanged}
-use Rattle.run_sections.specs.Orders.{deeds_of}
-use Rattle.run_sections.specs.Sections.{PlaysSection, actors_of}
+use Rattle.run_book.specs.Happenings.{GoesToOneOf}
+use Rattle.run_book.proofs.Happenings.WorkerRounds.{worker_carries, sender_go}
+use Rattle.run_sections.specs.Orders.{deeds_of, SenderGoes}
+use Rattle.run_sections.specs.Sections.{PlaysSection, actors_of, rounds_in}
+use Rattle.run_sections.proofs.Actors.{carrier_acts}
+use Rattle.run_sections.proofs.InTurn.{order_each, deed_holds}
 use Rattle.run_table.specs.declared.table.Table.{Table}
 use Rattle.run_table.specs.Tables.{AreHistories}
+use Rattle.run_table.proofs.Framing.{mailed_framed, trail_fit}
 use Rattle.phase_actors.specs.declared.callers.Caller.{Caller}
 use Rattle.phase_actors.specs.declared.clients.Player.{Player}
 use Rattle.phase_actors.specs.declared.scene.Scene.{Scene}
@@ -28,7 +45,7 @@ use Rattle.thread_run.proofs.Zips.{zip_get, drop_front}
 use Rattle.thread_run.proofs.Callers.{Stands, HasActed}
 use Rattle.thread_run.proofs.Redeeming.{rows_in, calls_noted, calls_paired, called_within, HasGrown, grown, trail_grown, all_histories, same_settings}
 use Rattle.thread_run.proofs.Playing.{IsPhasePlayed, left_between, count_of, centres_count, callers_count, before, behind, did, log_before, log_behind, notes_grown, left_is}
-use Rattle.thread_run.proofs.Sectioning.{operator_plays, senders_play, receivers_play, reporters_play, pruners_play, clients_play, clients_allowed}
+use Rattle.thread_run.proofs.Sectioning.{AreMailsFramed, operator_plays, senders_play, receivers_play, reporters_play, pruners_play, clients_play, clients_allowed}
 
 module _ (scene : Scene) (old new : Table) (h : IsPhasePlayed scene old new) where
   -- ---- an actor
@@ -123,19 +140,6 @@ module _ (scene : Scene) (old new : Table) (h : IsPhasePlayed scene old new) whe
 
   -- ---- the table behind it
 
-  -- what is left is what a section leaves
-  pub plays_section : PlaysSection scene.script.now scene.number scene.section.now (between_of scene.script.now old) (left_between old new) (between_of scene.script.now new)
-  plays_section = record {
-    clients = clients_play scene old new h;
-    operator = operator_plays scene old new h;
-    senders = senders_play scene old new h;
-    receivers = receivers_play scene old new h;
-    reporters = reporters_play scene old new h;
-    pruners = pruners_play scene old new h;
-    callers = callers_left;
-    paired = paired_left;
-  }
-
   -- the parts are still those of the script
   pub table_then : IsTableOf scene.script.now new
   table_then = record {
@@ -146,6 +150,48 @@ module _ (scene : Scene) (old new : Table) (h : IsPhasePlayed scene old new) whe
     actors = λ a range.
         let c = caller_of a range in
         ap (λ (log : Logged). log.actor) (log_behind scene old new h a c.last range.0 c.is) ∙ (c.acted.same.0 ∙ c.actor);
+  }
+
+  -- ---- what the senders mailed
+
+  -- their asks go to centres that there are
+  sender_reaches : (from : ℕ) → IsCount scene.script.now.n from → (note : Note) → In note ((left_between old new).notes (worker_of scene.script.now.clients from Sender)) → GoesToOneOf scene.script.now.n note.deed
+  sender_reaches from range = order_each (SenderGoes scene.script.now.n from) scene.number (λ note. GoesToOneOf scene.script.now.n note.deed) 1 tt tt (rounds_in scene.script.now scene.section.now) ((left_between old new).notes (worker_of scene.script.now.clients from Sender))
+      (λ s next step m mine here among does note there. deed_holds (GoesToOneOf scene.script.now.n) mine note (sender_go scene.script.now.n from (deeds_of mine) range does) there) (senders_play scene old new h from range)
+
+  -- an entry that exchanged this
+  asked_so : (a : ℕ) (entry : Entry) (pair : Ask × Say) (test : Bool) → cond test (Some (entry.ask, entry.say)) None ≡ Some pair → (entry.ask, entry.say) ≡ pair
+  asked_so a entry pair true is = same_Some (entry.ask, entry.say) pair is
+  asked_so a entry pair false is = absurd cc
+
+  -- so it has frames
+  mails_framed : AreMailsFramed scene old new h
+  mails_framed from range =
+      let a : ℕ = worker_of scene.script.now.clients from Sender in
+      let notes = (left_between old new).notes a in
+      mailed_framed (deeds_of notes) (λ i after most list among.
+      let pair : Ask × Say = (Send after most, Records list) in
+      let found = In_from_map (λ (note : Note). note.deed) notes (Asked i (Send after most) (Unheard (Records list))) among in
+      let centre : IsCount scene.script.now.n i = subst (GoesToOneOf scene.script.now.n) (sym found.2) (sender_reaches from range found.0 found.1) in
+      let actor : IsCount (actors_of scene.script.now) a = carrier_acts scene.script.now a (worker_carries scene.script.now.n scene.script.now.clients from Sender range) in
+      let told : exchanged_in i found.0.deed ≡ Some pair = ap (exchanged_in i) (sym found.2) ∙ ap (λ test. cond test (Some pair) None) (eq-eqb i i refl) in
+      let made = In_from_filter_map (λ (entry : Entry). cond (entry.caller == a) (Some (entry.ask, entry.say)) None) ((left_between old new).entries i) pair
+          (subst (In pair) (sym (paired_left i a centre actor)) (In_filter_map (λ (note : Note). exchanged_in i note.deed) notes found.0 pair found.1 told)) in
+      let so = asked_so a made.0 pair (made.0.caller == a) made.2 in
+      let there : In made.0 (trail_at new.door.centres i) = subst (In made.0) (sym (trails_then i)) (In_right (trail_at old.door.centres i) ((left_between old new).entries i) made.0 made.1) in
+      trail_fit scene.script.now h.run.begun.range new.door.centres table_then.settings table_then.histories i after most made.0 list there (ap (λ (pair : Ask × Say). pair.0) so) (ap (λ (pair : Ask × Say). pair.1) so))
+
+  -- what is left is what a section leaves
+  pub plays_section : PlaysSection scene.script.now scene.number scene.section.now (between_of scene.script.now old) (left_between old new) (between_of scene.script.now new)
+  plays_section = record {
+    clients = clients_play scene old new h;
+    operator = operator_plays scene old new h;
+    senders = senders_play scene old new h;
+    receivers = receivers_play scene old new h mails_framed;
+    reporters = reporters_play scene old new h;
+    pruners = pruners_play scene old new h;
+    callers = callers_left;
+    paired = paired_left;
   }
 
   -- all of it

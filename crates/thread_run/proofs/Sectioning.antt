@@ -10,12 +10,14 @@ use Rattle.dc_mail.specs.Posts.{post_at}
 use Rattle.script_core.specs.declared.rounds.Role.TheVariants.{Sender, Receiver, Reporter, Pruner}
 use Rattle.script_core.specs.Deeds.{Progress}
 use Rattle.script_core.specs.Steps.{IsCount}
+use Rattle.link_frames.specs.Frames.{framed}
 use Rattle.script_core.specs.Rounds.{worker_of, mailed}
 use Rattle.script_core.specs.Scripts.{header_of}
 use Rattle.run_book.specs.Moves.{client_steps, operator_steps}
 use Rattle.run_book.specs.Happenings.{ClientDoes}
 use Rattle.run_book.specs.Played.{new_progress}
 use Rattle.run_table.specs.declared.table.Table.{Table}
+use Rattle.run_table.specs.Framing.{AreFramed}
 use Rattle.run_table.specs.Tables.{log_at}
 use Rattle.run_sections.specs.Orders.{deeds_of, InOrder, ClientGoes, OperatorGoes, SenderGoes, ReporterGoes, PrunerGoes, ReceiverGoes, intake}
 use Rattle.run_sections.specs.Sections.{rounds_in, receipts_in, linked, mail_left, Receives}
@@ -64,9 +66,13 @@ module _ (scene : Scene) (old new : Table) (h : IsPhasePlayed scene old new) whe
 
   -- ---- the receivers
 
-  -- what was taken from a link is what was put on it
-  mail_taken : (from j : ℕ) (there : IsCount scene.script.now.n from) (range : IsCount scene.script.now.n j) → from ≢ j → taken_from (crew_of scene old h.run j range).later.receiver.takers.items from ≡ mail_left scene.script.now (left_between old new) from j
-  mail_taken from j there range other =
+  -- all that the senders mailed has frames
+  abbrev pub AreMailsFramed : Type 0
+  AreMailsFramed = (from : ℕ) → IsCount scene.script.now.n from → AreFramed (deeds_of ((left_between old new).notes (worker_of scene.script.now.clients from Sender)))
+
+  -- what was taken from a link is what was put on it, where all that the senders mailed has frames
+  mail_taken : AreMailsFramed → (from j : ℕ) (there : IsCount scene.script.now.n from) (range : IsCount scene.script.now.n j) → from ≢ j → taken_from (crew_of scene old h.run j range).later.receiver.takers.items from ≡ mail_left scene.script.now (left_between old new) from j
+  mail_taken fit from j there range other =
       let w = crew_of scene old h.run j range in
       let v = crew_of scene old h.run from there in
       let takers = row_there (λ (c : Crew). c.receiver.takers) h.run.parted.closed h.run.later.takers.items (j - 1) w.later h.run.parted.parted.crews.takers_are w.is in
@@ -79,12 +85,12 @@ module _ (scene : Scene) (old new : Table) (h : IsPhasePlayed scene old new) whe
       ∙ (sym (h.drained from j (among from there) (among j range) (ap length taken ∙ all))
       ∙ (ap (λ row. put_to row j) givers
       ∙ (v.done.sender.plays.puts j range (λ same. other (sym (same ∙ v.number)))
-      ∙ ((λ k. (sym (ap (λ row. put_to row j) first) ∙ h.run.begun.none_put from j) k ++ mailed j (deeds_of v.done.sender.plays.plays.mine))
-      ∙ ap (λ notes. mailed j (deeds_of notes)) (sym (worker_left scene old new h from Sender there))))))
+      ∙ ((λ k. (sym (ap (λ row. put_to row j) first) ∙ h.run.begun.none_put from j) k ++ framed (mailed j (deeds_of v.done.sender.plays.plays.mine)))
+      ∙ (ap (λ notes. framed (mailed j (deeds_of notes))) (sym (worker_left scene old new h from Sender there)) ∙ fit from there j)))))
 
   -- each receiver made its rounds, and took what was put
-  pub receivers_play : (j : ℕ) → IsCount scene.script.now.n j → Receives scene.script.now scene.number scene.section.now (between_of scene.script.now old) (left_between old new) (between_of scene.script.now new) j
-  receivers_play j range =
+  pub receivers_play : AreMailsFramed → (j : ℕ) → IsCount scene.script.now.n j → Receives scene.script.now scene.number scene.section.now (between_of scene.script.now old) (left_between old new) (between_of scene.script.now new) j
+  receivers_play fit j range =
       let w = crew_of scene old h.run j range in
       let inlets = row_there (λ (c : Crew). c.receiver.inlets) h.run.begun.cast.crews.items h.run.begun.parts.inlets.items (j - 1) w.crew h.run.begun.cast_is.crews.inlets_are w.there in
       let takers = row_there (λ (c : Crew). c.receiver.takers) h.run.begun.cast.crews.items h.run.begun.parts.takers.items (j - 1) w.crew h.run.begun.cast_is.crews.takers_are w.there in
@@ -101,7 +107,7 @@ module _ (scene : Scene) (old new : Table) (h : IsPhasePlayed scene old new) whe
             subst (λ notes. InOrder (ReceiverGoes scene.script.now.n j) scene.number 1 (intakes_of (receiving w.crew.receiver)) (receipts_in scene.script.now scene.section.now) notes (intakes_of (receiving w.later.receiver))) (sym (worker_left scene old new h j Receiver range))
             (subst (λ i. InOrder (ReceiverGoes scene.script.now.n i) scene.number 1 (intakes_of (receiving w.crew.receiver)) (receipts_in scene.script.now scene.section.now) (w.done.receiver.plays.plays.mine ++ w.done.closed.closes.mine) (intakes_of (receiving w.later.receiver))) w.number
             (receiver_order scene (put_then scene old h.run) w.crew.centre w.crew.receiver w.done.mid w.later.receiver h.run.begun.phase.phase w.done.receiver w.done.closed));
-        all = λ from there other phase. mail_taken from j there range other;
+        all = λ from there other phase. mail_taken fit from j there range other;
         inlets = λ from there other. h.given.each from j there range ∙ ap (λ row. inlet_from row from) later;
       }
 

@@ -6,10 +6,11 @@ ghost use Rattle.thread_run.specs.Casts.{crew_callers, IsCastOf, AreCallersOf, A
 use crate::parts::Parts;
 use client_stub::Stub;
 use dc_centre::Centre;
-use dc_talk::{Log, Sent};
+use dc_talk::Log;
 use dc_worker::Inlet;
 use host_lock::Pass;
 use ids_core::NoMemory;
+use link_frames::Frame;
 use mail_link::{Giver, Taker};
 use phase_actors::{Caller, Player, ReceiverEnd, SenderEnd};
 use phase_play::{Cast, Crew};
@@ -67,8 +68,8 @@ fn players_of(
 #[derive(Drop)]
 pub(crate) struct Workers {
     callers: Vec<Caller>,
-    givers: Vec<Vec<Giver<Sent>>>,
-    takers: Vec<Vec<Taker<Sent>>>,
+    givers: Vec<Vec<Giver<Frame>>>,
+    takers: Vec<Vec<Taker<Frame>>>,
     inlets: Vec<Vec<Inlet>>,
 }
 

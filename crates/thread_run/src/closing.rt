@@ -9,9 +9,9 @@ ghost use Rattle.thread_run.specs.Closing.{IsHalfOf, AreHalves, HasClosedHalf, H
 ghost use Rattle.thread_run.specs.Casts.{HaveParted};
 
 use crate::parts::Parts;
-use dc_talk::Sent;
 use ids_core::NoMemory;
 use io_edge::Gate;
+use link_frames::Frame;
 use mail_link::Giver;
 use phase_actors::{Caller, Player, ReceiverEnd, Scene, close_over};
 use phase_play::{Cast, Crew};
@@ -32,7 +32,7 @@ pub(crate) struct Half {
 #[derive(Drop)]
 pub(crate) struct Halves {
     pub(crate) halves: Vec<Half>,
-    pub(crate) givers: Vec<Vec<Giver<Sent>>>,
+    pub(crate) givers: Vec<Vec<Giver<Frame>>>,
 }
 
 // Takes the ends of the senders off.
@@ -64,9 +64,10 @@ fn halve(alloc: Global, crews: Vec<Crew>) -> Result<Halves, NoMemory>
 // The closing round of a centre's receiver, and the parts of its workers behind those that are there.
 fn close_half<R: Wait, G: Gate>(
     rt: &R,
+    alloc: Global,
     scene: Scene<'_>,
     gate: &G,
-    givers: &[Vec<Giver<Sent>>],
+    givers: &[Vec<Giver<Frame>>],
     parts: &mut Parts,
     half: Half,
 ) -> Result<(), NoMemory>
@@ -86,7 +87,7 @@ fn close_half<R: Wait, G: Gate>(
         caller,
         takers,
         inlets,
-    } = close_over(rt, scene, gate, centre, givers, receiver)?;
+    } = close_over(rt, alloc, scene, gate, centre, givers, receiver)?;
     parts.add(sender)?;
     parts.add(caller)?;
     parts.add(reporter)?;
@@ -110,9 +111,10 @@ fn part_clients(parts: &mut Parts, players: Vec<Player>) -> Result<(), NoMemory>
 // The closing rounds of all receivers, centre by centre.
 fn close_halves<R: Wait, G: Gate>(
     rt: &R,
+    alloc: Global,
     scene: Scene<'_>,
     gate: &G,
-    givers: &[Vec<Giver<Sent>>],
+    givers: &[Vec<Giver<Frame>>],
     parts: &mut Parts,
     halves: Vec<Half>,
 ) -> Result<(), NoMemory>
@@ -122,7 +124,7 @@ fn close_halves<R: Wait, G: Gate>(
     ensures { OnOk result (HaveClosed scene.entry (rows_of givers.now) parts.old halves.items parts.new) }
 {
     'halves: for half in halves {
-        close_half(rt, scene, gate, givers, parts, half)?;
+        close_half(rt, alloc, scene, gate, givers, parts, half)?;
     }
     Ok(())
 }
@@ -151,7 +153,7 @@ pub(crate) fn close_and_part<R: Wait, G: Gate>(
     parts.add(operator)?;
     part_clients(&mut parts, clients)?;
     let Halves { halves, givers } = halve(alloc, crews)?;
-    close_halves(rt, scene, gate, &givers, &mut parts, halves)?;
+    close_halves(rt, alloc, scene, gate, &givers, &mut parts, halves)?;
     parts.givers = givers;
     Ok(parts)
 }

@@ -4,10 +4,11 @@ ghost use Rattle.thread_run.specs.Casts.{AreNoParts, HasCaller};
 
 use client_stub::Stub;
 use dc_centre::Centre;
-use dc_talk::{Log, Sent};
+use dc_talk::Log;
 use dc_worker::Inlet;
 use host_lock::Pass;
 use ids_core::NoMemory;
+use link_frames::Frame;
 use mail_link::{Giver, Taker};
 use phase_actors::Caller;
 use std::alloc::Global;
@@ -19,8 +20,8 @@ pub struct Parts {
     pub rows: Vec<Vec<Pass<Centre>>>,
     pub logs: Vec<Log>,
     pub stubs: Vec<Stub>,
-    pub givers: Vec<Vec<Giver<Sent>>>,
-    pub takers: Vec<Vec<Taker<Sent>>>,
+    pub givers: Vec<Vec<Giver<Frame>>>,
+    pub takers: Vec<Vec<Taker<Frame>>>,
     pub inlets: Vec<Vec<Inlet>>,
 }
 

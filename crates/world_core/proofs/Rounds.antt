@@ -2,19 +2,23 @@
 use Rattle.std.proofs.Common.{◌≡◌, ◌≢◌, ◌≤◌, ℕ, ◌+◌, ◌-◌, ◌*◌, Bool, false, List, map, length, Some, refl, sym, ap, ◌∙◌, subst, arith}
 use Rattle.std.specs.Prelude.{All, slice_set}
 use Rattle.std.proofs.lemmas.Option.{slice_get_within}
+use Rattle.list_core.specs.Members.{In}
+use Rattle.list_core.proofs.Members.{In_right}
+use Rattle.vv_core.specs.Vectors.{centres}
 use Rattle.dc_talk.specs.declared.log.Deed.{Deed}
 use Rattle.dc_talk.specs.declared.log.Note.{Note}
 use Rattle.dc_talk.specs.Rule.{client_after}
-use Rattle.dc_door.specs.KeptDoors.{shown_of, begun}
+use Rattle.dc_door.specs.KeptDoors.{shown_of, begun, trail_at, settings_of}
 use Rattle.script_core.specs.declared.script.Script.{Script}
 use Rattle.script_core.specs.declared.rounds.Role.TheVariants.{Sender, Receiver, Reporter, Pruner}
 use Rattle.script_core.specs.Steps.{IsCount}
+use Rattle.script_core.specs.Scripts.{IsInRange}
 use Rattle.script_core.specs.Mail.{due_in_round, due_at_close}
 use Rattle.script_core.proofs.Arriving.{due_lies, close_lies}
 use Rattle.script_core.proofs.RoundDeeds.{sender_carries, reporter_carries, pruner_carries}
 use Rattle.dc_mail.specs.Posts.{post_at}
 use Rattle.client_stub.specs.Playing.{StubView}
-use Rattle.run_book.specs.Setups.{setup_of}
+use Rattle.run_book.specs.Setups.{setup_of, settings_among}
 use Rattle.run_book.specs.Happenings.{Happened, trails_in, GoesToOneOf, CarrierDoes, IsCarrier, AreTogether}
 use Rattle.run_book.specs.Moves.{actor_of}
 use Rattle.run_book.specs.Played.{DoesSo}
@@ -28,7 +32,9 @@ use Rattle.run_table.specs.declared.works.Work.TheVariants.{Round, Close}
 use Rattle.run_table.specs.Works.{work_of}
 use Rattle.world_core.specs.Worlds.{IsWorld, stub_at, notes_in, stage_of, seen_of}
 use Rattle.run_table.specs.Tables.{HasMadeRound, stage_with, Turn, HasPosts}
+use Rattle.run_table.specs.Framing.{AreFramed}
 use Rattle.run_table.proofs.Acting.{worker_range}
+use Rattle.run_table.proofs.Framing.{deeds_framed}
 use Rattle.world_core.specs.Events.{TakesRound}
 use Rattle.world_core.proofs.Worlds.{centre_count, HasActed, more, world_then, histories_then, stub_got}
 use Rattle.world_core.proofs.Mail.{mail_after}
@@ -102,16 +108,22 @@ module _ (script : Script) (section number centre : ℕ) (work : Work) (old new 
         let carrier = work_carrier script.n script.clients centre work range in
         carrier_then script.n script.k (setup_of script) its.actor all (notes_in its worked) carrier w.together (histories_then its worked script spent old new worker_acted all w) go (may work carrier refl such)
 
-  posts : length old.door.centres ≡ script.n → HasPosts script.n (work_of centre work) worked old.posts new.posts
-  posts same = subst (λ n. HasPosts n (work_of centre work) worked old.posts new.posts) same h.works.posts
+  -- all that it mailed has frames
+  framed_all : IsInRange script → settings_of old.door.centres ≡ map (settings_among script.n script.k (setup_of script)) (centres script.n) → AreFramed worked
+  framed_all ranges settings = deeds_framed script ranges new.door.centres (h.turn_is.settings ∙ settings) h.turn_is.histories its.actor worked (λ i entry made.
+      let door = h.works.leaves.door in
+      subst (In entry) (sym (door.seen i)) (In_right (trail_at old.door.centres i) (door.more i) entry (door.there i entry made)))
+
+  posts : IsInRange script → settings_of old.door.centres ≡ map (settings_among script.n script.k (setup_of script)) (centres script.n) → length old.door.centres ≡ script.n → HasPosts script.n (work_of centre work) worked old.posts new.posts
+  posts ranges settings same = subst (λ n. HasPosts n (work_of centre work) worked old.posts new.posts) same (h.works.posts (framed_all ranges settings))
 
   -- it makes its round
-  pub round_taken : length old.door.centres ≡ script.n → (spent : Bool) → spent ≡ false → TakesRound its (work_of centre work) (seen_of script spent old) (seen_of script false new)
-  round_taken same spent fresh = record {
+  pub round_taken : IsInRange script → settings_of old.door.centres ≡ map (settings_among script.n script.k (setup_of script)) (centres script.n) → length old.door.centres ≡ script.n → (spent : Bool) → spent ≡ false → TakesRound its (work_of centre work) (seen_of script spent old) (seen_of script false new)
+  round_taken ranges settings same spent fresh = record {
     deeds = worked;
     such = does_with script.n number centre work script spent old worked (subst (λ n. DoesSo n (stage_with old.posts) number (work_of centre work) worked) same h.works.such);
     stubs = ap (λ stubs. stubs.items) h.stubs;
-    posts = posts same;
+    posts = posts ranges settings same;
     acts = record {
       script = refl;
       spent = sym fresh;
@@ -121,7 +133,7 @@ module _ (script : Script) (section number centre : ℕ) (work : Work) (old new 
       goes_on = λ all w. world_then its worked script spent old new worker_acted all w false
           (λ client stub is. w.stubs client stub (subst (λ stubs. stub_at stubs client ≡ Some stub) (ap (λ stubs. stubs.items) h.stubs) is)
           ∙ ap (client_after script.n client script.cache) (sym (other_then its.actor (client + 1) all (notes_in its worked) (apart spent all w client stub is))))
-          (mail_after script.n script.k (setup_of script) (work_of centre work) its worked all old.posts new.posts (together spent all w) (posts same) w.mail)
+          (mail_after script.n script.k (setup_of script) (work_of centre work) its worked all old.posts new.posts (together spent all w) (posts ranges settings same) w.mail)
           (together spent all w);
     };
   }

@@ -1,4 +1,4 @@
-use Rattle.std.proofs.Common.{◌≡◌, List, rules, refl, sym, ap, subst}
+use Rattle.std.proofs.Common.{◌≡◌, List, rules, refl, sym, ap, ◌∙◌, subst}
 use Rattle.dc_talk.specs.Acting.{acting, IsCutShort}
 use Rattle.dc_talk.proofs.Acting.{cut_none}
 use Rattle.dc_talk.specs.declared.sent.Sent.{Sent}
@@ -6,8 +6,23 @@ use Rattle.script_core.specs.Mail.{Post}
 use Rattle.dc_worker.specs.Brings.{BringsPart}
 use Rattle.dc_worker.proofs.Work.{err_turn}
 use Rattle.dc_mail.specs.Posts.{PostPart}
-use Rattle.dc_mail.proofs.Parts.{on_err, part_none, part_taken}
+use Rattle.dc_mail.proofs.Parts.{on_err, part_none, part_taken, part_off}
 use Rattle.dc_mail.proofs.spot.Spot.bring_round.Goals as goal
+
+pub returns-in_err-frames-clause-short : goal.returns-in_err-frames-clause-short
+returns-in_err-frames-clause-short g c =
+    let a = acting (g.D.Door.shown c.args.door.now) c.args.log.now in
+    let cut : IsCutShort a a = cut_none (g.D.Door.shown c.args.door.now) c.args.log.now c.args.log.now refl in
+    search rules
+
+pub returns-in_err-frames-clause-part : goal.returns-in_err-frames-clause-part
+returns-in_err-frames-clause-part g c =
+    let a = acting (g.D.Door.shown c.args.door.now) c.args.log.now in
+    let old : Post = record { waits = c.self.inside.waits.items; inlet = c.self.inside.inlet } in
+    let new : Post = record { waits = c.take_first.new.waits.items; inlet = c.self.inside.inlet } in
+    let same : old ≡ new = ap (λ (waits : List Sent). record { waits = waits; inlet = c.self.inside.inlet }) (sym c.in_err-frames.ensures.err) in
+    let here : PostPart c.args.at old new a a = subst (λ (new : Post). PostPart c.args.at old new a a) same (part_none c.args.at old a a (cut_none (g.D.Door.shown c.args.door.now) c.args.log.now c.args.log.now refl)) in
+    on_err c.from_residual.result (PostPart c.args.at c.args.self.now new a a) (subst (λ (old : Post). PostPart c.args.at old new a a) c.self.view_is here)
 
 pub returns-in_err-items-clause-short : goal.returns-in_err-items-clause-short
 returns-in_err-items-clause-short g c =
@@ -20,9 +35,8 @@ returns-in_err-items-clause-part g c =
     let a = acting (g.D.Door.shown c.args.door.now) c.args.log.now in
     let old : Post = record { waits = c.self.inside.waits.items; inlet = c.self.inside.inlet } in
     let new : Post = record { waits = c.take_first.new.waits.items; inlet = c.self.inside.inlet } in
-    let same : old ≡ new = ap (λ (waits : List Sent). record { waits = waits; inlet = c.self.inside.inlet }) (sym c.in_err-items.ensures.err) in
-    let here : PostPart c.args.at old new a a = subst (λ (new : Post). PostPart c.args.at old new a a) same (part_none c.args.at old a a (cut_none (g.D.Door.shown c.args.door.now) c.args.log.now c.args.log.now refl)) in
-    on_err c.from_residual.result (PostPart c.args.at c.args.self.now new a a) (subst (λ (old : Post). PostPart c.args.at old new a a) c.self.view_is here)
+    let here : PostPart c.args.at old new a a = part_off c.args.at old new c.in_ok-frames.frames.items a a c.in_ok-frames.ensures.taken c.in_ok-frames.ensures.rest refl (cut_none (g.D.Door.shown c.args.door.now) c.args.log.now c.args.log.now refl) in
+    on_err c.from_residual-in_err-items.result (PostPart c.args.at c.args.self.now new a a) (subst (λ (old : Post). PostPart c.args.at old new a a) c.self.view_is here)
 
 pub returns-clause-part : goal.returns-clause-part
 returns-clause-part g c =
@@ -31,5 +45,5 @@ returns-clause-part g c =
     let old : Post = record { waits = c.self.inside.waits.items; inlet = c.self.inside.inlet } in
     let new : Post = record { waits = c.take_first.new.waits.items; inlet = c.bring.new.inlet } in
     err_turn c.bring.result (BringsPart c.args.at c.in_ok-items.items.items c.self.inside.inlet c.bring.new.inlet a e) (PostPart c.args.at c.args.self.now new a e)
-    (λ got. subst (λ (old : Post). PostPart c.args.at old new a e) c.self.view_is (part_taken c.args.at old new c.in_ok-items.items.items a e c.in_ok-items.ensures.taken c.in_ok-items.ensures.rest got))
+    (λ got. subst (λ (old : Post). PostPart c.args.at old new a e) c.self.view_is (part_taken c.args.at old new c.in_ok-items.items.items a e (c.in_ok-items.ensures ∙ (c.deref.ensures.value ∙ c.in_ok-frames.ensures.taken)) c.in_ok-frames.ensures.rest got))
     c.bring.ensures.part

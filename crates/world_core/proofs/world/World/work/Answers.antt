@@ -23,7 +23,7 @@ invariant_of-self-2 c =
     let fresh : inside.spent ≡ false = ap (λ (w : WorldView). w.spent) c.self.view_is ∙ c.requires.fresh in
     let sound : IsSound (seen_of inside.script.now inside.spent inside.table) = c.self.invariant fresh in
     let range : IsCount inside.script.now.n c.args.centre = subst (λ (w : WorldView). IsCount w.script.n c.args.centre) (sym c.self.view_is) c.requires.centre in
-    let taken = round_taken inside.script.now c.args.section c.args.number c.args.centre c.args.does inside.table c.work.new.self c.in_ok-work.ensures.works range sound.world.log_count (centre_count (seen_of inside.script.now inside.spent inside.table) sound.all sound.world) inside.spent fresh in
+    let taken = round_taken inside.script.now c.args.section c.args.number c.args.centre c.args.does inside.table c.work.new.self c.in_ok-work.ensures.works range sound.world.log_count sound.range sound.world.settings (centre_count (seen_of inside.script.now inside.spent inside.table) sound.all sound.world) inside.spent fresh in
     λ same. goes_sound _ _ _ _ sound taken.acts
 
 pub returns-clause-works : goal.returns-clause-works
@@ -32,7 +32,7 @@ returns-clause-works c =
     let fresh : inside.spent ≡ false = ap (λ (w : WorldView). w.spent) c.self.view_is ∙ c.requires.fresh in
     let sound : IsSound (seen_of inside.script.now inside.spent inside.table) = c.self.invariant fresh in
     let range : IsCount inside.script.now.n c.args.centre = subst (λ (w : WorldView). IsCount w.script.n c.args.centre) (sym c.self.view_is) c.requires.centre in
-    let taken = round_taken inside.script.now c.args.section c.args.number c.args.centre c.args.does inside.table c.work.new.self c.in_ok-work.ensures.works range sound.world.log_count (centre_count (seen_of inside.script.now inside.spent inside.table) sound.all sound.world) inside.spent fresh in
+    let taken = round_taken inside.script.now c.args.section c.args.number c.args.centre c.args.does inside.table c.work.new.self c.in_ok-work.ensures.works range sound.world.log_count sound.range sound.world.settings (centre_count (seen_of inside.script.now inside.spent inside.table) sound.all sound.world) inside.spent fresh in
     subst (λ (old : WorldView). TakesRound (turn_of old.script c.args.section c.args.number (work_of c.args.centre c.args.does)) (work_of c.args.centre c.args.does) old (seen_of inside.script.now false c.work.new.self)) c.self.view_is taken
 
 pub returns-in_err-work-clause-part : goal.returns-in_err-work-clause-part
