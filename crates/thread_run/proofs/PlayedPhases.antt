@@ -176,7 +176,7 @@ module _ (scene : Scene) (old new : Table) (h : IsPhasePlayed scene old new) whe
       let actor : IsCount (actors_of scene.script.now) a = carrier_acts scene.script.now a (worker_carries scene.script.now.n scene.script.now.clients from Sender range) in
       let told : exchanged_in i found.0.deed ≡ Some pair = ap (exchanged_in i) (sym found.2) ∙ ap (λ test. cond test (Some pair) None) (eq-eqb i i refl) in
       let made = In_from_filter_map (λ (entry : Entry). cond (entry.caller == a) (Some (entry.ask, entry.say)) None) ((left_between old new).entries i) pair
-          (subst (In pair) (sym (paired_left i a centre actor)) (In_filter_map (λ (note : Note). exchanged_in i note.deed) notes found.0 pair found.1 told)) in
+      (subst (In pair) (sym (paired_left i a centre actor)) (In_filter_map (λ (note : Note). exchanged_in i note.deed) notes found.0 pair found.1 told)) in
       let so = asked_so a made.0 pair (made.0.caller == a) made.2 in
       let there : In made.0 (trail_at new.door.centres i) = subst (In made.0) (sym (trails_then i)) (In_right (trail_at old.door.centres i) ((left_between old new).entries i) made.0 made.1) in
       trail_fit scene.script.now h.run.begun.range new.door.centres table_then.settings table_then.histories i after most made.0 list there (ap (λ (pair : Ask × Say). pair.0) so) (ap (λ (pair : Ask × Say). pair.1) so))
