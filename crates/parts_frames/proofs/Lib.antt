@@ -1,0 +1,3 @@
+pub mod Folding
+pub mod Trails
+pub mod Seen
