@@ -1,10 +1,13 @@
 -- A centre with its journal in two files is asked what a trail has, group by group.
-use Rattle.std.proofs.Common.{◌≡◌, ◌≤◌, ℕ, false, List, [], ◌++◌, map, length, take, Result, Ok, Err, refl, sym, ◌∙◌, ap, subst, append_assoc}
+use Rattle.std.proofs.Common.{◌≡◌, ◌≤◌, ◌<◌, ◌*◌, ◌⊎◌, inl, inr, ⊎_elim, ℕ, Bool, true, false, List, [], ◌++◌, map, length, take, Result, Ok, Err, refl, sym, ◌∙◌, ap, subst, append_assoc, arith}
+use Rattle.std.specs.Prelude.{IsTrue, ◌↔◌}
+use Rattle.std.proofs.lemmas.Bool.{cases_lt}
 use Rattle.std.proofs.lemmas.List.{append-nil}
 use Rattle.journal_disk.specs.declared.disk.Disk.{Ghosts}
 use Rattle.journal_disk.specs.declared.disk.Moment.{Moment}
 use Rattle.journal_disk.specs.Disk.{Ran}
 use Rattle.journal_pair.specs.declared.pair.Pair.{Pair}
+use Rattle.journal_pair.specs.declared.pair.TheConstants.{FLOOR}
 use Rattle.journal_pair.specs.Files.{RanBeside}
 use Rattle.journal_pair.specs.Pairs as pair
 use Rattle.dc_talk.specs.declared.ask.Ask.{Ask}
@@ -14,15 +17,16 @@ use Rattle.dc_talk.specs.Entries.{Entry}
 use Rattle.dc_talk.specs.Answers.{History}
 use Rattle.dc_journal.specs.Answered.{said_in, answered, AreSame}
 use Rattle.dc_centre.specs.Centre.{CentreView, StandsFor}
+use Rattle.parts_frames.specs.Far.{HasFarRecord, HasStrayRecord}
 use Rattle.pair_centre.specs.declared.compacting.Compacted.{Compacted}
 use Rattle.pair_centre.specs.declared.compacting.Compacted.TheVariants.{Done, Unfit}
 use Rattle.pair_centre.specs.declared.pair_centre.PairCentre.{PairCentre}
 use Rattle.pair_centre.specs.Items.{item_bytes}
 use Rattle.pair_centre.specs.States.{IsStateOf}
-use Rattle.pair_centre.specs.Open.{settings_of, live_disk, other_disk, is_shut, IsSame, IsPairOf}
+use Rattle.pair_centre.specs.Open.{centre_of, settings_of, live_disk, other_disk, live_size, checkpoint_size, is_shut, IsSame, IsPairOf}
 use Rattle.trail_journal.specs.Files.{ask_in}
 use Rattle.trail_journal.proofs.Groups.{history_take, group_same}
-use Rattle.trail_pair.specs.Trails.{HasTrail}
+use Rattle.trail_pair.specs.Trails.{HasTrail, IsSmall, MayGrow}
 
 module _ {D : Type 0} {disk : Ghosts D} (stands : D → List Moment → Type 0) where
   -- all of a group was asked where each of its asks has a reply
@@ -75,6 +79,26 @@ module _ {D : Type 0} {disk : Ghosts D} (stands : D → List Moment → Type 0) 
   kept_by old new P front Done done unfit has = kept_small old new (P front) front has (done refl has.live has.other front has.live_stands has.other_stands has.is)
   kept_by old new P front Unfit done unfit has = kept_same old new front (unfit refl) has
 
+  -- where no checkpoint is due the live file is small
+  pub small_undue : (p : PairCentre D disk) (due : Bool) → IsTrue due ↔ ((FLOOR < live_size p) × (2 * checkpoint_size p < live_size p)) → due ≡ false → IsSmall p
+  small_undue p due is none = ⊎_elim
+      (λ long. ⊎_elim (λ more. absurd (not_true due (is.1 (long, more)) none)) (λ few. inr few) (cases_lt (2 * checkpoint_size p) (live_size p)))
+      (λ short. inl short)
+      (cases_lt FLOOR (live_size p))
+    where
+      not_true : (due : Bool) → IsTrue due → due ≡ false → ⊥
+      not_true due is none = cc
+
+  -- so it is with a new checkpoint, unless that was refused
+  pub small_by : (old new : PairCentre D disk) (front : List Entry) (made : Compacted)
+      → (made ≡ Done → (h k : List Moment) (trail : List Entry) → stands (live_disk old) h → stands (other_disk old) k → IsPairOf old h k trail → live_size new ≡ checkpoint_size new)
+      → (made ≡ Unfit → (h k : List Moment) (trail : List Entry) → stands (live_disk old) h → stands (other_disk old) k → IsPairOf old h k trail → HasFarRecord (settings_of old) trail ⊎ HasStrayRecord (centre_of old))
+      → (made ≡ Unfit → IsSame old new) → HasTrail stands old front → IsSmall new ⊎ MayGrow new front
+  small_by old new front Done done unfit same has =
+      let alone : live_size new ≡ checkpoint_size new = done refl has.live has.other front has.live_stands has.other_stands has.is in
+      inl (inr (omega (arith, alone)))
+  small_by old new front Unfit done unfit same has = inr (subst (λ (c : CentreView). HasFarRecord c.settings front ⊎ HasStrayRecord c) (sym (same refl).0) (unfit refl has.live has.other front has.live_stands has.other_stands has.is))
+
   -- a centre was asked all of a trail but the rest
   pub record HasAsked (old new : PairCentre D disk) (trail rest : List Entry) : Type 0 where
     pub front : List Entry
@@ -82,39 +106,53 @@ module _ {D : Type 0} {disk : Ghosts D} (stands : D → List Moment → Type 0) 
     pub numbers : settings_of new ≡ settings_of old
     pub unshut : is_shut new ≡ false
     pub stood : (before : List Entry) → HasTrail stands old before → History (settings_of old) (before ++ trail) → HasTrail stands new (before ++ front)
+    pub small : (before : List Entry) → HasTrail stands old before → History (settings_of old) (before ++ trail) → IsSmall new ⊎ MayGrow new (before ++ front)
 
   -- nothing was asked so far
-  pub asked_none : (old : PairCentre D disk) (trail : List Entry) → is_shut old ≡ false → HasAsked old old trail trail
-  asked_none old trail unshut = record {
+  pub asked_none : (old new : PairCentre D disk) (trail : List Entry) → settings_of new ≡ settings_of old → is_shut new ≡ false
+      → ((before : List Entry) → HasTrail stands old before → HasTrail stands new before) → ((before : List Entry) → HasTrail stands old before → IsSmall new ⊎ MayGrow new before) → HasAsked old new trail trail
+  asked_none old new trail numbers unshut stood small = record {
     front = [];
     is = refl;
-    numbers = refl;
+    numbers = numbers;
     unshut = unshut;
-    stood = λ before has history. subst (λ (l : List Entry). HasTrail stands old l) (sym (append-nil before)) has;
+    stood = λ before has history. subst (λ (l : List Entry). HasTrail stands new l) (sym (append-nil before)) (stood before has);
+    small = λ before has history. subst (λ (l : List Entry). IsSmall new ⊎ MayGrow new l) (sym (append-nil before)) (small before has);
   }
 
   -- the next group was asked
   pub asked_more : (old mid new : PairCentre D disk) (trail rest group behind : List Entry) → (asked : HasAsked old mid trail rest) → rest ≡ group ++ behind → settings_of new ≡ settings_of mid → is_shut new ≡ false
       → ((front : List Entry) → HasTrail stands mid front → History (settings_of mid) (front ++ group) → HasTrail stands new (front ++ group))
+      → ((front : List Entry) → HasTrail stands mid front → History (settings_of mid) (front ++ group) → IsSmall new ⊎ MayGrow new (front ++ group))
       → HasAsked old new trail behind
-  asked_more old mid new trail rest group behind asked split numbers unshut next = record {
+  asked_more old mid new trail rest group behind asked split numbers unshut next small = record {
     front = asked.front ++ group;
     is = is;
     numbers = numbers ∙ asked.numbers;
     unshut = unshut;
-    stood = λ before has history.
-        let whole : before ++ trail ≡ ((before ++ asked.front) ++ group) ++ behind = ap (λ (l : List Entry). before ++ l) is ∙ sym (append_assoc before (asked.front ++ group) behind) ∙ ap (λ (l : List Entry). l ++ behind) (sym (append_assoc before asked.front group)) in
-        let part : History (settings_of old) ((before ++ asked.front) ++ group) = history_take (settings_of old) ((before ++ asked.front) ++ group) behind (subst (λ l. History (settings_of old) l) whole history) in
-        let part_mid : History (settings_of mid) ((before ++ asked.front) ++ group) = subst (λ (s : Settings). History s ((before ++ asked.front) ++ group)) (sym asked.numbers) part in
-        subst (λ (l : List Entry). HasTrail stands new l) (append_assoc before asked.front group) (next (before ++ asked.front) (asked.stood before has history) part_mid);
+    stood = λ before has history. subst (λ (l : List Entry). HasTrail stands new l) (append_assoc before asked.front group) (next (before ++ asked.front) (asked.stood before has history) (part before history));
+    small = λ before has history. subst (λ (l : List Entry). IsSmall new ⊎ MayGrow new l) (append_assoc before asked.front group) (small (before ++ asked.front) (asked.stood before has history) (part before history));
   }
     where
       is : trail ≡ (asked.front ++ group) ++ behind
       is = asked.is ∙ ap (λ (l : List Entry). asked.front ++ l) split ∙ sym (append_assoc asked.front group behind)
 
-  -- no rest is left
+      part : (before : List Entry) → History (settings_of old) (before ++ trail) → History (settings_of mid) ((before ++ asked.front) ++ group)
+      part before history =
+          let whole : before ++ trail ≡ ((before ++ asked.front) ++ group) ++ behind = ap (λ (l : List Entry). before ++ l) is ∙ sym (append_assoc before (asked.front ++ group) behind) ∙ ap (λ (l : List Entry). l ++ behind) (sym (append_assoc before asked.front group)) in
+          subst (λ (s : Settings). History s ((before ++ asked.front) ++ group)) (sym asked.numbers) (history_take (settings_of old) ((before ++ asked.front) ++ group) behind (subst (λ l. History (settings_of old) l) whole history))
+
+  -- where no rest is left all was asked
+  whole_asked : (old new : PairCentre D disk) (trail rest : List Entry) → (asked : HasAsked old new trail rest) → rest ≡ [] → asked.front ≡ trail
+  whole_asked old new trail rest asked none = sym (append-nil asked.front) ∙ ap (λ (l : List Entry). asked.front ++ l) (sym none) ∙ sym asked.is
+
+  -- then it stands for it
   pub asked_all : (old new : PairCentre D disk) (trail rest : List Entry) → HasAsked old new trail rest → rest ≡ []
       → (front : List Entry) → HasTrail stands old front → History (settings_of old) (front ++ trail) → HasTrail stands new (front ++ trail)
   asked_all old new trail rest asked none front has history =
-      let whole : asked.front ≡ trail = sym (append-nil asked.front) ∙ ap (λ (l : List Entry). asked.front ++ l) (sym none) ∙ sym asked.is in
-      subst (λ (l : List Entry). HasTrail stands new (front ++ l)) whole (asked.stood front has history)
+      subst (λ (l : List Entry). HasTrail stands new (front ++ l)) (whole_asked old new trail rest asked none) (asked.stood front has history)
+
+  -- so the live file is small
+  pub small_all : (old new : PairCentre D disk) (trail rest : List Entry) → HasAsked old new trail rest → rest ≡ []
+      → (front : List Entry) → HasTrail stands old front → History (settings_of old) (front ++ trail) → IsSmall new ⊎ MayGrow new (front ++ trail)
+  small_all old new trail rest asked none front has history = subst (λ (l : List Entry). IsSmall new ⊎ MayGrow new (front ++ l)) (whole_asked old new trail rest asked none) (asked.small front has history)

@@ -1,9 +1,9 @@
 // A centre with its journal in two files is asked what a trail has.
-ghost use Rattle.std.specs.Prelude.{◌≡◌, ◌++◌, false, List, IsOk, IsErrOf, OnOk};
+ghost use Rattle.std.specs.Prelude.{◌≡◌, ◌++◌, ◌⊎◌, false, List, IsOk, IsErrOf, OnOk};
 ghost use Rattle.dc_talk.specs.Answers.{History};
 ghost use Rattle.dc_talk.specs.Entries.{Entry as EntryOf};
 ghost use Rattle.pair_centre.specs.Open.{settings_of, is_shut};
-ghost use Rattle.trail_pair.specs.Trails.{HasTrail, HasFailed};
+ghost use Rattle.trail_pair.specs.Trails.{HasTrail, HasFailed, IsSmall, MayGrow};
 
 use dc_talk::Entry;
 use journal_disk::Disk;
@@ -15,8 +15,8 @@ use trail_journal::asks_in;
 /// How many asks of a trail are made at once, behind one gate of the journal.
 pub const GROUP: usize = 64;
 
-/// Asks a centre all asks of a trail, group by group, and has it make a checkpoint behind each group after which that is
-/// due. Where it stood for a front of a history, and these are the entries behind that, it stands for the history then. An
+/// Asks a centre all asks of a trail, group by group, and has it make a checkpoint before them, and behind each group, where
+/// that is due. So its live file is small then. Where it stood for a front of a history, and these are the entries behind that, it stands for the history then. An
 /// `Err` is that the call of a disk failed, or that memory ran out. It was then asked some of the first groups, and no clause
 /// says which.
 pub fn ask_trail<D: Disk>(
@@ -26,11 +26,13 @@ pub fn ask_trail<D: Disk>(
 ) -> Result<(), JournalFault>
     requires { is_shut pair.old ≡ false }
     ensures stands { OnOk result ((front : List EntryOf) → HasTrail D.stands pair.old front → History (settings_of pair.old) (front ++ trail.now) → HasTrail D.stands pair.new (front ++ trail.now)) }
+    ensures small { OnOk result ((front : List EntryOf) → HasTrail D.stands pair.old front → History (settings_of pair.old) (front ++ trail.now) → IsSmall pair.new ⊎ MayGrow pair.new (front ++ trail.now)) }
     ensures numbers { settings_of pair.new ≡ settings_of pair.old }
     ensures open { IsOk result → is_shut pair.new ≡ false }
     ensures no_shut { IsErrOf result JournalFault.Shut → ⊥ }
     ensures failed { IsErrOf result JournalFault.Disk → HasFailed D.faults pair.new }
 {
+    keep_small(pair)?;
     let mut rest = trail;
     'groups: while !rest.is_empty() {
         let (group, behind) = rest.split_at(rest.len().min(GROUP));
@@ -66,6 +68,7 @@ fn ask_group<D: Disk>(
 fn keep_small<D: Disk>(pair: &mut PairCentre<D>) -> Result<(), JournalFault>
     requires { is_shut pair.old ≡ false }
     ensures stands { OnOk result ((front : List EntryOf) → HasTrail D.stands pair.old front → HasTrail D.stands pair.new front) }
+    ensures small { OnOk result ((front : List EntryOf) → HasTrail D.stands pair.old front → IsSmall pair.new ⊎ MayGrow pair.new front) }
     ensures numbers { settings_of pair.new ≡ settings_of pair.old }
     ensures open { IsOk result → is_shut pair.new ≡ false }
     ensures no_shut { IsErrOf result JournalFault.Shut → ⊥ }
