@@ -28,7 +28,7 @@ const GROUP: u32 = 63;
 // counters, in turn.
 fn commit_of(alloc: Global, number: u32, objects: u32) -> Result<Ask, Fault> {
     let which = number.checked_rem(objects).unwrap_or(0);
-    let object = counter(format!(in alloc; "counter-{which}")?.as_str())?;
+    let object = counter(format!(in alloc; "counter_{which}")?.as_str())?;
     let dot = Dot {
         client: number % MOST_CLIENTS + 1,
         number: u64::from(number / MOST_CLIENTS) + 1,
