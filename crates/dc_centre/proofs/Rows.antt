@@ -1,8 +1,8 @@
 -- Rows that hold the applied records of each origin above trimmed's entry.
 use Rattle.std.proofs.Common.{◌≡◌, ◌≢◌, ℕ, zero, suc, ◌-◌, ◌≤◌, ◌<◌, true, false, cond, ◌⊎◌, inl, inr, ⊎_elim, List, [], ◌∷◌, ◌++◌, length, map, take, drop, refl, sym, ap, ◌∙◌, subst, arith}
 use Rattle.std.specs.Prelude.{replicate, slice_index_or, slice_set, nat_le, ◌==◌}
-use Rattle.std.proofs.lemmas.Bool.{cases_Bool, cases_eq, eq-eqb, eqb-true, le-leb, leb-true, leb-false}
-use Rattle.std.proofs.lemmas.List.{get_or-set_same, get_or-set_other, get_or-map, map-set, set-get_or, length-set, drop-append-le, append-nil, length-append, length-replicate}
+use Rattle.std.proofs.lemmas.Bool.{cases_Bool, cases_lt, cases_eq, eq-eqb, eqb-true, le-leb, leb-true, leb-false}
+use Rattle.std.proofs.lemmas.List.{get_or_past, get_or-set_same, get_or-set_other, get_or-map, map-set, set-get_or, length-set, drop-append-le, append-nil, length-append, length-replicate}
 use Rattle.std.proofs.lemmas.List.Elements.{filter-append}
 use Rattle.ids_core.specs.declared.limits.TheConstants.{MOST_CENTRES}
 use Rattle.vv_core.specs.Vectors.{at, zeros}
@@ -27,6 +27,7 @@ keeps_put n rows trimmed C x most_n k low high = record {
   long = length-set rows (o - 1) (row_of rows o ++ x ∷ []) ∙ k.long;
   each = λ e least most. each e least most (cases_eq o e);
   few = λ e least most. few e least most;
+  none = λ e past. get_or-set_other rows (o - 1) (e - 1) (row_of rows o ++ x ∷ []) [] (λ same. omega (arith, low, high, past, same)) ∙ k.none e past;
 }
   where
     o : ℕ
@@ -57,6 +58,7 @@ keeps_trim n rows later low high C k t above here = record {
   long = t.long ∙ k.long;
   each = λ e least most. t.each e least most ∙ (ap (drop (at high e - at low e)) (k.each e least most) ∙ kept_past (of_origin e C) (at low e) (at high e) (above e));
   few = here;
+  none = λ e past. t.others e past ∙ k.none e past;
 }
 
 -- what is asked for
@@ -133,7 +135,17 @@ trimmed_more k gone low high old now new t within count is = record {
 
 -- of as many as the vectors have
 pub trimmed_all : (n : ℕ) (low high : List ℕ) (old new : List (List Sent)) → HasTrimmedFirst n low high old new → HasTrimmed n low high old new
-trimmed_all n low high old new t = record { long = t.long; each = λ e least most. t.each e least (let few = t.few in omega (arith, most, few)) ∙ ap (λ b. cond b (drop (at high e - at low e) (row_of old e)) (row_of old e)) (le-leb e n most) }
+trimmed_all n low high old new t = record {
+  long = t.long;
+  each = λ e least most. t.each e least (let few = t.few in omega (arith, most, few)) ∙ ap (λ b. cond b (drop (at high e - at low e) (row_of old e)) (row_of old e)) (le-leb e n most);
+  others = λ e past. ⊎_elim (outside e) (inside e past) (cases_lt (length old) e);
+}
+  where
+    outside : (e : ℕ) → length old < e → row_of new e ≡ row_of old e
+    outside e past = get_or_past new (e - 1) [] (let long = t.long in omega (arith, past, long)) ∙ sym (get_or_past old (e - 1) [] (omega (arith, past)))
+
+    inside : (e : ℕ) → n < e → e ≤ length old → row_of new e ≡ row_of old e
+    inside e past within = t.each e (omega (arith, past)) within ∙ ap (λ b. cond b (drop (at high e - at low e) (row_of old e)) (row_of old e)) (above e n past)
 
 -- ---- at first
 
@@ -143,6 +155,7 @@ keeps_none n rows is few = record {
   long = ap (λ (l : List (List Sent)). length l) is ∙ length-replicate MOST_CENTRES the_none;
   each = λ e least most. ap (λ rows. row_of rows e) is ∙ (empty (e - 1) MOST_CENTRES ∙ sym (drop-nil (at (zeros n) e)));
   few = λ e least most. let none = at-zeros n e in omega (arith, none);
+  none = λ e past. ap (λ rows. row_of rows e) is ∙ empty (e - 1) MOST_CENTRES;
 }
   where
     empty : (p m : ℕ) → slice_index_or (replicate m (the_none)) p [] ≡ []

@@ -1,5 +1,5 @@
 // A checkpoint takes the place of all asks so far.
-ghost use Rattle.std.specs.Prelude.{◌≡◌, ◌⊎◌, ◌<◌, ◌*◌, ◌↔◌, true, false, List, Ok, Err, IfOk, IsOk, IsErrOf, IsTrue, OnErr};
+ghost use Rattle.std.specs.Prelude.{◌≡◌, ◌<◌, ◌*◌, ◌↔◌, true, false, List, Ok, Err, IfOk, IsOk, IsErrOf, IsTrue, OnErr};
 ghost use Rattle.journal_disk.specs.declared.disk.Moment.{Moment};
 ghost use Rattle.journal_disk.specs.Disk.{HasRisen};
 ghost use Rattle.journal_pair.specs.declared.pair.TheConstants.{FLOOR};
@@ -12,7 +12,7 @@ ghost use Rattle.dc_centre.specs.Centre.{StandsFor};
 ghost use Rattle.dc_centre.specs.Parts.{ArePartsOf};
 ghost use Rattle.parts_codec.specs.Plain.{plain_centre, AreOfKind};
 ghost use Rattle.parts_codec.specs.Spelling.{IsSpelledCentre};
-ghost use Rattle.parts_frames.specs.Far.{HasFarRecord, HasStrayRecord};
+ghost use Rattle.parts_frames.specs.Far.{HasFarRecord};
 ghost use Rattle.pair_centre.specs.States.{IsPairFileOf, IsCheckpointOf};
 ghost use Rattle.pair_centre.specs.declared.compacting.Compacted.TheVariants.{Done, Unfit};
 
@@ -26,13 +26,12 @@ use parts_frames::see_centre;
 use state_codec::{NotMade, NotPut};
 use std::alloc::Global;
 
-// The checkpoint of what a centre keeps. It is `Unfit` only where the parts of the centre have no bytes, or a state of another
-// kind than its object. Where the centre stands for a history, that has a record with too many hops, or the outbox one for an origin
-// that is none of the centres.
+// The checkpoint of what a centre keeps. It is `Unfit` only where the parts of the centre have no bytes, or a state of
+// another kind than its object. Where the centre stands for a history, that has a record with too many hops.
 fn checkpoint_of(alloc: Global, centre: &Centre) -> Result<Vec<PairItem>, NotPut>
     ensures made { IfOk result (λ checkpoint. (trail : List Entry) → StandsFor centre.now trail → IsCheckpointOf centre.now.settings trail checkpoint.items) }
     ensures unfit { IsErrOf result NotPut.Unfit → (parts : PartsOf) → MeetsAll parts → ArePartsOf centre.now parts → AreOfKind parts → IsSpelledCentre (plain_centre parts) → ⊥ }
-    ensures unfit_by { IsErrOf result NotPut.Unfit → (trail : List Entry) → History centre.now.settings trail → StandsFor centre.now trail → HasFarRecord centre.now.settings trail ⊎ HasStrayRecord centre.now }
+    ensures unfit_by { IsErrOf result NotPut.Unfit → (trail : List Entry) → History centre.now.settings trail → StandsFor centre.now trail → HasFarRecord centre.now.settings trail }
 {
     let Ok(parts) = centre.parts(alloc) else {
         return Err(NotPut::NoMemory);
@@ -65,26 +64,25 @@ pub enum Compacted {
 impl<D: Disk> PairCentre<D> {
     ghost use Rattle.pair_centre.specs.Open.{centre_of, settings_of, live_disk, other_disk, live_size, checkpoint_size, is_shut, IsSame, IsPairOf};
 
-    /// Whether its live file is longer than `journal_pair::FLOOR`, and more than twice as long as it was with its checkpoint
-    /// alone. Then it is time to compact it.
+    /// Whether its live file is longer than `journal_pair::FLOOR`, and more than twice as long as it was with its
+    /// checkpoint alone. Then it is time to compact it.
     pub fn is_due(&self) -> bool
         ensures { IsTrue result ↔ ((FLOOR < live_size self.now) × (2 * checkpoint_size self.now < live_size self.now)) }
     {
         self.pair.is_due()
     }
 
-    /// Makes a checkpoint of what the centre keeps in the other file, which then is the live one and has nothing else. A
-    /// crash at any moment of the call leaves the files of the same trail, and so does an `Err` that did not shut it. It is
-    /// `Unfit` only where the parts of the centre have no bytes, or a state of another kind than its object: where a record
-    /// that it has came with more hops than a delivery may have, or its outbox has a record for an origin that is none of the
-    /// centres.
+    /// Makes a checkpoint of what the centre keeps in the other file, which then is the live one and has nothing else.
+    /// A crash at any moment of the call leaves the files of the same trail, and so does an `Err` that did not shut it.
+    /// It is `Unfit` only where the parts of the centre have no bytes, or a state of another kind than its object:
+    /// where it has a record with more hops than a delivery may have.
     pub fn compact(&mut self) -> Result<Compacted, JournalFault>
         ensures done { result ≡ Ok Done → (h k : List Moment) (trail : List Entry) → D.stands (live_disk self.old) h → D.stands (other_disk self.old) k → IsPairOf self.old h k trail
             → (RanBeside (D.stands (live_disk self.new)) k h (IsPairFileOf (settings_of self.old) trail) (λ later. IsPairOf self.new later h trail)) × (D.stands (other_disk self.new) h) }
         ensures small { result ≡ Ok Done → (h k : List Moment) (trail : List Entry) → D.stands (live_disk self.old) h → D.stands (other_disk self.old) k → IsPairOf self.old h k trail → live_size self.new ≡ checkpoint_size self.new }
         ensures unfit { result ≡ Ok Unfit → IsSame self.old self.new }
         ensures cause { result ≡ Ok Unfit → (parts : PartsOf) → MeetsAll parts → ArePartsOf (centre_of self.old) parts → AreOfKind parts → IsSpelledCentre (plain_centre parts) → ⊥ }
-        ensures unfit_by { result ≡ Ok Unfit → (h k : List Moment) (trail : List Entry) → D.stands (live_disk self.old) h → D.stands (other_disk self.old) k → IsPairOf self.old h k trail → HasFarRecord (settings_of self.old) trail ⊎ HasStrayRecord (centre_of self.old) }
+        ensures unfit_by { result ≡ Ok Unfit → (h k : List Moment) (trail : List Entry) → D.stands (live_disk self.old) h → D.stands (other_disk self.old) k → IsPairOf self.old h k trail → HasFarRecord (settings_of self.old) trail }
         ensures kept { OnErr result ((h k : List Moment) (trail : List Entry) → is_shut self.old ≡ false → D.stands (live_disk self.old) h → D.stands (other_disk self.old) k → IsPairOf self.old h k trail
             → (RanBeside (D.stands (other_disk self.new)) k h (IsPairFileOf (settings_of self.old) trail) (λ later. is_shut self.new ≡ false → IsPairOf self.new h later trail)) × (D.stands (live_disk self.new) h)) }
         ensures settings { settings_of self.new ≡ settings_of self.old }

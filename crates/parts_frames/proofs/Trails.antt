@@ -53,7 +53,7 @@ use Rattle.dc_centre.specs.Parts.{ArePartsOf}
 use Rattle.state_codec.specs.Plain.{plain_of}
 use Rattle.parts_codec.specs.Plain.{plain_part, plain_centre}
 use Rattle.parts_frames.specs.Ranges.{IsRangedState, IsRangedPart, IsRangedRest, IsRangedSent, IsRangedCentre}
-use Rattle.parts_frames.specs.Far.{HasFarRecord, HasStrayRecord}
+use Rattle.parts_frames.specs.Far.{HasFarRecord}
 use Rattle.parts_frames.proofs.Folding.{IsFitAlone, plain_after}
 
 -- all of them hold it, or the first that does not has the other
@@ -152,32 +152,28 @@ module _ (c : CentreView) (trail : List Entry) (parts : CentreParts) (history : 
   sent_ranged : (sent : Sent) → In sent C → HasFarRecord c.settings trail ⊎ IsRangedSent sent
   sent_ranged sent i = ⊎_elim (λ far. inl (record { sent = sent; there = i; far = far })) (λ near. inr (delivered_from c.settings trail known sent (carried_is c.settings trail known sent i) near)) (cases_lt MOST_HOPS sent.hops)
 
-  abbrev Cause : Type 0
-  Cause = HasFarRecord c.settings trail ⊎ HasStrayRecord c
-
   -- the same of each record of a row
-  row_ranged : (e : ℕ) → 1 ≤ e → (sent : Sent) → In sent (row_of c.outbox e) → Cause ⊎ IsRangedSent sent
+  row_ranged : (e : ℕ) → 1 ≤ e → (sent : Sent) → In sent (row_of c.outbox e) → HasFarRecord c.settings trail ⊎ IsRangedSent sent
   row_ranged e low sent i = ⊎_elim stray own (cases_lt c.settings.n e)
     where
-      stray : c.settings.n < e → Cause ⊎ IsRangedSent sent
-      stray high = inl (inr (record { origin = e; high = high; sent = sent; there = i }))
+      stray : c.settings.n < e → HasFarRecord c.settings trail ⊎ IsRangedSent sent
+      stray high = absurd (subst (In sent) (stands.holds.outbox.none e high) i)
 
-      own : e ≤ c.settings.n → Cause ⊎ IsRangedSent sent
+      own : e ≤ c.settings.n → HasFarRecord c.settings trail ⊎ IsRangedSent sent
       own high =
           let there = subst (In sent) (stands.holds.outbox.each e low high) i in
-          let carried_too = (In_from_filter _ C sent (In_drop _ (of_origin e C) sent there)).0 in
-          ⊎_elim (λ far. inl (inl far)) inr (sent_ranged sent carried_too)
+          sent_ranged sent (In_from_filter _ C sent (In_drop _ (of_origin e C) sent there)).0
 
   -- and of all rows
-  outbox_ranged : Cause ⊎ All (All IsRangedSent) c.outbox
-  outbox_ranged = each_or (All IsRangedSent) Cause c.outbox row
+  outbox_ranged : HasFarRecord c.settings trail ⊎ All (All IsRangedSent) c.outbox
+  outbox_ranged = each_or (All IsRangedSent) (HasFarRecord c.settings trail) c.outbox row
     where
-      row : (sents : List Sent) → In sents c.outbox → Cause ⊎ All IsRangedSent sents
+      row : (sents : List Sent) → In sents c.outbox → HasFarRecord c.settings trail ⊎ All IsRangedSent sents
       row sents i =
           let place = In_get c.outbox sents i in
           let back : place.0 + 1 - 1 ≡ place.0 = omega arith in
           let here : row_of c.outbox (place.0 + 1) ≡ sents = ap (λ k. get_or c.outbox k []) back ∙ get_or_from_slice_get c.outbox place.0 sents [] place.1 in
-          each_or IsRangedSent Cause sents (λ sent j. row_ranged (place.0 + 1) (omega arith) sent (subst (In sent) (sym here) j))
+          each_or IsRangedSent (HasFarRecord c.settings trail) sents (λ sent j. row_ranged (place.0 + 1) (omega arith) sent (subst (In sent) (sym here) j))
 
-  pub ranged : HasFarRecord c.settings trail ⊎ (HasStrayRecord c ⊎ IsRangedCentre (plain_centre parts))
-  ranged = ⊎_elim (⊎_elim inl (λ stray. inr (inl stray))) (λ outbox. inr (inr (record { states = states_ranged; rest = rest_ranged; outbox = subst (All (All IsRangedSent)) (sym are.outbox) outbox }))) outbox_ranged
+  pub ranged : HasFarRecord c.settings trail ⊎ IsRangedCentre (plain_centre parts)
+  ranged = ⊎_elim inl (λ outbox. inr (record { states = states_ranged; rest = rest_ranged; outbox = subst (All (All IsRangedSent)) (sym are.outbox) outbox })) outbox_ranged

@@ -7,8 +7,8 @@ use crate::see::See;
 use dc_talk::Settings;
 use parts_codec::PlainCentre;
 
-/// The plain parts of a centre have bytes if their states are states, and their numbers are in range. The call changes nothing. It
-/// takes no memory.
+/// The plain parts of a centre have bytes if their states are states, and their numbers are in range. The call changes
+/// nothing. It takes no memory.
 pub fn see_centre(centre: &PlainCentre)
     ensures { HasParts centre.now → IsRangedCentre centre.now → IsSpelledCentre centre.now }
 {

@@ -17,16 +17,16 @@ use Rattle.dc_talk.specs.Entries.{Entry}
 use Rattle.dc_talk.specs.Answers.{History}
 use Rattle.dc_journal.specs.Answered.{said_in, answered, AreSame}
 use Rattle.dc_centre.specs.Centre.{CentreView, StandsFor}
-use Rattle.parts_frames.specs.Far.{HasFarRecord, HasStrayRecord}
+use Rattle.parts_frames.specs.Far.{HasFarRecord}
 use Rattle.pair_centre.specs.declared.compacting.Compacted.{Compacted}
 use Rattle.pair_centre.specs.declared.compacting.Compacted.TheVariants.{Done, Unfit}
 use Rattle.pair_centre.specs.declared.pair_centre.PairCentre.{PairCentre}
 use Rattle.pair_centre.specs.Items.{item_bytes}
 use Rattle.pair_centre.specs.States.{IsStateOf}
-use Rattle.pair_centre.specs.Open.{centre_of, settings_of, live_disk, other_disk, live_size, checkpoint_size, is_shut, IsSame, IsPairOf}
+use Rattle.pair_centre.specs.Open.{settings_of, live_disk, other_disk, live_size, checkpoint_size, is_shut, IsSame, IsPairOf}
 use Rattle.trail_journal.specs.Files.{ask_in}
 use Rattle.trail_journal.proofs.Groups.{history_take, group_same}
-use Rattle.trail_pair.specs.Trails.{HasTrail, IsSmall, MayGrow}
+use Rattle.trail_pair.specs.Trails.{HasTrail, IsSmall}
 
 module _ {D : Type 0} {disk : Ghosts D} (stands : D → List Moment → Type 0) where
   -- all of a group was asked where each of its asks has a reply
@@ -92,12 +92,12 @@ module _ {D : Type 0} {disk : Ghosts D} (stands : D → List Moment → Type 0) 
   -- so it is with a new checkpoint, unless that was refused
   pub small_by : (old new : PairCentre D disk) (front : List Entry) (made : Compacted)
       → (made ≡ Done → (h k : List Moment) (trail : List Entry) → stands (live_disk old) h → stands (other_disk old) k → IsPairOf old h k trail → live_size new ≡ checkpoint_size new)
-      → (made ≡ Unfit → (h k : List Moment) (trail : List Entry) → stands (live_disk old) h → stands (other_disk old) k → IsPairOf old h k trail → HasFarRecord (settings_of old) trail ⊎ HasStrayRecord (centre_of old))
-      → (made ≡ Unfit → IsSame old new) → HasTrail stands old front → IsSmall new ⊎ MayGrow new front
+      → (made ≡ Unfit → (h k : List Moment) (trail : List Entry) → stands (live_disk old) h → stands (other_disk old) k → IsPairOf old h k trail → HasFarRecord (settings_of old) trail)
+      → (made ≡ Unfit → IsSame old new) → HasTrail stands old front → IsSmall new ⊎ HasFarRecord (settings_of new) front
   small_by old new front Done done unfit same has =
       let alone : live_size new ≡ checkpoint_size new = done refl has.live has.other front has.live_stands has.other_stands has.is in
       inl (inr (omega (arith, alone)))
-  small_by old new front Unfit done unfit same has = inr (subst (λ (c : CentreView). HasFarRecord c.settings front ⊎ HasStrayRecord c) (sym (same refl).0) (unfit refl has.live has.other front has.live_stands has.other_stands has.is))
+  small_by old new front Unfit done unfit same has = inr (subst (λ (c : CentreView). HasFarRecord c.settings front) (sym (same refl).0) (unfit refl has.live has.other front has.live_stands has.other_stands has.is))
 
   -- a centre was asked all of a trail but the rest
   pub record HasAsked (old new : PairCentre D disk) (trail rest : List Entry) : Type 0 where
@@ -106,24 +106,24 @@ module _ {D : Type 0} {disk : Ghosts D} (stands : D → List Moment → Type 0) 
     pub numbers : settings_of new ≡ settings_of old
     pub unshut : is_shut new ≡ false
     pub stood : (before : List Entry) → HasTrail stands old before → History (settings_of old) (before ++ trail) → HasTrail stands new (before ++ front)
-    pub small : (before : List Entry) → HasTrail stands old before → History (settings_of old) (before ++ trail) → IsSmall new ⊎ MayGrow new (before ++ front)
+    pub small : (before : List Entry) → HasTrail stands old before → History (settings_of old) (before ++ trail) → IsSmall new ⊎ HasFarRecord (settings_of new) (before ++ front)
 
   -- nothing was asked so far
   pub asked_none : (old new : PairCentre D disk) (trail : List Entry) → settings_of new ≡ settings_of old → is_shut new ≡ false
-      → ((before : List Entry) → HasTrail stands old before → HasTrail stands new before) → ((before : List Entry) → HasTrail stands old before → IsSmall new ⊎ MayGrow new before) → HasAsked old new trail trail
+      → ((before : List Entry) → HasTrail stands old before → HasTrail stands new before) → ((before : List Entry) → HasTrail stands old before → IsSmall new ⊎ HasFarRecord (settings_of new) before) → HasAsked old new trail trail
   asked_none old new trail numbers unshut stood small = record {
     front = [];
     is = refl;
     numbers = numbers;
     unshut = unshut;
     stood = λ before has history. subst (λ (l : List Entry). HasTrail stands new l) (sym (append-nil before)) (stood before has);
-    small = λ before has history. subst (λ (l : List Entry). IsSmall new ⊎ MayGrow new l) (sym (append-nil before)) (small before has);
+    small = λ before has history. subst (λ (l : List Entry). IsSmall new ⊎ HasFarRecord (settings_of new) l) (sym (append-nil before)) (small before has);
   }
 
   -- the next group was asked
   pub asked_more : (old mid new : PairCentre D disk) (trail rest group behind : List Entry) → (asked : HasAsked old mid trail rest) → rest ≡ group ++ behind → settings_of new ≡ settings_of mid → is_shut new ≡ false
       → ((front : List Entry) → HasTrail stands mid front → History (settings_of mid) (front ++ group) → HasTrail stands new (front ++ group))
-      → ((front : List Entry) → HasTrail stands mid front → History (settings_of mid) (front ++ group) → IsSmall new ⊎ MayGrow new (front ++ group))
+      → ((front : List Entry) → HasTrail stands mid front → History (settings_of mid) (front ++ group) → IsSmall new ⊎ HasFarRecord (settings_of new) (front ++ group))
       → HasAsked old new trail behind
   asked_more old mid new trail rest group behind asked split numbers unshut next small = record {
     front = asked.front ++ group;
@@ -131,7 +131,7 @@ module _ {D : Type 0} {disk : Ghosts D} (stands : D → List Moment → Type 0) 
     numbers = numbers ∙ asked.numbers;
     unshut = unshut;
     stood = λ before has history. subst (λ (l : List Entry). HasTrail stands new l) (append_assoc before asked.front group) (next (before ++ asked.front) (asked.stood before has history) (part before history));
-    small = λ before has history. subst (λ (l : List Entry). IsSmall new ⊎ MayGrow new l) (append_assoc before asked.front group) (small (before ++ asked.front) (asked.stood before has history) (part before history));
+    small = λ before has history. subst (λ (l : List Entry). IsSmall new ⊎ HasFarRecord (settings_of new) l) (append_assoc before asked.front group) (small (before ++ asked.front) (asked.stood before has history) (part before history));
   }
     where
       is : trail ≡ (asked.front ++ group) ++ behind
@@ -154,5 +154,5 @@ module _ {D : Type 0} {disk : Ghosts D} (stands : D → List Moment → Type 0) 
 
   -- so the live file is small
   pub small_all : (old new : PairCentre D disk) (trail rest : List Entry) → HasAsked old new trail rest → rest ≡ []
-      → (front : List Entry) → HasTrail stands old front → History (settings_of old) (front ++ trail) → IsSmall new ⊎ MayGrow new (front ++ trail)
-  small_all old new trail rest asked none front has history = subst (λ (l : List Entry). IsSmall new ⊎ MayGrow new (front ++ l)) (whole_asked old new trail rest asked none) (asked.small front has history)
+      → (front : List Entry) → HasTrail stands old front → History (settings_of old) (front ++ trail) → IsSmall new ⊎ HasFarRecord (settings_of new) (front ++ trail)
+  small_all old new trail rest asked none front has history = subst (λ (l : List Entry). IsSmall new ⊎ HasFarRecord (settings_of new) (front ++ l)) (whole_asked old new trail rest asked none) (asked.small front has history)

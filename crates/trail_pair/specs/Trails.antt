@@ -4,9 +4,8 @@ use Rattle.journal_disk.specs.declared.disk.Disk.{Ghosts}
 use Rattle.journal_disk.specs.declared.disk.Moment.{Moment}
 use Rattle.journal_pair.specs.declared.pair.TheConstants.{FLOOR}
 use Rattle.dc_talk.specs.Entries.{Entry}
-use Rattle.parts_frames.specs.Far.{HasFarRecord, HasStrayRecord}
 use Rattle.pair_centre.specs.declared.pair_centre.PairCentre.{PairCentre}
-use Rattle.pair_centre.specs.Open.{centre_of, settings_of, live_disk, other_disk, live_size, checkpoint_size, IsPairOf}
+use Rattle.pair_centre.specs.Open.{live_disk, other_disk, live_size, checkpoint_size, IsPairOf}
 
 module _ {D : Type 0} {disk : Ghosts D} where
   -- its two disks stand for calls after which it stands for the trail
@@ -24,7 +23,3 @@ module _ {D : Type 0} {disk : Ghosts D} where
   -- its live file has at most FLOOR bytes, or is at most twice as long as it was with its checkpoint alone
   abbrev pub IsSmall : PairCentre D disk → Type 0
   IsSmall p = (live_size p ≤ FLOOR) ⊎ (live_size p ≤ 2 * checkpoint_size p)
-
-  -- a checkpoint after the trail may have no bytes: for a record that came with too many hops, or one of no centre
-  abbrev pub MayGrow : PairCentre D disk → List Entry → Type 0
-  MayGrow p trail = HasFarRecord (settings_of p) trail ⊎ HasStrayRecord (centre_of p)

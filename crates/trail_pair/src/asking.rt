@@ -2,8 +2,9 @@
 ghost use Rattle.std.specs.Prelude.{◌≡◌, ◌++◌, ◌⊎◌, false, List, IsOk, IsErrOf, OnOk};
 ghost use Rattle.dc_talk.specs.Answers.{History};
 ghost use Rattle.dc_talk.specs.Entries.{Entry as EntryOf};
+ghost use Rattle.parts_frames.specs.Far.{HasFarRecord};
 ghost use Rattle.pair_centre.specs.Open.{settings_of, is_shut};
-ghost use Rattle.trail_pair.specs.Trails.{HasTrail, HasFailed, IsSmall, MayGrow};
+ghost use Rattle.trail_pair.specs.Trails.{HasTrail, HasFailed, IsSmall};
 
 use dc_talk::Entry;
 use journal_disk::Disk;
@@ -15,9 +16,10 @@ use trail_journal::asks_in;
 /// How many asks of a trail are made at once, behind one gate of the journal.
 pub const GROUP: usize = 64;
 
-/// Asks a centre all asks of a trail, group by group, and has it make a checkpoint before them, and behind each group, where
-/// that is due. So its live file is small then. Where it stood for a front of a history, and these are the entries behind that, it stands for the history then. An
-/// `Err` is that the call of a disk failed, or that memory ran out. It was then asked some of the first groups, and no clause
+/// Asks a centre all asks of a trail, group by group, and has it make a checkpoint before them, and behind each group,
+/// where that is due. Where it stood for a front of a history, and these are the entries behind that, it stands for the
+/// history then, and its live file is small, unless it has a record with more hops than a delivery may have. An `Err`
+/// is that the call of a disk failed, or that memory ran out. It was then asked some of the first groups, and no clause
 /// says which.
 pub fn ask_trail<D: Disk>(
     alloc: Global,
@@ -26,7 +28,7 @@ pub fn ask_trail<D: Disk>(
 ) -> Result<(), JournalFault>
     requires { is_shut pair.old ≡ false }
     ensures stands { OnOk result ((front : List EntryOf) → HasTrail D.stands pair.old front → History (settings_of pair.old) (front ++ trail.now) → HasTrail D.stands pair.new (front ++ trail.now)) }
-    ensures small { OnOk result ((front : List EntryOf) → HasTrail D.stands pair.old front → History (settings_of pair.old) (front ++ trail.now) → IsSmall pair.new ⊎ MayGrow pair.new (front ++ trail.now)) }
+    ensures small { OnOk result ((front : List EntryOf) → HasTrail D.stands pair.old front → History (settings_of pair.old) (front ++ trail.now) → IsSmall pair.new ⊎ HasFarRecord (settings_of pair.new) (front ++ trail.now)) }
     ensures numbers { settings_of pair.new ≡ settings_of pair.old }
     ensures open { IsOk result → is_shut pair.new ≡ false }
     ensures no_shut { IsErrOf result JournalFault.Shut → ⊥ }
@@ -68,7 +70,7 @@ fn ask_group<D: Disk>(
 fn keep_small<D: Disk>(pair: &mut PairCentre<D>) -> Result<(), JournalFault>
     requires { is_shut pair.old ≡ false }
     ensures stands { OnOk result ((front : List EntryOf) → HasTrail D.stands pair.old front → HasTrail D.stands pair.new front) }
-    ensures small { OnOk result ((front : List EntryOf) → HasTrail D.stands pair.old front → IsSmall pair.new ⊎ MayGrow pair.new front) }
+    ensures small { OnOk result ((front : List EntryOf) → HasTrail D.stands pair.old front → IsSmall pair.new ⊎ HasFarRecord (settings_of pair.new) front) }
     ensures numbers { settings_of pair.new ≡ settings_of pair.old }
     ensures open { IsOk result → is_shut pair.new ≡ false }
     ensures no_shut { IsErrOf result JournalFault.Shut → ⊥ }

@@ -1,4 +1,4 @@
-use Rattle.std.proofs.Common.{◌≡◌, inl, inr, ⊎_elim, Err, List, sym, ap, ◌∙◌, subst}
+use Rattle.std.proofs.Common.{◌≡◌, ⊎_elim, Err, List, sym, ap, ◌∙◌, subst}
 use Rattle.std.specs.Prelude.{IsErrOf}
 use Rattle.state_codec.specs.declared.writing.NotPut.{NotPut}
 use Rattle.parts_codec.specs.Plain.{HasParts}
@@ -40,6 +40,5 @@ pub returns-in-Err-clause-unfit_by : goal.returns-in-Err-clause-unfit_by
 returns-in-Err-clause-unfit_by c = λ same trail history stands.
     let known = c.in-Ok.ensures in
     let made = c.in-Ok-of.ensures in
-    ⊎_elim inl
-    (⊎_elim inr (λ fine. absurd (c.in-Err.ensures.unfit.0 (ap Err (same_fault _ _ same)) (c.see_centre.ensures made.fit (subst IsRangedCentre (sym made.plain) fine)))))
+    ⊎_elim (λ far. far) (λ fine. absurd (c.in-Err.ensures.unfit.0 (ap Err (same_fault _ _ same)) (c.see_centre.ensures made.fit (subst IsRangedCentre (sym made.plain) fine))))
     (ranged c.args.centre.now trail c.in-Ok.parts history stands known.are known.told)
