@@ -164,11 +164,12 @@ def pruner_round(centre, number):
 
 
 class Link:
-    """The end of a link at which records are taken: its fault, how many were taken since it was set, and what is held."""
+    """The end of a link at which records are taken: its fault, how many were taken since it was set, what is held, and how many
+    were no records, since their bytes were spoilt."""
 
     def __init__(self):
         self.fault, self.every, self.count = "clean", 0, 0
-        self.held = []
+        self.held, self.spoilt = [], 0
         self.waits = deque()
 
     def set(self, fault, every):
@@ -180,8 +181,9 @@ class Link:
         if self.fault == "clean" or self.count % self.every:
             out, held = [item], []
         else:
-            out = {"drop": [], "twice": [item, item], "hold": []}[self.fault]
+            out = [item, item] if self.fault == "twice" else []
             held = [item] if self.fault == "hold" else []
+            self.spoilt += self.fault in ("cut", "bend")
         out, self.held = out + self.held, held
         return out
 

@@ -191,6 +191,8 @@ class Maker:
     def links(self):
         for _ in range(self.pick.randint(1, 4)):
             self.add(f"link {self.route(2)} {self.pick.choice(['drop', 'twice', 'hold', 'hold'])} {self.pick.randint(1, 3)}")
+        if self.chance(2):
+            self.add(f"link {self.route(2)} {self.pick.choice(['cut', 'bend'])} {self.pick.randint(1, 3)}")
         if self.chance(4):
             self.add(f"link {self.route(2)} clean")
 

@@ -27,7 +27,7 @@ CLIENT_FORMS = [
 OPERATOR_FORMS = [
     (rf"(down|up|prune) ({NUMBER})", None), (rf"ship ({NUMBER}) ({NUMBER}) ({NUMBER})", "ship"),
     (rf"(ship|tell) ({NUMBER}) ({NUMBER})", None), (rf"relay ({NUMBER}) ({NUMBER}) ({NUMBER})", "relay"), (r"(settle)", None),
-    (rf"link ({NUMBER}) ({NUMBER}) (clean)", "link"), (rf"link ({NUMBER}) ({NUMBER}) (drop|twice|hold) ({NUMBER})", "link"),
+    (rf"link ({NUMBER}) ({NUMBER}) (clean)", "link"), (rf"link ({NUMBER}) ({NUMBER}) (drop|twice|hold|cut|bend) ({NUMBER})", "link"),
 ]
 FORMS = {"client": CLIENT_FORMS, "operator": OPERATOR_FORMS}
 COMPILED = {who: [(re.compile(form), word) for form, word in forms] for who, forms in FORMS.items()}

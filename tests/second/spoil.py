@@ -429,6 +429,23 @@ def held_left_out(pick, lines, script):
     return None if place is None else without(lines, place)
 
 
+@kind("a spoilt record told as delivered")
+def spoilt_delivered(pick, lines, script):
+    """Of a script with one phase and a link that spoils each record: one comes behind a report that its sender asked for."""
+    if sum(section.phase for section in script.sections) != 1:
+        return None
+    set_once = [step for step in links(script) if [other[2:4] for other in links(script)].count(step[2:4]) == 1]
+    never = [step[2:4] for step in set_once if step[4] in ("cut", "bend") and step[5] == 1]
+    found = [(place, source, to) for place, centre, caller, words in entries(lines) for source, to in never
+             if centre == to and caller == receiver(script, source) - 1 and words.startswith("report ")]
+    one = one_of(pick, found)
+    if not one:
+        return None
+    place, source, to = one
+    entry = f"trail {to} 0 by {receiver(script, to)} deliver {source}:1 applied"
+    return renumbered(lines[:place + 1] + [entry] + lines[place + 1:])
+
+
 @kind("two deliveries of one link exchanged")
 def deliveries_exchanged(pick, lines, script):
     last, pairs = {}, []

@@ -46,6 +46,7 @@ advise_end() {
 
 steps='connect, begin, inc, set, add, del, put, drop, read, grant, give, take, rights, commit, abort, push, flush, refresh, again, lose or twice'
 beginnings='centres, clients, cache, limit, threads, rounds, down, up, ship, relay, tell, prune, link, settle, phase or end'
+faults="'link CENTRE OTHER drop NUMBER', 'link CENTRE OTHER twice NUMBER', 'link CENTRE OTHER hold NUMBER', 'link CENTRE OTHER cut NUMBER', 'link CENTRE OTHER bend NUMBER' or 'link CENTRE OTHER clean'"
 a_name='1 to 32 bytes out of a to z, 0 to 9 and _'
 
 check_advice_on_words() {
@@ -58,7 +59,8 @@ check_advice_on_words() {
     advise_two "no line begins with 'C1'; expected a client (c1, c2 ..), $beginnings" 'C1 begin'
     advise_first "no line begins with 'center'; did you mean 'centres'?" 'center 2 k 1'
     advise_first "'K' may not stand here; expected k" 'centres 2 K 1'
-    advise_two "'lose' may not stand here; expected drop, twice, hold or clean" 'link 1 2 lose 3'
+    advise_two "'lose' may not stand here; expected drop, twice, hold, cut, bend or clean" 'link 1 2 lose 3'
+    advise_two "'but' may not stand here; did you mean 'cut'?" 'link 1 2 but 3'
     advise_two "'replay' may not stand here; did you mean 'reply'?" 'c1 lose replay'
 }
 
@@ -67,6 +69,8 @@ check_advice_on_counts() {
     advise_two "too many words; expected 'cN begin'" 'c1 begin now'
     advise_two "too many words; expected 'cN connect CENTRE'; a comment stands in a line of its own" 'c1 connect 1 # the first'
     advise_two "too few words; expected 'ship CENTRE OTHER NUMBER' or 'ship CENTRE OTHER'" 'ship 1'
+    advise_two "too few words; expected 'link CENTRE OTHER cut NUMBER'" 'link 1 2 cut'
+    advise_two "too few words; expected $faults" 'link 1 2'
     advise_two "too few words; expected a step of the client: $steps" 'c1'
     advise_first "too few words; expected 'centres N k K'" 'centres'
 }

@@ -38,8 +38,11 @@ count|phase 1
 range|prune 2
 count|link 1
 range|link 1 1 drop 0
+range|link 1 1 cut 2
+count|link 1 1 bend
 count|end 1
 word|link 1 1 lose 3
+word|link 1 1 snap 2
 range|c1 grant b.x 0
 range|c1 grant b.x 1000000000001
 range|c1 give b.x 1 5

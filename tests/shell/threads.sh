@@ -7,7 +7,7 @@ busy_script() {
     awk 'BEGIN {
         print "centres 8 k 2\nclients 16\nthreads 16\nrounds 7"
         for (client = 1; client <= 16; client++) print "c" client " connect " (client - 1) % 8 + 1
-        print "link 1 2 drop 2\nlink 2 3 twice 1\nlink 3 4 hold 2\nphase"
+        print "link 1 2 drop 2\nlink 2 3 twice 1\nlink 3 4 hold 2\nlink 4 5 cut 2\nlink 5 6 bend 3\nphase"
         for (client = 1; client <= 16; client++) {
             print "c" client " begin\nc" client " inc c.a " client "\nc" client " add s.a w" client % 3
             print "c" client " commit"

@@ -9,7 +9,7 @@ use Rattle.dc_talk.specs.declared.calls.Outcome.{Outcome}
 use Rattle.dc_talk.specs.declared.calls.Outcome.TheVariants.{Fine, Got, Number, Nothing, Refused}
 use Rattle.dc_talk.specs.declared.calls.Refusal.TheVariants.{NeedsFetch, TooManyTags}
 use Rattle.dc_talk.specs.declared.log.Deed.{Deed}
-use Rattle.dc_talk.specs.declared.log.Deed.TheVariants.{Did, Asked, Told}
+use Rattle.dc_talk.specs.declared.log.Deed.TheVariants.{Did, Asked, Told, Spoilt}
 use Rattle.dc_talk.specs.declared.line.Line.{Line}
 use Rattle.dc_talk.specs.Logs.{Logged, noted}
 use Rattle.dc_talk.specs.Clients.{Client}
@@ -78,6 +78,7 @@ pub used_then : (armed between : Option AskFault) (ds es : List Deed) → betwee
 used_then armed between [] es is = ap (λ armed. used_by armed es) is
 used_then armed between (Did call outcome ∷ ds) es is = used_then armed between ds es is
 used_then armed between (Told line ∷ ds) es is = used_then armed between ds es is
+used_then armed between (Spoilt from item why ∷ ds) es is = used_then armed between ds es is
 used_then armed between (Asked i ask fate ∷ ds) es is = ap (λ armed. used_by armed es) is ∙ by_test (list_any is_ask es)
   where
     by_test : (test : Bool) → cond {A = Option AskFault} test None None ≡ None

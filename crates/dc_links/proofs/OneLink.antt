@@ -3,6 +3,7 @@ use Rattle.std.proofs.Common.{◌≡◌, ℕ, ◌+◌, ◌-◌, Bool, true, fals
 use Rattle.std.proofs.lemmas.List.{append-nil}
 use Rattle.dc_talk.specs.declared.sent.Sent.{Sent}
 use Rattle.dc_talk.specs.Acting.{Acting}
+use Rattle.script_core.specs.Carrying.{Route}
 use Rattle.script_core.specs.Links.{Inlet}
 use Rattle.script_core.specs.Rounds.{Brings}
 use Rattle.dc_worker.specs.Work.{AddsSuch}
@@ -21,31 +22,31 @@ more_then xs ys zs first later = (first.0 ++ later.0, later.1 ∙ (ap (λ front.
 -- ---- records
 
 -- what was taken has grown
-pub receives_more : (at n : ℕ) (a b : Incoming) → Receives at n a b → IsMore a.taken b.taken
-receives_more at n a b is = (is.items, is.taken)
+pub receives_more : (r : Route) (n : ℕ) (a b : Incoming) → Receives r n a b → IsMore a.taken b.taken
+receives_more r n a b is = (is.items, is.taken)
 
 -- as many were taken as there are more of them now
-pub receives_count : (at n : ℕ) (a b : Incoming) → Receives at n a b → length b.taken - length a.taken ≡ n
-receives_count at n a b is =
+pub receives_count : (r : Route) (n : ℕ) (a b : Incoming) → Receives r n a b → length b.taken - length a.taken ≡ n
+receives_count r n a b is =
     let long : length b.taken ≡ length a.taken + length is.items = ap (λ (xs : List Sent). length xs) is.taken ∙ length-append a.taken is.items in
     omega (arith, long, is.count)
 
 -- one more was looked for, and found
-pub receives_found : (at n : ℕ) (found : Bool) (a b c : Incoming) → found ≡ true → Receives at n a b → Receives at (cond found 1 0) b c → Receives at (n + 1) a c
-receives_found at n found a b c is first one = subst (λ more. Receives at (n + more) a c) (ap (λ test. cond test 1 0) is) (receives_then at n (cond found 1 0) a b c first one)
+pub receives_found : (r : Route) (n : ℕ) (found : Bool) (a b c : Incoming) → found ≡ true → Receives r n a b → Receives r (cond found 1 0) b c → Receives r (n + 1) a c
+receives_found r n found a b c is first one = subst (λ more. Receives r (n + more) a c) (ap (λ test. cond test 1 0) is) (receives_then r n (cond found 1 0) a b c first one)
 
 -- or not
-pub receives_missed : (at n : ℕ) (found : Bool) (a b c : Incoming) → found ≡ false → Receives at n a b → Receives at (cond found 1 0) b c → Receives at n a c
-receives_missed at n found a b c is first one =
+pub receives_missed : (r : Route) (n : ℕ) (found : Bool) (a b c : Incoming) → found ≡ false → Receives r n a b → Receives r (cond found 1 0) b c → Receives r n a c
+receives_missed r n found a b c is first one =
     let same : n + cond found 1 0 ≡ n = ap (λ test. n + cond test 1 0) is ∙ omega arith in
-    subst (λ n. Receives at n a c) same (receives_then at n (cond found 1 0) a b c first one)
+    subst (λ n. Receives r n a c) same (receives_then r n (cond found 1 0) a b c first one)
 
 -- where no more come, what is held follows
-pub closes_rest : (at n : ℕ) (old : Incoming) (b c : Acting) (i last : Inlet Sent) (taken : List Sent) → Receives at n old (incoming b i taken) → AddsSuch (Brings at i.held) b c → last ≡ record i { held = [] } → Closes at n old (incoming c last taken)
-closes_rest at n old b c i last taken before rest empty = record {
+pub closes_rest : (r : Route) (n : ℕ) (old : Incoming) (b c : Acting) (i last : Inlet Sent) (taken : List Sent) → Receives r n old (incoming b i taken) → AddsSuch (Brings r i.held) b c → last ≡ record i { held = [] } → Closes r n old (incoming c last taken)
+closes_rest r n old b c i last taken before rest empty = record {
   items = before.items;
   taken = before.taken;
-  brings = brings_rest at old.inlet before.items i old.acting b c before.brings before.inlet rest;
+  brings = brings_rest r old.inlet before.items i old.acting b c before.brings before.inlet rest;
   inlet = empty ∙ ap (λ (i : Inlet Sent). record i { held = [] }) before.inlet;
   count = before.count;
 }

@@ -6,7 +6,7 @@ use Rattle.dc_talk.specs.declared.sent.Sent.{Sent}
 use Rattle.dc_talk.specs.Acting.{Acting}
 use Rattle.mail_link.specs.Ends.{GiverView, TakerView}
 use Rattle.script_core.specs.declared.rounds.TheConstants.{MOST_MAILED}
-use Rattle.script_core.specs.Carrying.{no_turn}
+use Rattle.script_core.specs.Carrying.{route, no_turn}
 use Rattle.script_core.specs.Links.{Inlet, clean_inlet, arrivals, arrived, inlet_after, inlet_closed}
 use Rattle.script_core.specs.Rounds.{Brings}
 use Rattle.script_core.proofs.Turns.{turns_among, turns_next, turns_self}
@@ -27,11 +27,11 @@ others_rest from takers now inlets after low i least other = (
 )
 
 -- what was taken of it, and its inlet
-pub takes_from : (due : Due) (later : Later) (from j : ℕ) (items : List Sent) (takers : List (TakerView Sent)) (taker now : TakerView Sent) (inlets : List (Inlet Sent)) (inlet after : Inlet Sent) (a b : Acting) → 1 ≤ from → from - 1 < length takers → from - 1 < length inlets → taker ≡ get_or takers (from - 1) taker → inlet ≡ get_or inlets (from - 1) inlet → now.taken ≡ taker.taken ++ items → AddsSuch (Brings j (due inlet items)) a b → after ≡ later inlet items
+pub takes_from : (due : Due) (later : Later) (from j : ℕ) (items : List Sent) (takers : List (TakerView Sent)) (taker now : TakerView Sent) (inlets : List (Inlet Sent)) (inlet after : Inlet Sent) (a b : Acting) → 1 ≤ from → from - 1 < length takers → from - 1 < length inlets → taker ≡ get_or takers (from - 1) taker → inlet ≡ get_or inlets (from - 1) inlet → now.taken ≡ taker.taken ++ items → AddsSuch (Brings (route from j) (due inlet items)) a b → after ≡ later inlet items
     → TakesFrom due later from j (inward takers inlets) (inward (set takers (from - 1) now) (set inlets (from - 1) after)) a b
 takes_from due later from j items takers taker now inlets inlet after a b low lt within is there more brings then = record {
   items = items;
-  brings = subst (λ inlet. AddsSuch (Brings j (due inlet items)) a b) (sym here) brings;
+  brings = subst (λ inlet. AddsSuch (Brings (route from j) (due inlet items)) a b) (sym here) brings;
   taken = seen_here taken [] takers (from - 1) now lt ∙ (more ∙ ap (λ before. before ++ items) (sym (seen_at taken [] takers (from - 1) taker lt is)));
   inlet = get_or-set_same inlets (from - 1) after clean_inlet within ∙ (then ∙ ap (λ inlet. later inlet items) (sym here));
   rest = others_rest from takers now inlets after low;
@@ -44,7 +44,7 @@ takes_from due later from j items takers taker now inlets inlet after a b low lt
     here = get_or_default inlets (from - 1) clean_inlet inlet within ∙ sym there
 
 -- the same by what a round leaves
-pub received_from : (from j number : ℕ) (takers : List (TakerView Sent)) (taker now : TakerView Sent) (inlets : List (Inlet Sent)) (inlet after : Inlet Sent) (a b : Acting) → 1 ≤ from → from - 1 < length takers → from - 1 < length inlets → taker ≡ get_or takers (from - 1) taker → inlet ≡ get_or inlets (from - 1) inlet → Receives j number (incoming a inlet taker.taken) (incoming b after now.taken) → number ≤ MOST_MAILED
+pub received_from : (from j number : ℕ) (takers : List (TakerView Sent)) (taker now : TakerView Sent) (inlets : List (Inlet Sent)) (inlet after : Inlet Sent) (a b : Acting) → 1 ≤ from → from - 1 < length takers → from - 1 < length inlets → taker ≡ get_or takers (from - 1) taker → inlet ≡ get_or inlets (from - 1) inlet → Receives (route from j) number (incoming a inlet taker.taken) (incoming b after now.taken) → number ≤ MOST_MAILED
     → ReceivesFrom from j (inward takers inlets) (inward (set takers (from - 1) now) (set inlets (from - 1) after)) a b
 unfolding takes_from
 received_from from j number takers taker now inlets inlet after a b low lt within is there got most = record {
@@ -53,7 +53,7 @@ received_from from j number takers taker now inlets inlet after a b low lt withi
 }
 
 -- and by what a closing round leaves
-pub drained_from : (from j number : ℕ) (givers : List (List (GiverView Sent))) (takers : List (TakerView Sent)) (taker now : TakerView Sent) (inlets : List (Inlet Sent)) (inlet after : Inlet Sent) (a b : Acting) → 1 ≤ from → from - 1 < length takers → from - 1 < length inlets → taker ≡ get_or takers (from - 1) taker → inlet ≡ get_or inlets (from - 1) inlet → Closes j number (incoming a inlet taker.taken) (incoming b after now.taken) → length now.taken ≡ length (put_between givers from j)
+pub drained_from : (from j number : ℕ) (givers : List (List (GiverView Sent))) (takers : List (TakerView Sent)) (taker now : TakerView Sent) (inlets : List (Inlet Sent)) (inlet after : Inlet Sent) (a b : Acting) → 1 ≤ from → from - 1 < length takers → from - 1 < length inlets → taker ≡ get_or takers (from - 1) taker → inlet ≡ get_or inlets (from - 1) inlet → Closes (route from j) number (incoming a inlet taker.taken) (incoming b after now.taken) → length now.taken ≡ length (put_between givers from j)
     → DrainsFrom from j givers (inward takers inlets) (inward (set takers (from - 1) now) (set inlets (from - 1) after)) a b
 drained_from from j number givers takers taker now inlets inlet after a b low lt within is there got all = record {
   takes = takes_from arrivals inlet_closed from j got.items takers taker now inlets inlet after a b low lt within is there got.taken got.brings got.inlet;
@@ -61,10 +61,10 @@ drained_from from j number givers takers taker now inlets inlet after a b low lt
 }
 
 -- and by what an early end leaves
-pub stops_from : (from j : ℕ) (takers : List (TakerView Sent)) (taker now : TakerView Sent) (inlets : List (Inlet Sent)) (inlet after : Inlet Sent) (a b : Acting) → 1 ≤ from → from - 1 < length takers → from - 1 < length inlets → taker ≡ get_or takers (from - 1) taker → inlet ≡ get_or inlets (from - 1) inlet → ReceivesPart j (incoming a inlet taker.taken) (incoming b after now.taken)
+pub stops_from : (from j : ℕ) (takers : List (TakerView Sent)) (taker now : TakerView Sent) (inlets : List (Inlet Sent)) (inlet after : Inlet Sent) (a b : Acting) → 1 ≤ from → from - 1 < length takers → from - 1 < length inlets → taker ≡ get_or takers (from - 1) taker → inlet ≡ get_or inlets (from - 1) inlet → ReceivesPart (route from j) (incoming a inlet taker.taken) (incoming b after now.taken)
     → StopsFrom from j (inward takers inlets) (inward (set takers (from - 1) now) (set inlets (from - 1) after)) a b
 stops_from from j takers taker now inlets inlet after a b low lt within is there got = record {
-  part = subst (λ old. ReceivesPart j old (incoming b (inlet_from (set inlets (from - 1) after) from) (taken_from (set takers (from - 1) now) from))) (sym before) (subst (λ new. ReceivesPart j (incoming a inlet taker.taken) new) (sym behind) got);
+  part = subst (λ old. ReceivesPart (route from j) old (incoming b (inlet_from (set inlets (from - 1) after) from) (taken_from (set takers (from - 1) now) from))) (sym before) (subst (λ new. ReceivesPart (route from j) (incoming a inlet taker.taken) new) (sym behind) got);
   rest = others_rest from takers now inlets after low;
 }
   where
@@ -148,9 +148,9 @@ module _ (due : Due) (later : Later) where
         items = all;
         deeds = before.deeds ++ one.brings.deeds;
         such = turns_next k j next is before.deeds one.brings.deeds other
-            (turns_among (λ from deeds. Brings j (due (inlet_from old.inlets from) (before.items from)) deeds) (λ from deeds. Brings j (due (inlet_from old.inlets from) (all from)) deeds) k j before.deeds
-            (λ from low most es does. subst (λ items. Brings j (due (inlet_from old.inlets from) items) es) (sym (all_else from (λ same. omega (arith, same, most, is)))) does) before.such)
-            (subst (λ inlet. Brings j (due inlet (all next)) one.brings.deeds) inlet_here (subst (λ items. Brings j (due (inlet_from mid.inlets next) items) one.brings.deeds) (sym (all_here next refl)) one.brings.such));
+            (turns_among (λ from deeds. Brings (route from j) (due (inlet_from old.inlets from) (before.items from)) deeds) (λ from deeds. Brings (route from j) (due (inlet_from old.inlets from) (all from)) deeds) k j before.deeds
+            (λ from low most es does. subst (λ items. Brings (route from j) (due (inlet_from old.inlets from) items) es) (sym (all_else from (λ same. omega (arith, same, most, is)))) does) before.such)
+            (subst (λ inlet. Brings (route next j) (due inlet (all next)) one.brings.deeds) inlet_here (subst (λ items. Brings (route next j) (due (inlet_from mid.inlets next) items) one.brings.deeds) (sym (all_here next refl)) one.brings.such));
         adds = adds_then a b c before.deeds one.brings.deeds before.adds one.brings.adds;
         taken = λ from low. taken_each from low (cases_eq from next);
         inlets = λ from there. inlets_each from there (cases_eq from next);

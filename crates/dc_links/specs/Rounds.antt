@@ -1,6 +1,7 @@
 -- What a round of a sender or a receiver leaves in its log and at its ends of the links.
 use Rattle.std.specs.Prelude.{◌≡◌, ◌≢◌, ◌≤◌, ◌<◌, ◌⊎◌, ℕ, ◌+◌, List, [], ◌++◌, length}
 use Rattle.dc_talk.specs.declared.sent.Sent.{Sent}
+use Rattle.dc_talk.specs.declared.links.Arrival.{Arrival}
 use Rattle.dc_talk.specs.declared.log.Deed.{Deed}
 use Rattle.dc_talk.specs.Acting.{Acting, IsCutShort}
 use Rattle.link_frames.specs.Frames.{framed}
@@ -14,9 +15,9 @@ use Rattle.dc_worker.specs.Work.{Adds, AddsSuch, CarriesSuch}
 use Rattle.dc_worker.specs.Brings.{ReceivesPart, incoming}
 use Rattle.dc_links.specs.Links.{IsMore, IsOther, put_to, put_between, taken_from, inlet_from}
 
--- what a link makes due of records that are taken
+-- what arrives of records that are taken of a link
 abbrev pub Due : Type 0
-Due = Inlet Sent → List Sent → List Sent
+Due = Inlet Sent → List Sent → List (Arrival Sent)
 
 -- how the inlet of a link is after records are taken
 abbrev pub Later : Type 0
@@ -83,7 +84,7 @@ pub record TakesOver (due : Due) (later : Later) (n j : ℕ) (old new : Inward) 
 -- it took some records of one link and delivered what was due of them
 pub record TakesFrom (due : Due) (later : Later) (from j : ℕ) (old new : Inward) (a b : Acting) : Type 0 where
   pub items : List Sent
-  pub brings : AddsSuch (Brings j (due (inlet_from old.inlets from) items)) a b
+  pub brings : AddsSuch (Brings (route from j) (due (inlet_from old.inlets from) items)) a b
   pub taken : taken_from new.takers from ≡ taken_from old.takers from ++ items
   pub inlet : inlet_from new.inlets from ≡ later (inlet_from old.inlets from) items
   pub rest : (i : ℕ) → 1 ≤ i → i ≢ from → (taken_from new.takers i ≡ taken_from old.takers i) × (inlet_from new.inlets i ≡ inlet_from old.inlets i)
@@ -112,7 +113,7 @@ pub record DrainsFrom (from j : ℕ) (givers : List (List (GiverView Sent))) (ol
 
 -- it took some records of one link, and delivered a part of what comes of them
 pub record StopsFrom (from j : ℕ) (old new : Inward) (a b : Acting) : Type 0 where
-  pub part : ReceivesPart j (incoming a (inlet_from old.inlets from) (taken_from old.takers from)) (incoming b (inlet_from new.inlets from) (taken_from new.takers from))
+  pub part : ReceivesPart (route from j) (incoming a (inlet_from old.inlets from) (taken_from old.takers from)) (incoming b (inlet_from new.inlets from) (taken_from new.takers from))
   pub rest : (i : ℕ) → 1 ≤ i → i ≢ from → (taken_from new.takers i ≡ taken_from old.takers i) × (inlet_from new.inlets i ≡ inlet_from old.inlets i)
 
 -- a round that came to an early end: it was made over the links from the others of some first centres, and over the link

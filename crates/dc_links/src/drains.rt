@@ -17,9 +17,10 @@ use std::alloc::Global;
 use std::sync::Wait;
 
 /// Takes from the link from each other centre of the `n` behind the door all that was put there, where no more is put,
-/// and delivers to this one what comes of it and what is held. It is given the ends of all senders. It ends when the
-/// links give what lies on them. An `Err` is want of memory, or that 2^64 - 1 records were taken from a link since its
-/// fault was set: the round was made over the links from some first centres, and over the next one in part.
+/// and delivers to this one what comes of it and what is held, or notes what was spoilt. It is given the ends of all
+/// senders. It ends when the links give what lies on them. An `Err` is want of memory, or that 2^64 - 1 frames were taken
+/// from a link since its fault was set: the round was made over the links from some first centres, and over the next one
+/// in part.
 pub fn drain_all<R: Wait, D: Door>(
     rt: &R,
     alloc: Global,
@@ -90,6 +91,7 @@ fn drain_over<R: Wait, D: Door>(
         rt,
         alloc,
         door,
+        from,
         to,
         &mut inlets[place],
         link,

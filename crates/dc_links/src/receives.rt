@@ -17,8 +17,8 @@ use std::alloc::Global;
 use std::sync::Wait;
 
 /// Takes from the link from each other centre of the `n` behind the door at most 64 records, and delivers to this one
-/// what comes of them. An `Err` is want of memory, or that 2^64 - 1 records were taken from a link since its fault was
-/// set: the round was made over the links from some first centres, and over the next one in part.
+/// what comes of them, or notes what was spoilt. An `Err` is want of memory, or that 2^64 - 1 frames were taken from a
+/// link since its fault was set: the round was made over the links from some first centres, and over the next one in part.
 pub fn receive_all<R: Wait, D: Door>(
     rt: &R,
     alloc: Global,
@@ -82,6 +82,7 @@ fn receive_over<R: Wait, D: Door>(
         rt,
         alloc,
         door,
+        from,
         to,
         &mut inlets[place],
         link,

@@ -3,6 +3,7 @@ ghost use Rattle.std.specs.Prelude.{◌≡◌, ◌≢◌, ◌≤◌, true, false
 ghost use Rattle.dc_talk.specs.Acting.{acting, IsCutShort};
 ghost use Rattle.dc_talk.specs.Doors.{IsBehind};
 ghost use Rattle.script_core.specs.declared.rounds.TheConstants.{MOST_MAILED};
+ghost use Rattle.script_core.specs.Carrying.{route};
 ghost use Rattle.mail_link.specs.Ends.{one_more};
 ghost use Rattle.dc_worker.specs.Brings.{Receives, Closes, StopsAt, ReceivesPart, incoming};
 ghost use Rattle.dc_links.specs.Links.{IsMore};
@@ -16,13 +17,15 @@ use script_core::MOST_MAILED;
 use std::alloc::Global;
 use std::sync::Wait;
 
-/// Takes frames from a link, at most `MOST_MAILED` of them, until none is found, and delivers to a centre behind the
-/// door what comes of their records, whatever it answers. Answers how many were taken. An `Err` is want of memory, or that
-/// 2^64 - 1 records were taken since the fault was set: some may have been taken, and what comes of them delivered.
+/// Takes frames from the link from a centre, at most `MOST_MAILED` of them, until none is found, and delivers to a centre
+/// behind the door what comes of them, whatever it answers, or notes what was spoilt. Answers how many were taken. An `Err`
+/// is want of memory, or that 2^64 - 1 frames were taken since the fault was set: some may have been taken, and what comes
+/// of them delivered.
 pub fn take_round<R: Wait, D: Door>(
     rt: &R,
     alloc: Global,
     door: &mut D,
+    from: u8,
     at: u8,
     inlet: &mut Inlet,
     link: &Link<Frame>,
@@ -33,30 +36,31 @@ pub fn take_round<R: Wait, D: Door>(
     requires link { taker.old.link ≡ link.now }
     ensures place { D.place door.new ≡ D.place door.old }
     ensures link { taker.new.link ≡ link.now }
-    ensures receives { IfOk result (λ number. Receives at number (incoming (acting (D.shown door.old) log.old) inlet.old taker.old.taken) (incoming (acting (D.shown door.new) log.new) inlet.new taker.new.taken)) }
+    ensures receives { IfOk result (λ number. Receives (route from at) number (incoming (acting (D.shown door.old) log.old) inlet.old taker.old.taken) (incoming (acting (D.shown door.new) log.new) inlet.new taker.new.taken)) }
     ensures most { IfOk result (λ number. number ≤ MOST_MAILED) }
     ensures full { IfOk result (λ number. number ≡ MOST_MAILED → taker.new.misses ≡ taker.old.misses) }
     ensures fewer { IfOk result (λ number. number ≢ MOST_MAILED → taker.new.misses ≡ one_more taker.old.misses) }
     ensures short { OnErr result (IsCutShort (acting (D.shown door.old) log.old) (acting (D.shown door.new) log.new)) }
-    ensures part { OnErr result (ReceivesPart at (incoming (acting (D.shown door.old) log.old) inlet.old taker.old.taken) (incoming (acting (D.shown door.new) log.new) inlet.new taker.new.taken)) }
+    ensures part { OnErr result (ReceivesPart (route from at) (incoming (acting (D.shown door.old) log.old) inlet.old taker.old.taken) (incoming (acting (D.shown door.new) log.new) inlet.new taker.new.taken)) }
     ensures kept { OnErr result (IsMore taker.old.taken taker.new.taken) }
 {
     'items: for number in 0..MOST_MAILED {
-        if !take_one(rt, alloc, door, at, inlet, link, taker, log)? {
+        if !take_one(rt, alloc, door, from, at, inlet, link, taker, log)? {
             return Ok(number);
         }
     }
     Ok(MOST_MAILED)
 }
 
-/// Takes frames from a link until all that were put were taken, trying again where none is found, and delivers to a
-/// centre behind the door what comes of their records where no more come, whatever it answers. It ends when the link gives what
-/// lies on it. Answers how many were taken. An `Err` is want of memory, or that 2^64 - 1 records were taken since the
-/// fault was set: some may have been taken, and what comes of them delivered.
+/// Takes frames from the link from a centre until all that were put were taken, trying again where none is found, and
+/// delivers to a centre behind the door what comes of them where no more come, whatever it answers, or notes what was
+/// spoilt. It ends when the link gives what lies on it. Answers how many were taken. An `Err` is want of memory, or that
+/// 2^64 - 1 frames were taken since the fault was set: some may have been taken, and what comes of them delivered.
 pub fn drain_round<R: Wait, D: Door>(
     rt: &R,
     alloc: Global,
     door: &mut D,
+    from: u8,
     at: u8,
     inlet: &mut Inlet,
     link: &Link<Frame>,
@@ -69,14 +73,14 @@ pub fn drain_round<R: Wait, D: Door>(
     requires taker { taker.old.link ≡ link.now }
     ensures place { D.place door.new ≡ D.place door.old }
     ensures link { taker.new.link ≡ link.now }
-    ensures closes { IfOk result (λ number. Closes at number (incoming (acting (D.shown door.old) log.old) inlet.old taker.old.taken) (incoming (acting (D.shown door.new) log.new) inlet.new taker.new.taken)) }
+    ensures closes { IfOk result (λ number. Closes (route from at) number (incoming (acting (D.shown door.old) log.old) inlet.old taker.old.taken) (incoming (acting (D.shown door.new) log.new) inlet.new taker.new.taken)) }
     ensures all { OnOk result (length taker.new.taken ≡ length giver.now.put) }
     ensures short { OnErr result (IsCutShort (acting (D.shown door.old) log.old) (acting (D.shown door.new) log.new)) }
-    ensures part { OnErr result (ReceivesPart at (incoming (acting (D.shown door.old) log.old) inlet.old taker.old.taken) (incoming (acting (D.shown door.new) log.new) inlet.new taker.new.taken)) }
+    ensures part { OnErr result (ReceivesPart (route from at) (incoming (acting (D.shown door.old) log.old) inlet.old taker.old.taken) (incoming (acting (D.shown door.new) log.new) inlet.new taker.new.taken)) }
     ensures kept { OnErr result (IsMore taker.old.taken taker.new.taken) }
 {
-    let number = take_all(rt, alloc, door, at, inlet, link, giver, taker, log)?;
-    bring_held(door, at, inlet, log)?;
+    let number = take_all(rt, alloc, door, from, at, inlet, link, giver, taker, log)?;
+    bring_held(door, from, at, inlet, log)?;
     Ok(number)
 }
 
@@ -85,6 +89,7 @@ fn take_all<R: Wait, D: Door>(
     rt: &R,
     alloc: Global,
     door: &mut D,
+    from: u8,
     at: u8,
     inlet: &mut Inlet,
     link: &Link<Frame>,
@@ -96,10 +101,10 @@ fn take_all<R: Wait, D: Door>(
     requires link { taker.old.link ≡ link.now }
     ensures place { D.place door.new ≡ D.place door.old }
     ensures link { taker.new.link ≡ link.now }
-    ensures receives { IfOk result (λ number. Receives at number (incoming (acting (D.shown door.old) log.old) inlet.old taker.old.taken) (incoming (acting (D.shown door.new) log.new) inlet.new taker.new.taken)) }
+    ensures receives { IfOk result (λ number. Receives (route from at) number (incoming (acting (D.shown door.old) log.old) inlet.old taker.old.taken) (incoming (acting (D.shown door.new) log.new) inlet.new taker.new.taken)) }
     ensures all { OnOk result (length taker.new.taken ≡ length giver.now.put) }
     ensures short { OnErr result (IsCutShort (acting (D.shown door.old) log.old) (acting (D.shown door.new) log.new)) }
-    ensures part { OnErr result (ReceivesPart at (incoming (acting (D.shown door.old) log.old) inlet.old taker.old.taken) (incoming (acting (D.shown door.new) log.new) inlet.new taker.new.taken)) }
+    ensures part { OnErr result (ReceivesPart (route from at) (incoming (acting (D.shown door.old) log.old) inlet.old taker.old.taken) (incoming (acting (D.shown door.new) log.new) inlet.new taker.new.taken)) }
     ensures kept { OnErr result (IsMore taker.old.taken taker.new.taken) }
 {
     let before = taker.takes();
@@ -107,16 +112,17 @@ fn take_all<R: Wait, D: Door>(
         if taker.takes() == giver.puts() {
             break 'items;
         }
-        take_one(rt, alloc, door, at, inlet, link, taker, log)?;
+        take_one(rt, alloc, door, from, at, inlet, link, taker, log)?;
     }
     Ok(taker.takes() - before)
 }
 
-// Takes a frame from a link, where one is found, and delivers what comes of its record. Answers whether one was found.
+// Takes a frame from a link, where one is found, and delivers what comes of it. Answers whether one was found.
 fn take_one<R: Wait, D: Door>(
     rt: &R,
     alloc: Global,
     door: &mut D,
+    from: u8,
     at: u8,
     inlet: &mut Inlet,
     link: &Link<Frame>,
@@ -127,7 +133,7 @@ fn take_one<R: Wait, D: Door>(
     requires link { taker.old.link ≡ link.now }
     ensures place { D.place door.new ≡ D.place door.old }
     ensures link { taker.new.link ≡ link.now }
-    ensures receives { IfOk result (λ found. Receives at (cond found 1 0) (incoming (acting (D.shown door.old) log.old) inlet.old taker.old.taken) (incoming (acting (D.shown door.new) log.new) inlet.new taker.new.taken)) }
+    ensures receives { IfOk result (λ found. Receives (route from at) (cond found 1 0) (incoming (acting (D.shown door.old) log.old) inlet.old taker.old.taken) (incoming (acting (D.shown door.new) log.new) inlet.new taker.new.taken)) }
     ensures found { IfOk result (λ found. found ≡ true → taker.new.misses ≡ taker.old.misses) }
     ensures missed { IfOk result (λ found. found ≡ false → taker.new.misses ≡ one_more taker.old.misses) }
     ensures short { OnErr result (IsCutShort (acting (D.shown door.old) log.old) (acting (D.shown door.new) log.new)) }
@@ -136,8 +142,7 @@ fn take_one<R: Wait, D: Door>(
 {
     match link.take(rt, taker) {
         Some(frame) => {
-            let item = frame.read(alloc)?;
-            bring_one(door, at, inlet, item, log)?;
+            bring_one(alloc, door, from, at, inlet, frame, log)?;
             Ok(true)
         }
         None => Ok(false),

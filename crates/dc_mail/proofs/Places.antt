@@ -4,6 +4,7 @@ use Rattle.std.specs.Prelude.{◌&&◌, slice_set}
 use Rattle.std.proofs.lemmas.Bool.{cases_eq, eq-eqb, ne_eqb}
 use Rattle.std.proofs.lemmas.List.{get_or-set_same, get_or-set_other, set-get_or}
 use Rattle.ids_core.specs.declared.limits.TheConstants.{MOST_CENTRES}
+use Rattle.script_core.specs.Carrying.{route}
 use Rattle.script_core.specs.Mail.{Post, new_post}
 use Rattle.dc_talk.specs.Acting.{Acting}
 use Rattle.dc_mail.specs.Posts.{place_of, post_at, IsCentre, HasSet, PostPart, PostsPart}
@@ -50,10 +51,10 @@ module _ (posts : List Post) (many : length posts ≡ MOST_CENTRES * MOST_CENTRE
   has_set new is = record { each = λ from to f t. ap (λ posts. post_at posts from to) is ∙ post_set_at from to f t }
 
   -- where some of it is taken
-  pub posts_part : (was : Post) (new : List Post) (a b : Acting) → was ≡ post_at posts i j → new ≡ slice_set posts (place_of i j) post → PostPart j was post a b → PostsPart i j posts new a b
+  pub posts_part : (was : Post) (new : List Post) (a b : Acting) → was ≡ post_at posts i j → new ≡ slice_set posts (place_of i j) post → PostPart (route i j) was post a b → PostsPart i j posts new a b
   posts_part was new a b there is got =
       let here : post_at new i j ≡ post = ap (λ posts. post_at posts i j) is ∙ post_here in
       record {
         set = subst (λ post. HasSet i j post posts new) (sym here) (has_set new is);
-        part = subst (λ post. PostPart j (post_at posts i j) post a b) (sym here) (subst (λ was. PostPart j was post a b) there got);
+        part = subst (λ post. PostPart (route i j) (post_at posts i j) post a b) (sym here) (subst (λ was. PostPart (route i j) was post a b) there got);
       }

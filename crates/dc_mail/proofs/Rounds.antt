@@ -5,6 +5,7 @@ use Rattle.std.proofs.lemmas.Bool.{cases_eq, eq-eqb, ne_eqb, leb-true, leb-false
 use Rattle.std.proofs.lemmas.List.{append-nil}
 use Rattle.std.proofs.lemmas.List.Elements.{filter-append}
 use Rattle.dc_talk.specs.declared.sent.Sent.{Sent}
+use Rattle.dc_talk.specs.declared.links.Arrival.{Arrival}
 use Rattle.dc_talk.specs.declared.line.Line.{Line}
 use Rattle.dc_talk.specs.Acting.{Acting}
 use Rattle.link_frames.specs.Frames.{is_deliverable, framed}
@@ -91,7 +92,7 @@ sent_self k i next old mid a b is self before = record {
 
 -- ---- a receiver
 
-module _ (due : Post → List Sent) (later : Post → Post) where
+module _ (due : Post → List (Arrival Sent)) (later : Post → Post) where
   -- over no links
   pub received_none : (i : ℕ) (posts : List Post) (a : Acting) → HasReceived due later 0 i posts posts a a
   received_none i posts a = record {
@@ -131,10 +132,10 @@ module _ (due : Post → List Sent) (later : Post → Post) where
         go (inr high) = lt-leb from k high ∙ sym (lt-leb from next (omega (arith, high, is, apart)))
 
     -- over the link from the next centre
-    pub received_next : (c : Acting) (new : List Post) → next ≢ i → IsCentre i → IsCentre next → AddsSuch (Brings i (due (post_at mid next i))) b c → HasSet next i (later (post_at mid next i)) mid new → HasReceived due later next i old new a c
+    pub received_next : (c : Acting) (new : List Post) → next ≢ i → IsCentre i → IsCentre next → AddsSuch (Brings (route next i) (due (post_at mid next i))) b c → HasSet next i (later (post_at mid next i)) mid new → HasReceived due later next i old new a c
     received_next c new other g h brings put = record {
       deeds = before.deeds ++ brings.deeds;
-      such = turns_next k i next is before.deeds brings.deeds other before.such (subst (λ post. Brings i (due post) brings.deeds) was brings.such);
+      such = turns_next k i next is before.deeds brings.deeds other before.such (subst (λ post. Brings (route next i) (due post) brings.deeds) was brings.such);
       adds = adds_then a b c before.deeds brings.deeds before.adds brings.adds;
       posts = λ from to f t. put.each from to f t ∙ each from to f t (cases_eq from next) (cases_eq to i);
     }

@@ -3,6 +3,7 @@ use Rattle.std.specs.Prelude.{◌≡◌, ◌≤◌, ℕ, ◌+◌, ◌-◌, ◌*�
 use Rattle.ids_core.specs.declared.limits.TheConstants.{MOST_CENTRES}
 use Rattle.dc_talk.specs.declared.sent.Sent.{Sent}
 use Rattle.dc_talk.specs.Acting.{Acting}
+use Rattle.script_core.specs.Carrying.{Route, route}
 use Rattle.script_core.specs.Mail.{Post, new_post}
 use Rattle.dc_worker.specs.Brings.{BringsPart}
 
@@ -26,14 +27,14 @@ new_posts = replicate (MOST_CENTRES * MOST_CENTRES) new_post
 pub record HasSet (i j : ℕ) (post : Post) (old new : List Post) : Type 0 where
   pub each : (from to : ℕ) → IsCentre from → IsCentre to → post_at new from to ≡ cond (from == i && to == j) post (post_at old from to)
 
--- some first ones of the records that lay on a link are off it; of these some first ones were taken, and what comes of them
--- was delivered to a centre, before that came to an early end
-pub record PostPart (to : ℕ) (old new : Post) (a b : Acting) : Type 0 where
+-- some first ones of the records that lay on the link over a route are off it; of these some first ones were taken, and what
+-- comes of them was delivered, before that came to an early end
+pub record PostPart (r : Route) (old new : Post) (a b : Acting) : Type 0 where
   pub off : List Sent
   pub waits : old.waits ≡ off ++ new.waits
-  pub brings : BringsPart to off old.inlet new.inlet a b
+  pub brings : BringsPart r off old.inlet new.inlet a b
 
 -- so it is of the link from one centre to another, and on the others lies what lay there
 pub record PostsPart (from to : ℕ) (old new : List Post) (a b : Acting) : Type 0 where
   pub set : HasSet from to (post_at new from to) old new
-  pub part : PostPart to (post_at old from to) (post_at new from to) a b
+  pub part : PostPart (route from to) (post_at old from to) (post_at new from to) a b

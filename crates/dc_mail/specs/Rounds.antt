@@ -1,6 +1,7 @@
 -- What a round of a worker leaves in its log and on the links.
 use Rattle.std.specs.Prelude.{◌≡◌, ◌≢◌, ◌<◌, ℕ, ◌+◌, ◌==◌, nat_le, ◌&&◌, not, Bool, cond, List, []}
 use Rattle.dc_talk.specs.declared.sent.Sent.{Sent}
+use Rattle.dc_talk.specs.declared.links.Arrival.{Arrival}
 use Rattle.dc_talk.specs.declared.log.Deed.{Deed}
 use Rattle.dc_talk.specs.Acting.{Acting, IsCutShort}
 use Rattle.link_frames.specs.Frames.{framed}
@@ -25,7 +26,7 @@ is_inward n i from to = (to == i && not (from == i)) && nat_le from n
 
 -- the receiver of a centre made a round over the links from the others of the first n: of each it delivers what is due,
 -- and the link is then as a round leaves it
-pub record HasReceived (due : Post → List Sent) (later : Post → Post) (n i : ℕ) (old new : List Post) (a b : Acting) : Type 0 where
+pub record HasReceived (due : Post → List (Arrival Sent)) (later : Post → Post) (n i : ℕ) (old new : List Post) (a b : Acting) : Type 0 where
   pub deeds : List Deed
   pub such : ReceiverDeeds n i (λ from. due (post_at old from i)) deeds
   pub adds : Adds a b deeds
@@ -45,7 +46,7 @@ pub record SentPart (n i : ℕ) (old new : List Post) (a b : Acting) : Type 0 wh
 
 -- a receiver's round that came to an early end: it was made over the links from the others of some first centres, and over
 -- the link from the next one in part
-pub record ReceivedPart (due : Post → List Sent) (later : Post → Post) (n i : ℕ) (old new : List Post) (a b : Acting) : Type 0 where
+pub record ReceivedPart (due : Post → List (Arrival Sent)) (later : Post → Post) (n i : ℕ) (old new : List Post) (a b : Acting) : Type 0 where
   pub before : ℕ
   pub few : before < n
   pub other : before + 1 ≢ i

@@ -4,6 +4,7 @@ ghost use Rattle.ids_core.specs.declared.limits.TheConstants.{MOST_CENTRES};
 ghost use Rattle.dc_talk.specs.Acting.{acting, IsCutShort};
 ghost use Rattle.dc_talk.specs.Doors.{IsBehind};
 ghost use Rattle.link_frames.specs.Frames.{framed};
+ghost use Rattle.script_core.specs.Carrying.{route};
 ghost use Rattle.script_core.specs.Links.{clean_inlet};
 ghost use Rattle.script_core.specs.Mail.{post_put, post_set, due_in_round, post_after_round, due_at_close, post_closed};
 ghost use Rattle.script_core.specs.Rounds.{Brings};
@@ -108,7 +109,8 @@ impl Posts {
         self.spots[place_of(from, to)].put(alloc, items)
     }
 
-    // Takes from a link what a round takes, and delivers what comes of it to the centre at its end.
+    // Takes from a link what a round takes, and delivers what comes of it to the centre at its end, or notes what was
+    // spoilt.
     pub(crate) fn bring_round<D: Door>(
         &mut self,
         alloc: Global,
@@ -121,15 +123,16 @@ impl Posts {
         requires to { IsCentre to }
         requires behind { IsBehind (D.shown door.old) to }
         ensures place { D.place door.new ≡ D.place door.old }
-        ensures brings { OnOk result (AddsSuch (Brings to (due_in_round (post_at self.old from to))) (acting (D.shown door.old) log.old) (acting (D.shown door.new) log.new)) }
+        ensures brings { OnOk result (AddsSuch (Brings (route from to) (due_in_round (post_at self.old from to))) (acting (D.shown door.old) log.old) (acting (D.shown door.new) log.new)) }
         ensures posts { OnOk result (HasSet from to (post_after_round (post_at self.old from to)) self.old self.new) }
         ensures short { OnErr result (IsCutShort (acting (D.shown door.old) log.old) (acting (D.shown door.new) log.new)) }
         ensures part { OnErr result (PostsPart from to self.old self.new (acting (D.shown door.old) log.old) (acting (D.shown door.new) log.new)) }
     {
-        self.spots[place_of(from, to)].bring_round(alloc, door, to, log)
+        self.spots[place_of(from, to)].bring_round(alloc, door, from, to, log)
     }
 
-    // Takes all from a link, and delivers what comes of it and what is held to the centre at its end.
+    // Takes all from a link, and delivers what comes of it and what is held to the centre at its end, or notes what was
+    // spoilt.
     pub(crate) fn bring_all<D: Door>(
         &mut self,
         alloc: Global,
@@ -142,11 +145,11 @@ impl Posts {
         requires to { IsCentre to }
         requires behind { IsBehind (D.shown door.old) to }
         ensures place { D.place door.new ≡ D.place door.old }
-        ensures brings { OnOk result (AddsSuch (Brings to (due_at_close (post_at self.old from to))) (acting (D.shown door.old) log.old) (acting (D.shown door.new) log.new)) }
+        ensures brings { OnOk result (AddsSuch (Brings (route from to) (due_at_close (post_at self.old from to))) (acting (D.shown door.old) log.old) (acting (D.shown door.new) log.new)) }
         ensures posts { OnOk result (HasSet from to (post_closed (post_at self.old from to)) self.old self.new) }
         ensures short { OnErr result (IsCutShort (acting (D.shown door.old) log.old) (acting (D.shown door.new) log.new)) }
         ensures part { OnErr result (PostsPart from to self.old self.new (acting (D.shown door.old) log.old) (acting (D.shown door.new) log.new)) }
     {
-        self.spots[place_of(from, to)].bring_all(alloc, door, to, log)
+        self.spots[place_of(from, to)].bring_all(alloc, door, from, to, log)
     }
 }

@@ -3,6 +3,7 @@ ghost use Rattle.std.specs.Prelude.{◌≡◌, ◌≤◌, [], take, drop, length
 ghost use Rattle.dc_talk.specs.Acting.{acting, IsCutShort};
 ghost use Rattle.dc_talk.specs.Doors.{IsBehind};
 ghost use Rattle.link_frames.specs.Frames.{framed};
+ghost use Rattle.script_core.specs.Carrying.{route};
 ghost use Rattle.script_core.specs.Links.{clean_inlet};
 ghost use Rattle.script_core.specs.Mail.{new_post, post_put, post_set, taken_in_round, due_in_round, post_after_round, due_at_close, post_closed};
 ghost use Rattle.script_core.specs.Rounds.{Brings};
@@ -60,17 +61,6 @@ fn frames_of(alloc: Global, items: &[Sent]) -> Result<Vec<Frame>, NoMemory>
     Ok(frames)
 }
 
-// The records of frames.
-fn records_of(alloc: Global, frames: &[Frame]) -> Result<Vec<Sent>, NoMemory>
-    ensures { IfOk result (λ items. items.items ≡ frames.now) }
-{
-    let mut items = Vec::with_capacity(alloc, frames.len())?;
-    'frames: for frame in frames {
-        items.push(frame.read(alloc)?)?;
-    }
-    Ok(items)
-}
-
 impl Spot {
     /// A link on which nothing lies.
     pub(crate) fn new(alloc: Global) -> Self
@@ -116,43 +106,44 @@ impl Spot {
         self.inlet = inlet;
     }
 
-    /// Takes what a round takes, and delivers to a centre behind the door what comes of it.
+    /// Takes what a round takes of the link from a centre, and delivers to one behind the door what comes of it, or notes
+    /// what was spoilt.
     pub(crate) fn bring_round<D: Door>(
         &mut self,
         alloc: Global,
         door: &mut D,
+        from: u8,
         at: u8,
         log: &mut Log,
     ) -> Result<(), NoMemory>
         requires { IsBehind (D.shown door.old) at }
         ensures place { D.place door.new ≡ D.place door.old }
-        ensures brings { OnOk result (AddsSuch (Brings at (due_in_round self.old)) (acting (D.shown door.old) log.old) (acting (D.shown door.new) log.new)) }
+        ensures brings { OnOk result (AddsSuch (Brings (route from at) (due_in_round self.old)) (acting (D.shown door.old) log.old) (acting (D.shown door.new) log.new)) }
         ensures spot { OnOk result (self.new ≡ post_after_round self.old) }
         ensures short { OnErr result (IsCutShort (acting (D.shown door.old) log.old) (acting (D.shown door.new) log.new)) }
-        ensures part { OnErr result (PostPart at self.old self.new (acting (D.shown door.old) log.old) (acting (D.shown door.new) log.new)) }
+        ensures part { OnErr result (PostPart (route from at) self.old self.new (acting (D.shown door.old) log.old) (acting (D.shown door.new) log.new)) }
     {
         let frames = take_first(&mut self.waits, MOST_MAILED as usize)?;
-        let items = records_of(alloc, &frames)?;
-        bring(door, at, &mut self.inlet, items, log)
+        bring(alloc, door, from, at, &mut self.inlet, frames, log)
     }
 
-    /// Takes all, and delivers what comes of it and what is held.
+    /// Takes all, and delivers what comes of it and what is held, or notes what was spoilt.
     pub(crate) fn bring_all<D: Door>(
         &mut self,
         alloc: Global,
         door: &mut D,
+        from: u8,
         at: u8,
         log: &mut Log,
     ) -> Result<(), NoMemory>
         requires { IsBehind (D.shown door.old) at }
         ensures place { D.place door.new ≡ D.place door.old }
-        ensures brings { OnOk result (AddsSuch (Brings at (due_at_close self.old)) (acting (D.shown door.old) log.old) (acting (D.shown door.new) log.new)) }
+        ensures brings { OnOk result (AddsSuch (Brings (route from at) (due_at_close self.old)) (acting (D.shown door.old) log.old) (acting (D.shown door.new) log.new)) }
         ensures spot { OnOk result (self.new ≡ post_closed self.old) }
         ensures short { OnErr result (IsCutShort (acting (D.shown door.old) log.old) (acting (D.shown door.new) log.new)) }
-        ensures part { OnErr result (PostPart at self.old self.new (acting (D.shown door.old) log.old) (acting (D.shown door.new) log.new)) }
+        ensures part { OnErr result (PostPart (route from at) self.old self.new (acting (D.shown door.old) log.old) (acting (D.shown door.new) log.new)) }
     {
         let frames = Vec::from(replace(&mut self.waits, VecDeque::new(alloc)));
-        let items = records_of(alloc, &frames)?;
-        bring_rest(door, at, &mut self.inlet, items, log)
+        bring_rest(alloc, door, from, at, &mut self.inlet, frames, log)
     }
 }

@@ -7,7 +7,7 @@ use Rattle.dc_talk.specs.declared.ask.Ask.{Ask}
 use Rattle.dc_talk.specs.declared.say.Say.{Say}
 use Rattle.dc_talk.specs.declared.log.Fate.{Fate}
 use Rattle.dc_talk.specs.declared.log.Deed.{Deed}
-use Rattle.dc_talk.specs.declared.log.Deed.TheVariants.{Did, Asked, Told}
+use Rattle.dc_talk.specs.declared.log.Deed.TheVariants.{Did, Asked, Told, Spoilt}
 use Rattle.dc_talk.specs.declared.line.Line.{Line}
 use Rattle.dc_talk.specs.Entries.{Entry}
 use Rattle.dc_talk.specs.Logs.{Logged, marked, noted, answered, exchanged_in, entry_for}
@@ -36,6 +36,7 @@ behind_before : (a b : DoorView) (deed : Deed) → IsSameDoor a b → IsAskBehin
 behind_before a b (Asked i ask fate) same is = (is.0, subst (λ n. i ≤ n) same.centres is.1)
 behind_before a b (Did call outcome) same is = tt
 behind_before a b (Told line) same is = tt
+behind_before a b (Spoilt from item why) same is = tt
 
 pub all_before : (a b : DoorView) (ds : List Deed) → IsSameDoor a b → All (IsAskBehind b) ds → All (IsAskBehind a) ds
 all_before a b [] same all = All-nil (IsAskBehind a)

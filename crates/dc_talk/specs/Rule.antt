@@ -17,7 +17,7 @@ use Rattle.dc_talk.specs.declared.calls.Connection.{Connection}
 use Rattle.dc_talk.specs.declared.log.Fate.{Fate}
 use Rattle.dc_talk.specs.declared.log.Fate.TheVariants.{Heard, Unheard}
 use Rattle.dc_talk.specs.declared.log.Deed.{Deed}
-use Rattle.dc_talk.specs.declared.log.Deed.TheVariants.{Did, Asked, Told}
+use Rattle.dc_talk.specs.declared.log.Deed.TheVariants.{Did, Asked, Told, Spoilt}
 use Rattle.dc_talk.specs.declared.log.Note.{Note}
 use Rattle.dc_talk.specs.Clients.{Client, new_client, next_tx, settled, same_vector, kept, draft_updates}
 use Rattle.dc_talk.specs.Calls.{outcome_of, did}
@@ -146,11 +146,13 @@ pub record IsSecond (before : List Note) (i : ℕ) (ask : Ask) (fate : Fate) : T
   pub same : last.deed ≡ Asked i ask (Heard first)
 
 -- a deed that the rule allows a client after these notes: each call ends as it does for the state
--- before it, and each ask is one that the client makes then, or a copy that no session hears
+-- before it, and each ask is one that the client makes then, or a copy that no session hears; a client takes nothing
+-- from a link
 abbrev pub Allows : Client → List Note → Deed → Type 0
 Allows s before (Did call outcome) = outcome ≡ outcome_of s call
 Allows s before (Asked i ask fate) = Gives s i ask ⊎ (IsLate before ask fate ⊎ IsSecond before i ask fate)
 Allows s before (Told line) = Unit {0}
+Allows s before (Spoilt from item why) = ⊥
 
 -- the log follows the session rule, from the client's first state among n centres
 abbrev pub Follows : ℕ → ℕ → ℕ → List Note → Type 0

@@ -26,7 +26,7 @@ pub use entry::Entry;
 pub use fold::fold_updates;
 pub use laws::law_history;
 pub use line::{Line, Miss, PushEnd, ShipEnd, StepWord};
-pub use links::LinkFault;
+pub use links::{Arrival, FrameFault, LinkFault};
 pub use list_door::ListDoor;
 pub use log::{Deed, Fate, Log, Note};
 pub use noted::{Ended, NotedOutcome};

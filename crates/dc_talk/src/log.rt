@@ -5,6 +5,7 @@ use crate::ask::Ask;
 use crate::calls::Call;
 use crate::commit_places::{CommitPlaces, commit_sent, keep_place};
 use crate::line::Line;
+use crate::links::FrameFault;
 use crate::noted::NotedOutcome;
 use crate::say::Say;
 use crate::sent::SharedTx;
@@ -30,11 +31,25 @@ pub enum Fate {
 #[derive(Drop)]
 pub enum Deed {
     /// A call of the actor's session, with how it ended.
-    Did { call: Call, outcome: NotedOutcome },
+    Did {
+        call: Call,
+        outcome: NotedOutcome,
+    },
     /// An ask of a centre, with what became of it.
-    Asked { centre: u8, ask: Ask, fate: Fate },
+    Asked {
+        centre: u8,
+        ask: Ask,
+        fate: Fate,
+    },
     /// A line of the output.
     Told(Line),
+    /// An item of the link from a centre that was no record: its number, counted from 1, since the fault of the link was
+    /// set, and why it was none. Nothing was delivered of it.
+    Spoilt {
+        from: u8,
+        item: u64,
+        why: FrameFault,
+    },
 }
 
 /// One deed, with the section of the script and the step in it. Both are counted from 1.

@@ -4,6 +4,7 @@ pub mod Sending
 pub mod Telling
 pub mod Turns
 pub mod Items
+pub mod ItemBytes
 pub mod Bringing
 pub mod Passing
 pub mod Alike

@@ -4,15 +4,16 @@ use Rattle.std.proofs.lemmas.Bool.{eqb-true}
 use Rattle.std.proofs.lemmas.List.{append-nil}
 use Rattle.dc_talk.specs.declared.ask.Ask.{Ask}
 use Rattle.dc_talk.specs.declared.say.Say.{Say}
+use Rattle.dc_talk.specs.declared.links.FrameFault.{FrameFault}
 use Rattle.dc_talk.specs.declared.log.Fate.TheVariants.{Unheard}
 use Rattle.dc_talk.specs.declared.log.Deed.{Deed}
-use Rattle.dc_talk.specs.declared.log.Deed.TheVariants.{Asked}
+use Rattle.dc_talk.specs.declared.log.Deed.TheVariants.{Asked, Spoilt}
 use Rattle.dc_talk.specs.Entries.{Entry}
-use Rattle.dc_talk.specs.Logs.{noted, entry_for, entries_made}
-use Rattle.dc_talk.specs.Doors.{IsBehind, HasAsked}
-use Rattle.dc_talk.specs.Acting.{Acting, IsCutShort}
+use Rattle.dc_talk.specs.Logs.{Logged, noted, entry_for, entries_made}
+use Rattle.dc_talk.specs.Doors.{DoorView, IsBehind, HasAsked}
+use Rattle.dc_talk.specs.Acting.{Acting, acting, IsCutShort}
 use Rattle.dc_talk.proofs.Doors.{made_other, made_then}
-use Rattle.dc_talk.proofs.Acting.{behind_later, leaves_none, leaves_ask, leaves_then, cut_after}
+use Rattle.dc_talk.proofs.Acting.{behind_later, leaves_none, leaves_ask, leaves_quiet, leaves_then, cut_after}
 use Rattle.script_core.specs.Orders.{Orders}
 use Rattle.dc_worker.specs.Work.{Adds, AddsSuch}
 
@@ -34,6 +35,13 @@ adds_ask a b i ask say behind asked log = record {
 -- the same, of an ask whose answer is for nobody
 pub orders : (a b : Acting) (i : ℕ) (ask : Ask) (say : Say) → IsBehind a.door i → HasAsked a.door b.door i (entry_for a.door.actor (ask, say)) → b.log ≡ noted a.log (Asked i ask (Unheard say)) → AddsSuch (Orders i ask) a b
 orders a b i ask say behind asked log = record { deeds = Asked i ask (Unheard say) ∷ []; such = (say, refl); adds = adds_ask a b i ask say behind asked log }
+
+-- a note of an item that was spoilt
+pub adds_spoilt : (door : DoorView) (log later : Logged) (from item : ℕ) (why : FrameFault) → later ≡ noted log (Spoilt from item why) → Adds (acting door log) (acting door later) (Spoilt from item why ∷ [])
+adds_spoilt door log later from item why is = record {
+  leaves = leaves_quiet (acting door log) (acting door later) (Spoilt from item why) (λ i. refl) tt refl is;
+  short = λ i some. absurd (some refl);
+}
 
 -- deeds after deeds
 pub adds_then : (a b c : Acting) (ds es : List Deed) → Adds a b ds → Adds b c es → Adds a c (ds ++ es)

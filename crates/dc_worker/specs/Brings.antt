@@ -3,6 +3,7 @@ use Rattle.std.specs.Prelude.{◌≡◌, ◌≤◌, ◌⊎◌, ℕ, List, [], �
 use Rattle.dc_talk.specs.declared.sent.Sent.{Sent}
 use Rattle.dc_talk.specs.Acting.{Acting, IsCutShort}
 use Rattle.script_core.specs.Links.{Inlet, arrivals, arrived, inlet_after, inlet_closed}
+use Rattle.script_core.specs.Carrying.{Route}
 use Rattle.script_core.specs.Rounds.{Brings}
 use Rattle.dc_worker.specs.Work.{AddsSuch}
 
@@ -17,19 +18,20 @@ pub record Incoming : Type 0 where
 abbrev pub incoming : Acting → Inlet Sent → List Sent → Incoming
 incoming acting inlet taken = record { acting = acting; inlet = inlet; taken = taken }
 
--- so many records were taken, and what comes of them while more may come was delivered to a centre
-pub record Receives (at number : ℕ) (old new : Incoming) : Type 0 where
+-- so many records were taken of the link over a route, and what comes of them while more may come was delivered, or noted
+-- where it was spoilt
+pub record Receives (r : Route) (number : ℕ) (old new : Incoming) : Type 0 where
   pub items : List Sent
   pub taken : new.taken ≡ old.taken ++ items
-  pub brings : AddsSuch (Brings at (arrived old.inlet items)) old.acting new.acting
+  pub brings : AddsSuch (Brings r (arrived old.inlet items)) old.acting new.acting
   pub inlet : new.inlet ≡ inlet_after old.inlet items
   pub count : number ≡ length items
 
 -- the same where no more come
-pub record Closes (at number : ℕ) (old new : Incoming) : Type 0 where
+pub record Closes (r : Route) (number : ℕ) (old new : Incoming) : Type 0 where
   pub items : List Sent
   pub taken : new.taken ≡ old.taken ++ items
-  pub brings : AddsSuch (Brings at (arrivals old.inlet items)) old.acting new.acting
+  pub brings : AddsSuch (Brings r (arrivals old.inlet items)) old.acting new.acting
   pub inlet : new.inlet ≡ inlet_closed old.inlet items
   pub count : number ≡ length items
 
@@ -44,16 +46,16 @@ pub record StopsAt (old new : Incoming) : Type 0 where
   pub inlet : (new.inlet ≡ old.inlet) ⊎ (new.inlet ≡ inlet_after old.inlet last) ⊎ (new.inlet ≡ record old.inlet { held = [] })
   pub short : IsCutShort old.acting new.acting
 
--- some records were taken, and what comes of them was delivered to a centre, before it came to an early end
-pub record ReceivesPart (at : ℕ) (old new : Incoming) : Type 0 where
+-- some records were taken of the link over a route, and what comes of them was delivered, before it came to an early end
+pub record ReceivesPart (r : Route) (old new : Incoming) : Type 0 where
   pub number : ℕ
   pub between : Incoming
-  pub receives : Receives at number old between
+  pub receives : Receives r number old between
   pub stops : StopsAt between new
 
 -- so it is where the first of these records were taken
-pub record BringsPart (at : ℕ) (items : List Sent) (old new : Inlet Sent) (a b : Acting) : Type 0 where
+pub record BringsPart (r : Route) (items : List Sent) (old new : Inlet Sent) (a b : Acting) : Type 0 where
   pub taken : List Sent
   pub rest : List Sent
   pub whole : items ≡ taken ++ rest
-  pub part : ReceivesPart at (incoming a old []) (incoming b new taken)
+  pub part : ReceivesPart r (incoming a old []) (incoming b new taken)

@@ -3,12 +3,14 @@ ghost use Rattle.std.specs.Prelude.{◌≡◌, ◌≢◌, ◌≤◌, ℕ, false,
 ghost use Rattle.std.specs.List.{list_any};
 ghost use Rattle.list_core.specs.Members.{In};
 ghost use Rattle.dc_talk.specs.declared.sent.Sent.{Sent};
+ghost use Rattle.dc_talk.specs.declared.links.Arrival.{Arrival};
+ghost use Rattle.dc_talk.specs.declared.links.Arrival.TheVariants.{Whole};
 ghost use Rattle.dc_talk.specs.declared.ask.Ask.TheVariants.{Send};
 ghost use Rattle.dc_talk.specs.declared.line.Line.{Line};
 ghost use Rattle.dc_talk.specs.declared.line.ShipEnd.{ShipEnd};
 ghost use Rattle.dc_talk.specs.declared.log.Deed.{Deed};
 ghost use Rattle.script_core.specs.Carrying.{Route, route, Detour, Sends, Ships, Relays, Tells, InTurn, Settles, is_news};
-ghost use Rattle.script_core.specs.Links.{Inlet, arrivals, arrived, inlet_after};
+ghost use Rattle.script_core.specs.Links.{Inlet, wholes, arrivals, arrived, inlet_after};
 ghost use Rattle.script_core.specs.Provenance.{WasSent, CarriesAll};
 ghost use Rattle.script_core.specs.Rounds.{Brings, Mails, SenderDeeds, ReporterDeeds, PrunerDeeds, others, mailed};
 ghost use Rattle.dc_worker.specs.Settled.{AreNumbered, Centres, IsAlike, PassesAmong, behind_deeds};
@@ -26,7 +28,7 @@ pub fn law_carried()
     ensures sender { (n i : ℕ) (deeds : List Deed) → SenderDeeds n i deeds → CarriesAll [] deeds }
     ensures reporter { (n i : ℕ) (deeds : List Deed) → ReporterDeeds n i deeds → CarriesAll [] deeds }
     ensures pruner { (i round : ℕ) (deeds : List Deed) → PrunerDeeds i round deeds → CarriesAll [] deeds }
-    ensures brings { (before : List Deed) (to : ℕ) (items : List Sent) (deeds : List Deed) → ((item : Sent) → In item items → WasSent before item) → Brings to items deeds → CarriesAll before deeds }
+    ensures brings { (before : List Deed) (r : Route) (items : List (Arrival Sent)) (deeds : List Deed) → ((item : Sent) → In (Whole item) items → WasSent before item) → Brings r items deeds → CarriesAll before deeds }
     ensures more { (front before deeds : List Deed) → CarriesAll before deeds → CarriesAll (front ++ before) deeds }
     ensures both { (before ds es : List Deed) → CarriesAll before ds → CarriesAll (before ++ ds) es → CarriesAll before (ds ++ es) }
 {}
@@ -42,12 +44,12 @@ pub fn law_mailed()
     ensures sent { (j : ℕ) (deeds : List Deed) (item : Sent) → In item (mailed j deeds) → WasSent deeds item }
 {}
 
-/// What is delivered of records that come over a link, and what is held of them, was held before or is one of them.
+/// What arrives whole of records that come over a link, and what is held whole of them, was held before or is one of them.
 /// What comes of records in one round and of others in the next is what comes of all of them in one.
 pub fn law_links()
-    ensures arrivals { (inlet : Inlet Sent) (items : List Sent) (item : Sent) → In item (arrivals inlet items) → In item (inlet.held ++ items) }
-    ensures arrived { (inlet : Inlet Sent) (items : List Sent) (item : Sent) → In item (arrived inlet items) → In item (inlet.held ++ items) }
-    ensures held { (inlet : Inlet Sent) (items : List Sent) (item : Sent) → In item (inlet_after inlet items).held → In item (inlet.held ++ items) }
+    ensures arrivals { (inlet : Inlet Sent) (items : List Sent) (item : Sent) → In (Whole item) (arrivals inlet items) → In item (wholes inlet.held ++ items) }
+    ensures arrived { (inlet : Inlet Sent) (items : List Sent) (item : Sent) → In (Whole item) (arrived inlet items) → In item (wholes inlet.held ++ items) }
+    ensures held { (inlet : Inlet Sent) (items : List Sent) (item : Sent) → In item (wholes (inlet_after inlet items).held) → In item (wholes inlet.held ++ items) }
     ensures arrivals_then { (inlet : Inlet Sent) (xs ys : List Sent) → arrivals inlet (xs ++ ys) ≡ arrived inlet xs ++ arrivals (inlet_after inlet xs) ys }
     ensures arrived_then { (inlet : Inlet Sent) (xs ys : List Sent) → arrived inlet (xs ++ ys) ≡ arrived inlet xs ++ arrived (inlet_after inlet xs) ys }
     ensures after_then { (inlet : Inlet Sent) (xs ys : List Sent) → inlet_after inlet (xs ++ ys) ≡ inlet_after (inlet_after inlet xs) ys }

@@ -14,8 +14,8 @@ use Rattle.wire_codec.specs.Grammar.{frame}
 use Rattle.wire_codec.specs.Spelling.{spelled}
 use Rattle.wire_codec.specs.Answers.{IsAnswer}
 use Rattle.wire_codec.proofs.Answering.{is_answer, one_answer, front_ends}
-use Rattle.link_frames.specs.declared.fault.FrameFault.{FrameFault}
-use Rattle.link_frames.specs.declared.fault.FrameFault.TheVariants.{Short, Bad}
+use Rattle.dc_talk.specs.declared.links.FrameFault.{FrameFault}
+use Rattle.dc_talk.specs.declared.links.FrameFault.TheVariants.{Short, Bad}
 use Rattle.link_frames.specs.Spelling.{frame_of, spelling}
 use Rattle.link_frames.specs.Frames.{HasFrame}
 use Rattle.link_frames.specs.Reading.{decoded_of, whole_of, read_whole}

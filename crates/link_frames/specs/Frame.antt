@@ -2,7 +2,7 @@
 use Rattle.std.specs.Prelude.{◌≡◌, ℕ, List, [], Result, Ok, Err}
 use Rattle.dc_talk.specs.declared.sent.Sent.{Sent}
 use Rattle.dc_talk.specs.Sents.{with_hops}
-use Rattle.link_frames.specs.declared.fault.FrameFault.{FrameFault}
+use Rattle.dc_talk.specs.declared.links.FrameFault.{FrameFault}
 use Rattle.link_frames.specs.Spelling.{spelling}
 use Rattle.link_frames.specs.Frames.{HasFrame}
 use Rattle.link_frames.specs.Reading.{read_whole}

@@ -9,8 +9,8 @@ use Rattle.wire_codec.specs.declared.item.Decoded.TheVariants as decoded
 use Rattle.wire_codec.specs.Fields.{read}
 use Rattle.wire_codec.specs.Grammar.{frame}
 use Rattle.wire_codec.specs.Answers.{told}
-use Rattle.link_frames.specs.declared.fault.FrameFault.{FrameFault}
-use Rattle.link_frames.specs.declared.fault.FrameFault.TheVariants.{Short, Bad, Rest, Report}
+use Rattle.dc_talk.specs.declared.links.FrameFault.{FrameFault}
+use Rattle.dc_talk.specs.declared.links.FrameFault.TheVariants.{Short, Bad, Rest, Report}
 
 -- what the fields of a frame tell of the bytes
 abbrev pub decoded_of : List ℕ → Decoded

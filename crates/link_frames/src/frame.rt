@@ -1,11 +1,13 @@
 // A record as it lies on a link.
-ghost use Rattle.std.specs.Prelude.{◌≡◌, IfOk};
+ghost use Rattle.std.specs.Prelude.{◌≡◌, Err, IfOk};
+ghost use Rattle.dc_talk.specs.declared.links.FrameFault.TheVariants.{Short, Bad};
 ghost use Rattle.link_frames.specs.Spelling.{spelling};
 ghost use Rattle.link_frames.specs.Frames.{HasFrame};
 
 use crate::reading::read_item;
 use crate::spelling::spell_item;
-use dc_talk::Sent;
+use crate::spoiling::{bend, cut};
+use dc_talk::{FrameFault, Sent};
 use ids_core::NoMemory;
 use std::alloc::Global;
 use std::marker::Model;
@@ -54,5 +56,25 @@ impl Frame {
             Ok(sent) => Ok(sent),
             Err(_) => unreachable!(),
         }
+    }
+
+    /// What its bytes are without the last one: they end too early. It fails for want of memory alone.
+    #[tactic(auto, using(crate::proofs::Whole::cut_read))]
+    pub fn read_cut(self, alloc: Global) -> Result<Result<Sent, FrameFault>, NoMemory>
+        ensures { IfOk result (λ read. read ≡ Err Short) }
+    {
+        let Frame { mut bytes } = self;
+        cut(&mut bytes);
+        read_item(alloc, &bytes)
+    }
+
+    /// What its bytes are with 0 as the second one: they are at fault there. It fails for want of memory alone.
+    #[tactic(auto, using(crate::proofs::Whole::bent_read))]
+    pub fn read_bent(self, alloc: Global) -> Result<Result<Sent, FrameFault>, NoMemory>
+        ensures { IfOk result (λ read. read ≡ Err (Bad 1)) }
+    {
+        let Frame { mut bytes } = self;
+        bend(&mut bytes);
+        read_item(alloc, &bytes)
     }
 }

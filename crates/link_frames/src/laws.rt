@@ -3,7 +3,7 @@ ghost use Rattle.std.specs.Prelude.{◌≡◌, ◌<◌, ◌↔◌, ℕ, List, Al
 ghost use Rattle.dc_talk.specs.declared.sent.Sent.{Sent};
 ghost use Rattle.wire_codec.specs.declared.item.Decoded.{Decoded};
 ghost use Rattle.wire_codec.specs.Answers.{IsAnswer};
-ghost use Rattle.link_frames.specs.declared.fault.FrameFault.TheVariants.{Short, Bad};
+ghost use Rattle.dc_talk.specs.declared.links.FrameFault.TheVariants.{Short, Bad};
 ghost use Rattle.link_frames.specs.Spelling.{spelling};
 ghost use Rattle.link_frames.specs.Frames.{HasFrame};
 ghost use Rattle.link_frames.specs.Reading.{decoded_of, read_whole};

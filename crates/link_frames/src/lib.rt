@@ -2,7 +2,6 @@
 //! record, and what the faults of a link make of it. Nothing here knows a link.
 #![tactic(auto)]
 
-mod fault;
 mod frame;
 mod frames;
 mod laws;
@@ -10,7 +9,6 @@ mod reading;
 mod spelling;
 mod spoiling;
 
-pub use fault::FrameFault;
 pub use frame::Frame;
 pub use frames::{fits, see_updates};
 pub use laws::{law_bend_is_bad, law_cut_is_short, law_decoded, law_item_read, law_one_item};

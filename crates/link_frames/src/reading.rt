@@ -2,10 +2,10 @@
 ghost use Rattle.std.specs.Prelude.{◌≡◌, IfOk};
 ghost use Rattle.link_frames.specs.Reading.{record_in, whole_of, read_whole};
 
-use crate::fault::FrameFault;
-use dc_talk::{Sent, SharedRecord};
+use dc_talk::{FrameFault, Sent, SharedRecord};
 use ids_core::NoMemory;
 use std::alloc::Global;
+use tx_core::{Record, Tx};
 use wire_codec::{Decoded, Item, decode};
 
 /// The record with its hops whose frame the bytes are, or why they are the frame of none. Else it fails for want of
@@ -45,9 +45,35 @@ fn record_in(alloc: Global, item: Item) -> Result<Result<Sent, FrameFault>, NoMe
 {
     match item {
         Item::Rec { item, hops } => Ok(Ok(Sent {
-            item: SharedRecord::new(alloc, item)?,
+            item: SharedRecord::new(alloc, shared(item)?)?,
             hops,
         })),
         Item::Rep { .. } => Ok(Err(FrameFault::Report)),
+    }
+}
+
+// The same record, whose updates copies share.
+fn shared(item: Record) -> Result<Record, NoMemory>
+    ensures { IfOk result (λ shared. shared ≡ item) }
+{
+    let Record { stamp, deps, tx } = item;
+    let Tx {
+        dot,
+        rank,
+        snap,
+        updates,
+    } = tx;
+    match updates.share() {
+        Ok(updates) => Ok(Record {
+            stamp,
+            deps,
+            tx: Tx {
+                dot,
+                rank,
+                snap,
+                updates,
+            },
+        }),
+        Err(_) => Err(NoMemory),
     }
 }

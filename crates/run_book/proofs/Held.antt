@@ -23,7 +23,7 @@ use Rattle.dc_talk.specs.declared.calls.Connection.{Connection}
 use Rattle.dc_talk.specs.declared.calls.Cached.{Cached}
 use Rattle.dc_talk.specs.declared.log.Fate.TheVariants.{Heard}
 use Rattle.dc_talk.specs.declared.log.Deed.{Deed}
-use Rattle.dc_talk.specs.declared.log.Deed.TheVariants.{Did, Asked, Told}
+use Rattle.dc_talk.specs.declared.log.Deed.TheVariants.{Did, Asked, Told, Spoilt}
 use Rattle.dc_talk.specs.declared.log.Note.{Note}
 use Rattle.dc_talk.specs.Clients.{Client, new_client, next_tx, next_dot, draft_updates}
 use Rattle.dc_talk.specs.Calls.{op_of, over, looked_up, outcome_of, did, committed}
@@ -180,6 +180,7 @@ held_deed client s C before (Did call outcome) allowed h = held_did client s C c
 held_deed client s C before (Asked i ask (Heard say)) allowed h = unchanged client (heard s i ask say) C (held_heard client s C i ask say h)
 held_deed client s C before (Asked i ask _) allowed h = unchanged client s C h
 held_deed client s C before (Told line) allowed h = unchanged client s C h
+held_deed client s C before (Spoilt from item why) allowed h = absurd allowed
 
 -- a client at first
 held_new : (n client capacity : ℕ) → Held client (new_client n client capacity) []

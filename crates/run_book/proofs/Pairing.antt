@@ -15,7 +15,7 @@ use Rattle.dc_talk.specs.declared.ask.Ask.TheVariants.{Commit}
 use Rattle.dc_talk.specs.declared.say.Say.{Say}
 use Rattle.dc_talk.specs.declared.log.Fate.{Fate}
 use Rattle.dc_talk.specs.declared.log.Deed.{Deed}
-use Rattle.dc_talk.specs.declared.log.Deed.TheVariants.{Did, Asked, Told}
+use Rattle.dc_talk.specs.declared.log.Deed.TheVariants.{Did, Asked, Told, Spoilt}
 use Rattle.dc_talk.specs.declared.log.Note.{Note}
 use Rattle.dc_talk.specs.Entries.{Entry}
 use Rattle.dc_talk.specs.Answers.{answer}
@@ -50,6 +50,7 @@ exchanged_is i (Asked j ask' fate) ask say gives = go (j == i) refl (answered fa
     go false other o told gives = absurd (none-some (ask, say) gives)
 exchanged_is i (Did call outcome) ask say gives = absurd (none-some (ask, say) gives)
 exchanged_is i (Told line) ask say gives = absurd (none-some (ask, say) gives)
+exchanged_is i (Spoilt from item why) ask say gives = absurd (none-some (ask, say) gives)
 
 -- an ask that the centre answered is an exchange
 pub exchanges : (i : ℕ) (ask : Ask) (say : Say) (fate : Fate) → answered fate ≡ Some say → exchanged_in i (Asked i ask fate) ≡ Some (ask, say)

@@ -15,7 +15,7 @@ use Rattle.dc_talk.specs.declared.calls.Outcome.TheVariants.{Fine, Got, Number, 
 use Rattle.dc_talk.specs.declared.calls.Refusal.TheVariants.{TooManyTags}
 use Rattle.dc_talk.specs.declared.log.Fate.TheVariants.{Heard}
 use Rattle.dc_talk.specs.declared.log.Deed.{Deed}
-use Rattle.dc_talk.specs.declared.log.Deed.TheVariants.{Did, Asked, Told}
+use Rattle.dc_talk.specs.declared.log.Deed.TheVariants.{Did, Asked, Told, Spoilt}
 use Rattle.dc_talk.specs.declared.log.Note.{Note}
 use Rattle.dc_talk.specs.Trails.{stable}
 use Rattle.dc_talk.specs.Clients.{Client}
@@ -94,6 +94,7 @@ deed_vector s (Asked i ask (Heard say)) = go (takes s i ask say) refl
     go false is = inl (ap (λ t. (cond t (taken s i ask say) s).vector) is)
 deed_vector s (Asked i ask _) = inl refl
 deed_vector s (Told line) = inl refl
+deed_vector s (Spoilt from item why) = inl refl
 
 -- a deed leaves the snapshot no smaller
 pub deed_covers : (s : Client) (deed : Deed) → Covers (after s deed).vector s.vector

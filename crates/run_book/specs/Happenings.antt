@@ -14,7 +14,7 @@ use Rattle.dc_talk.specs.declared.say.Say.TheVariants.{Trimmed, Records, Vector}
 use Rattle.dc_talk.specs.declared.calls.Connection.{Connection}
 use Rattle.dc_talk.specs.declared.log.Fate.{Fate}
 use Rattle.dc_talk.specs.declared.log.Deed.{Deed}
-use Rattle.dc_talk.specs.declared.log.Deed.TheVariants.{Did, Asked, Told}
+use Rattle.dc_talk.specs.declared.log.Deed.TheVariants.{Did, Asked, Told, Spoilt}
 use Rattle.dc_talk.specs.declared.log.Note.{Note}
 use Rattle.dc_talk.specs.Entries.{Entry}
 use Rattle.dc_talk.specs.Logs.{answered, entry_made, entries_made}
@@ -96,11 +96,12 @@ CarrierAsks trails Stop = Unit {0}
 CarrierAsks trails Start = Unit {0}
 CarrierAsks trails _ = ⊥
 
--- a deed of the operator or of a worker, where the centres have these trails
+-- a deed of the operator or of a worker, where the centres have these trails; that an item was no record each may note
 abbrev pub CarrierAllows : (ℕ → List Entry) → Deed → Type 0
 CarrierAllows trails (Did call outcome) = ⊥
 CarrierAllows trails (Asked i ask fate) = CarrierAsks trails ask
 CarrierAllows trails (Told line) = Unit {0}
+CarrierAllows trails (Spoilt from item why) = Unit {0}
 
 -- a client that is so, and has these notes, notes more, one after another, by the session rule
 abbrev pub ClientDoes : Client → List Note → List Note → Type 0

@@ -64,6 +64,7 @@ impl Replay {
                 _ => Ok(()),
             },
             Deed::Told(_) => Ok(()),
+            Deed::Spoilt { .. } => Ok(()),
         }
     }
 

@@ -8,7 +8,7 @@ use Rattle.list_core.proofs.Passing.{In_filter_map}
 use Rattle.dc_talk.specs.declared.ask.Ask.{Ask}
 use Rattle.dc_talk.specs.declared.log.Fate.{Fate}
 use Rattle.dc_talk.specs.declared.log.Deed.{Deed}
-use Rattle.dc_talk.specs.declared.log.Deed.TheVariants.{Did, Asked, Told}
+use Rattle.dc_talk.specs.declared.log.Deed.TheVariants.{Did, Asked, Told, Spoilt}
 use Rattle.dc_talk.specs.declared.settings.Settings.{Settings}
 use Rattle.dc_talk.specs.Answers.{History}
 use Rattle.script_core.specs.declared.script.Script.{Script}
@@ -57,6 +57,7 @@ run_answered script b n k fits steps = record {
     goes (Asked i ask fate) range = range i ask fate refl
     goes (Did call outcome) range = tt
     goes (Told line) range = tt
+    goes (Spoilt from item why) range = tt
 
 module _ (script : Script) (b c : Book) (runs : AreRuns script b c) where
   -- the same happened

@@ -19,7 +19,7 @@ use Rattle.dc_talk.specs.declared.calls.Outcome.TheVariants.{Got}
 use Rattle.dc_talk.specs.declared.line.Line.{Line}
 use Rattle.dc_talk.specs.declared.line.Line.TheVariants.{ReadValue}
 use Rattle.dc_talk.specs.declared.log.Deed.{Deed}
-use Rattle.dc_talk.specs.declared.log.Deed.TheVariants.{Did, Asked, Told}
+use Rattle.dc_talk.specs.declared.log.Deed.TheVariants.{Did, Asked, Told, Spoilt}
 use Rattle.dc_talk.specs.declared.log.Note.{Note}
 use Rattle.dc_talk.specs.Logs.{Logged}
 use Rattle.print_text.specs.Text.{last_section, lines_in, notes_in, notes_text, operator_last, told_text, text_of}
@@ -55,6 +55,7 @@ notes_printed (note ∷ notes) = go note.deed (notes_printed notes)
     go (Told line) rest = ap (λ text. printed line ++ text) rest
     go (Did call outcome) rest = rest
     go (Asked centre ask fate) rest = rest
+    go (Spoilt from item why) rest = rest
 
 -- the text of a section
 section_printed : (logs : List Logged) (section : ℕ) → lines_in logs section ≡ flat_map printed (section_lines logs section)
@@ -133,6 +134,7 @@ value_line : (deed : Deed) (client : ℕ) (object : ObjectId) (value : Value) �
 value_line (Told line) client object value is = ap (λ (line : Line). value_told (Told line)) (same_Some line (ReadValue client object value) is)
 value_line (Did call outcome) client object value is = absurd (none-some (ReadValue client object value) is)
 value_line (Asked centre ask fate) client object value is = absurd (none-some (ReadValue client object value) is)
+value_line (Spoilt from item why) client object value is = absurd (none-some (ReadValue client object value) is)
 
 -- and what is told as one is a line
 told_line : (deed : Deed) (line : Line) → value_told deed ≡ Some line → line_of deed ≡ Some line
@@ -140,6 +142,7 @@ told_line (Told (ReadValue client object value)) line is = is
 told_line (Told other) line is = absurd (none-some line is)
 told_line (Did call outcome) line is = absurd (none-some line is)
 told_line (Asked centre ask fate) line is = absurd (none-some line is)
+told_line (Spoilt from item why) line is = absurd (none-some line is)
 
 -- what is due is due for a read
 record IsReadBy (c : ℕ) (deed : Deed) (client : ℕ) (object : ObjectId) (value : Value) : Type 0 where

@@ -9,6 +9,8 @@ use Rattle.dc_talk.specs.declared.say.Say.TheVariants.{Base, Down as DownSay, Mi
 use Rattle.dc_talk.specs.declared.log.Fate.TheVariants.{Unheard}
 use Rattle.dc_talk.specs.declared.log.Deed.{Deed}
 use Rattle.dc_talk.specs.declared.log.Deed.TheVariants.{Asked}
+use Rattle.dc_talk.specs.declared.links.Arrival.{Arrival}
+use Rattle.dc_talk.specs.declared.links.Arrival.TheVariants.{Whole, Spoilt}
 use Rattle.dc_talk.specs.declared.line.ShipEnd.{ShipEnd}
 use Rattle.dc_talk.specs.declared.line.Line.{Line}
 use Rattle.dc_talk.specs.declared.line.Line.TheVariants as line
@@ -124,16 +126,17 @@ module _ (c : ℕ) where
   mails_told : (r : Route) (deeds : List Deed) (items : List Sent) → Mails r deeds items → TellsReads c deeds
   mails_told r deeds items is = ask_told r.to Report is.say is.later deeds is.whole (after_needed_told r is.say is.later items is.follows)
 
-  brings_told : (to : ℕ) (items : List Sent) (deeds : List Deed) → Brings to items deeds → TellsReads c deeds
-  brings_told to [] deeds is = none_told deeds is
-  brings_told to (item ∷ items) [] is = absurd is
-  brings_told to (item ∷ items) (deed ∷ deeds) is = subst (λ deed. TellsReads c (deed ∷ deeds)) (sym is.0.1) (brings_told to items deeds is.1)
+  brings_told : (r : Route) (items : List (Arrival Sent)) (deeds : List Deed) → Brings r items deeds → TellsReads c deeds
+  brings_told r [] deeds is = none_told deeds is
+  brings_told r (item ∷ items) [] is = absurd is
+  brings_told r (Whole item ∷ items) (deed ∷ deeds) is = subst (λ deed. TellsReads c (deed ∷ deeds)) (sym is.0.1) (brings_told r items deeds is.1)
+  brings_told r (Spoilt number why ∷ items) (deed ∷ deeds) is = subst (λ deed. TellsReads c (deed ∷ deeds)) (sym is.0) (brings_told r items deeds is.1)
 
   pub sender_told : (n i : ℕ) (deeds : List Deed) → SenderDeeds n i deeds → TellsReads c deeds
   sender_told n i deeds are = turns_told (λ to deeds. (items : List Sent) × Mails (route i to) deeds items) (others n i) deeds (λ to deeds does. mails_told (route i to) deeds does.0 does.1) are
 
-  pub receiver_told : (n j : ℕ) (due : ℕ → List Sent) (deeds : List Deed) → ReceiverDeeds n j due deeds → TellsReads c deeds
-  receiver_told n j due deeds are = turns_told (λ from deeds. Brings j (due from) deeds) (others n j) deeds (λ from deeds does. brings_told j (due from) deeds does) are
+  pub receiver_told : (n j : ℕ) (due : ℕ → List (Arrival Sent)) (deeds : List Deed) → ReceiverDeeds n j due deeds → TellsReads c deeds
+  receiver_told n j due deeds are = turns_told (λ from deeds. Brings (route from j) (due from) deeds) (others n j) deeds (λ from deeds does. brings_told (route from j) (due from) deeds does) are
 
   pub reporter_told : (n i : ℕ) (deeds : List Deed) → ReporterDeeds n i deeds → TellsReads c deeds
   reporter_told n i deeds are = turns_told (λ to deeds. (line : Option Line) × Tells (route i to) deeds line) (others n i) deeds (λ to deeds does. tells_told (route i to) deeds does.0 does.1) are

@@ -33,7 +33,7 @@ use Rattle.run_book.specs.Moves.{Does, client_does, operator_does, worker_does, 
 use Rattle.run_book.specs.Played.{Stage, DoesSo, first_stage, stage_after, IsAt, Plays, no_moves, next_move}
 use Rattle.run_book.specs.Scripted.{HasSteps}
 use Rattle.run_book.proofs.Happenings.Entries.{own_then, other_then}
-use Rattle.run_sections.specs.Orders.{deeds_of, InOrder, none_left, one_first, ClientGoes, OperatorGoes, SenderGoes, ReporterGoes, PrunerGoes, delivered_of, ReceiverGoes}
+use Rattle.run_sections.specs.Orders.{deeds_of, InOrder, none_left, one_first, ClientGoes, OperatorGoes, SenderGoes, ReporterGoes, PrunerGoes, arrived_of, ReceiverGoes}
 use Rattle.run_sections.specs.Sections.{actors_of, Between, first_between, Left, PlaysSection, receipts_in, rounds_in}
 use Rattle.run_sections.specs.Runs.{PlaysSections, no_sections, next_section, IsSectionRunOf}
 use Rattle.run_sections.proofs.Actors.{by_actor}
@@ -197,7 +197,7 @@ module _ (script : Script) (number : ℕ) (section : Section) (old : Between) (l
       (λ s next step m mine none does. (inl (sender_told (worker_of script.clients i Sender - 1) script.n i (deeds_of mine) does), tt))
       refl low 1 tt tt (rounds_in script section) (left.notes (worker_of script.clients i Sender)) tt (plays.senders i centre)).0
   worker_tale i Receiver centre = let r = plays.receivers i centre in (order_tale (ReceiverGoes script.n i) (worker_of script.clients i Receiver) (worker_of script.clients i Receiver - 1) number (λ s. Unit {0})
-      (λ s next step m mine none does. (inl (receiver_told (worker_of script.clients i Receiver - 1) script.n i (λ from. delivered_of m (s from).inlet (does.items from)) (deeds_of mine) does.delivers), tt))
+      (λ s next step m mine none does. (inl (receiver_told (worker_of script.clients i Receiver - 1) script.n i (λ from. arrived_of m (s from).inlet (does.items from)) (deeds_of mine) does.delivers), tt))
       refl low 1 r.first r.last (receipts_in script section) (left.notes (worker_of script.clients i Receiver)) tt r.order).0
   worker_tale i Reporter centre = (order_tale (ReporterGoes script.n i) (worker_of script.clients i Reporter) (worker_of script.clients i Reporter - 1) number (λ s. Unit {0})
       (λ s next step m mine none does. (inl (reporter_told (worker_of script.clients i Reporter - 1) script.n i (deeds_of mine) does), tt))

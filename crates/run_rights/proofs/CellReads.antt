@@ -17,7 +17,7 @@ use Rattle.dc_talk.specs.declared.calls.Call.TheVariants.{Read as ReadCall}
 use Rattle.dc_talk.specs.declared.calls.Outcome.{Outcome}
 use Rattle.dc_talk.specs.declared.calls.Outcome.TheVariants.{Got}
 use Rattle.dc_talk.specs.declared.log.Deed.{Deed}
-use Rattle.dc_talk.specs.declared.log.Deed.TheVariants.{Did, Asked, Told}
+use Rattle.dc_talk.specs.declared.log.Deed.TheVariants.{Did, Asked, Told, Spoilt}
 use Rattle.dc_talk.specs.declared.line.StepWord.{StepWord}
 use Rattle.dc_talk.specs.Clients.{Client}
 use Rattle.dc_talk.specs.Calls.{outcome_of}
@@ -49,6 +49,7 @@ IsReadOf cell (Did call outcome) = call ≡ ReadCall cell
 IsReadOf cell (Asked i (Fetch o here) fate) = Unit {0}
 IsReadOf cell (Asked i _ fate) = ⊥
 IsReadOf cell (Told l) = rights_told l ≡ None
+IsReadOf cell (Spoilt from item why) = ⊥
 
 -- a deed that is quiet and tells no rights
 abbrev pub IsIdle : Deed → Type 0
@@ -59,6 +60,7 @@ read_idle cell (Did call outcome) is = (subst (λ call. IsQuiet (Did call outcom
 read_idle cell (Asked i (Fetch o here) fate) is = (tt, tt)
 read_idle cell (Asked i _ fate) is = absurd is
 read_idle cell (Told l) is = (tt, is)
+read_idle cell (Spoilt from item why) is = absurd is
 
 -- the deeds of a read
 call_reads : (word : StepWord) (share : Share) (cell : ObjectId) (p : Progress) (outcome : Outcome) (deeds : List Deed) → CallDeeds p (cell_read word share cell) outcome deeds → All (IsReadOf cell) deeds

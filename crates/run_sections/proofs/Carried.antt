@@ -8,7 +8,7 @@ use Rattle.dc_talk.specs.declared.ask.Ask.TheVariants as ask
 use Rattle.dc_talk.specs.declared.say.Say.{Say}
 use Rattle.dc_talk.specs.declared.say.Say.TheVariants.{Records, Vector}
 use Rattle.dc_talk.specs.declared.log.Deed.{Deed}
-use Rattle.dc_talk.specs.declared.log.Deed.TheVariants.{Did, Asked, Told}
+use Rattle.dc_talk.specs.declared.log.Deed.TheVariants.{Did, Asked, Told, Spoilt}
 use Rattle.dc_talk.specs.declared.log.Note.{Note}
 use Rattle.dc_talk.specs.Entries.{Entry}
 use Rattle.dc_talk.specs.Sents.{with_hops}
@@ -48,6 +48,7 @@ pub allows_more : (trails others : ℕ → List Entry) → ((i : ℕ) (say : Say
 allows_more trails others more (Asked i a fate) h = asks_more trails others more a h
 allows_more trails others more (Did call outcome) h = absurd h
 allows_more trails others more (Told line) h = tt
+allows_more trails others more (Spoilt from item why) h = tt
 
 -- ---- what each deed carries
 
@@ -103,6 +104,7 @@ module _ (script : Script) (notes : ℕ → List Note) (trails : ℕ → List En
     carries_allowed (Asked i (ask.Commit tx) fate) is = absurd is
     carries_allowed (Did call outcome) is = absurd is
     carries_allowed (Told line) is = tt
+    carries_allowed (Spoilt from item why) is = tt
 
   -- what an actor does one after another, each of which carries by itself, a carrier may do
   pub order_allowed : {S M : Type 0} (Does : S → ℕ → M → List Note → S → Type 0) (section step : ℕ) (s last : S) (ms : List M) (later : List Note) (a : ℕ) → IsCount (actors_of script) a → ((note : Note) → In note later → In note (notes a)) → ((s next : S) (step : ℕ) (m : M) (mine : List Note) → Does s step m mine next → CarriesAll [] (deeds_of mine)) → InOrder Does section step s ms later last → (note : Note) → In note later → CarrierAllows trails note.deed

@@ -28,7 +28,7 @@ use Rattle.run_book.specs.Moves.{client_step, operator_step, client_steps, opera
 use Rattle.run_book.proofs.Happenings.OperatorSteps.{order_go}
 use Rattle.run_book.proofs.Happenings.WorkerRounds.{sender_go, receiver_go, reporter_go, pruner_go}
 use Rattle.run_sections.specs.Apart.{AreApart, StandsAt}
-use Rattle.run_sections.specs.Orders.{deeds_of, OperatorGoes, SenderGoes, ReceiverGoes, ReporterGoes, PrunerGoes, delivered_of}
+use Rattle.run_sections.specs.Orders.{deeds_of, OperatorGoes, SenderGoes, ReceiverGoes, ReporterGoes, PrunerGoes, arrived_of}
 use Rattle.run_sections.specs.Sections.{actors_of, Between, Left, PlaysSection, rounds_in, receipts_in}
 use Rattle.run_sections.proofs.Actors.{by_actor, client_acts}
 use Rattle.run_sections.proofs.InTurn.{order_each, deed_holds, notes_within, client_go}
@@ -105,7 +105,7 @@ module _ (script : Script) (number : ℕ) (section : Section) (old : Between) (l
   worker_reaches i Receiver range =
       let r = plays.receivers i range in
       order_each (ReceiverGoes script.n i) number (λ note. GoesToOneOf script.n note.deed) 1 _ r.last (receipts_in script section) (left.notes (worker_of script.clients i Receiver))
-      (λ s next step m mine here among does note there. deed_holds (GoesToOneOf script.n) mine note (receiver_go script.n i (λ from. delivered_of m (s from).inlet (does.items from)) (deeds_of mine) range does.delivers) there) r.order
+      (λ s next step m mine here among does note there. deed_holds (GoesToOneOf script.n) mine note (receiver_go script.n i (λ from. arrived_of m (s from).inlet (does.items from)) (deeds_of mine) range does.delivers) there) r.order
   worker_reaches i Reporter range = order_each (ReporterGoes script.n i) number (λ note. GoesToOneOf script.n note.deed) 1 tt tt (rounds_in script section) (left.notes (worker_of script.clients i Reporter))
       (λ s next step m mine here among does note there. deed_holds (GoesToOneOf script.n) mine note (reporter_go script.n i (deeds_of mine) range does) there) (plays.reporters i range)
   worker_reaches i Pruner range = order_each (PrunerGoes i) number (λ note. GoesToOneOf script.n note.deed) 1 tt tt (rounds_in script section) (left.notes (worker_of script.clients i Pruner))

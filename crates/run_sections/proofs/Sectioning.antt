@@ -17,7 +17,7 @@ use Rattle.script_core.specs.declared.script.Script.{Script}
 use Rattle.script_core.specs.declared.steps.Section.{Section}
 use Rattle.script_core.specs.declared.rounds.Role.{Role}
 use Rattle.script_core.specs.declared.rounds.Role.TheVariants.{Sender, Receiver, Reporter, Pruner}
-use Rattle.script_core.specs.Links.{Inlet}
+use Rattle.script_core.specs.Links.{Inlet, wholes}
 use Rattle.script_core.specs.Rows.{IsSection}
 use Rattle.script_core.specs.Rounds.{worker_of}
 use Rattle.script_core.specs.Scripts.{header_of}
@@ -62,7 +62,7 @@ none_stands script = record { clients = λ client range. refl; own = λ client r
 -- ---- behind a section
 
 module _ (script : Script) (number : ℕ) (section : Section) (old : Between) (left : Left) (new : Between) (notes : ℕ → List Note) (trails : ℕ → List Entry) (sound : IsSection (header_of script) section) (apart : AreApart script notes trails) (stands : StandsAt script notes old) (plays : PlaysSection script number section old left new) where
-  -- the links to centre j hold no record, neither at first nor behind the section
+  -- the links to centre j hold no item, neither at first nor behind the section
   starts_bare : (j from : ℕ) → (range : IsCount script.n j) → IsCount script.n from → from ≢ j → ((plays.receivers j range).first from).inlet.held ≡ []
   starts_bare j from range there other =
       ap (λ (now : Intake). now.inlet.held) ((plays.receivers j range).begins from there other)
@@ -128,7 +128,7 @@ module _ (script : Script) (number : ℕ) (section : Section) (old : Between) (l
         go : (phase : Bool) (mine : List Note) (first last : ℕ → Intake) → ((from : ℕ) → IsCount script.n from → from ≢ j → (first from).inlet.held ≡ []) → ((from : ℕ) → IsCount script.n from → from ≢ j → phase ≡ true → (last from).taken ≡ mail_left script left from j) → InOrder (ReceiverGoes script.n j) number 1 first (cond phase (replicate script.rounds takes_some ++ takes_rest ∷ []) []) mine last → (note : Note) → In note mine → CarrierAllows (trails_then trails left) note.deed
         go true mine first last bare all order note there = receiver_allowed script.n j number (trails_then trails left) 1 first last (replicate script.rounds takes_some ++ takes_rest ∷ []) mine
             (λ from centre other item taken. mail_sent from j item centre (subst (In item) (all from centre other refl) taken))
-            (λ from centre other item held. absurd (subst (In item) (bare from centre other) held)) order note there
+            (λ from centre other item held. absurd (subst (λ all. In item (wholes all)) (bare from centre other) held)) order note there
         go false mine first last bare all none_left note there = absurd there
 
     -- what a worker does a carrier may do

@@ -42,7 +42,7 @@ notes_then notes left a = notes a ++ left.notes a
 abbrev pub trails_then : (ℕ → List Entry) → Left → ℕ → List Entry
 trails_then trails left i = trails i ++ left.entries i
 
--- where these notes were made, each client is as its own say, and no link between two centres holds a record
+-- where these notes were made, each client is as its own say, and no link between two centres holds an item
 pub record StandsAt (script : Script) (notes : ℕ → List Note) (here : Between) : Type 0 where
   pub clients : (client : ℕ) → IsCount script.clients client → (here.come client).client ≡ client_after script.n client script.cache (notes (client + 1))
   pub own : (client : ℕ) → IsCount script.clients client → (here.come client).notes ≡ notes (client + 1)

@@ -3,6 +3,7 @@ use Rattle.std.specs.Prelude.{◌≡◌, ◌≢◌, ◌≤◌, ℕ, ◌+◌, map
 use Rattle.dc_talk.specs.declared.sent.Sent.{Sent}
 use Rattle.dc_talk.specs.declared.log.Deed.{Deed}
 use Rattle.dc_talk.specs.declared.log.Note.{Note}
+use Rattle.dc_talk.specs.declared.links.Arrival.{Arrival}
 use Rattle.script_core.specs.declared.steps.ClientStep.{ClientStep}
 use Rattle.script_core.specs.declared.steps.OperatorStep.{OperatorStep}
 use Rattle.script_core.specs.declared.rounds.TheConstants.{MOST_MAILED}
@@ -61,10 +62,10 @@ abbrev pub MayTake : Receipt → List Sent → Type 0
 MayTake takes_some items = length items ≤ MOST_MAILED
 MayTake takes_rest items = Unit {0}
 
--- what is delivered as records are taken from a link
-abbrev pub delivered_of : Receipt → Inlet Sent → List Sent → List Sent
-delivered_of takes_some inlet items = arrived inlet items
-delivered_of takes_rest inlet items = arrivals inlet items
+-- what arrives as records are taken from a link
+abbrev pub arrived_of : Receipt → Inlet Sent → List Sent → List (Arrival Sent)
+arrived_of takes_some inlet items = arrived inlet items
+arrived_of takes_rest inlet items = arrivals inlet items
 
 -- the end of the link then
 abbrev pub inlet_then : Receipt → Inlet Sent → List Sent → Inlet Sent
@@ -72,9 +73,9 @@ inlet_then takes_some inlet items = inlet_after inlet items
 inlet_then takes_rest inlet items = inlet_closed inlet items
 
 -- the receiver of centre i among n makes a round: of the link from each other centre it takes the next records, as many
--- as it finds, and delivers what comes of them by the link's fault
+-- as it finds, and delivers what arrives of them whole by the link's fault
 pub record ReceiverGoes (n i : ℕ) (s : ℕ → Intake) (step : ℕ) (receipt : Receipt) (notes : List Note) (later : ℕ → Intake) : Type 0 where
   pub items : ℕ → List Sent
   pub may : (from : ℕ) → IsCount n from → from ≢ i → MayTake receipt (items from)
-  pub delivers : ReceiverDeeds n i (λ from. delivered_of receipt (s from).inlet (items from)) (deeds_of notes)
+  pub delivers : ReceiverDeeds n i (λ from. arrived_of receipt (s from).inlet (items from)) (deeds_of notes)
   pub then_is : (from : ℕ) → IsCount n from → from ≢ i → later from ≡ intake (inlet_then receipt (s from).inlet (items from)) ((s from).taken ++ items from)

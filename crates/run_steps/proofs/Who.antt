@@ -13,7 +13,7 @@ use Rattle.dc_talk.specs.declared.calls.Outcome.TheVariants.{Fine, Got, Number, 
 use Rattle.dc_talk.specs.declared.calls.Refusal.TheVariants.{TooManyTags}
 use Rattle.dc_talk.specs.declared.log.Fate.TheVariants.{Heard}
 use Rattle.dc_talk.specs.declared.log.Deed.{Deed}
-use Rattle.dc_talk.specs.declared.log.Deed.TheVariants.{Did, Asked, Told}
+use Rattle.dc_talk.specs.declared.log.Deed.TheVariants.{Did, Asked, Told, Spoilt}
 use Rattle.dc_talk.specs.declared.log.Note.{Note}
 use Rattle.dc_talk.specs.Clients.{Client}
 use Rattle.dc_talk.specs.Calls.{did}
@@ -58,6 +58,7 @@ after_who s (Did call outcome) = did_who s call outcome
 after_who s (Asked i ask (Heard say)) = heard_who s i ask say
 after_who s (Asked i ask _) = refl
 after_who s (Told line) = refl
+after_who s (Spoilt from item why) = refl
 
 -- so do notes, one after another
 pub behind_who : (s : Client) (notes : List Note) → (fold (λ s note. after s note.deed) s notes).client ≡ s.client

@@ -6,7 +6,7 @@ use Rattle.dc_talk.specs.declared.calls.Change.TheVariants.{Inc}
 use Rattle.dc_talk.specs.declared.calls.Call.{Call}
 use Rattle.dc_talk.specs.declared.calls.Call.TheVariants.{Begin as BeginCall, Change as ChangeCall, Read as ReadCall, Commit as CommitCall, Abort as AbortCall}
 use Rattle.dc_talk.specs.declared.log.Deed.{Deed}
-use Rattle.dc_talk.specs.declared.log.Deed.TheVariants.{Did}
+use Rattle.dc_talk.specs.declared.log.Deed.TheVariants.{Did, Spoilt}
 use Rattle.script_core.specs.declared.steps.ClientStep.{ClientStep}
 use Rattle.script_core.specs.declared.steps.ClientStep.TheVariants.{Begin, Change, Read, Grant, Give, Take, Rights, Commit, Abort}
 use Rattle.script_core.specs.declared.steps.Share.{Share}
@@ -37,4 +37,5 @@ IsCallOf _ call = ⊥
 -- a deed of a step: an ask, a line, or one of its calls, however that ended
 abbrev pub IsDeedOf : ClientStep → Deed → Type 0
 IsDeedOf does (Did call outcome) = IsCallOf does call
+IsDeedOf does (Spoilt from item why) = ⊥
 IsDeedOf does _ = Unit {0}

@@ -3,10 +3,11 @@ use Rattle.std.proofs.Common.{◌≡◌, ◌≢◌, ◌≤◌, ◌⊎◌, inl, i
 use Rattle.std.specs.Prelude.{◌&&◌, ◌%◌, not}
 use Rattle.std.proofs.lemmas.Bool.{cases_eq, eq-eqb, ne_eqb, le-leb}
 use Rattle.ids_core.specs.declared.limits.TheConstants.{MOST_CENTRES}
+use Rattle.dc_talk.specs.declared.sent.Sent.{Sent}
+use Rattle.dc_talk.specs.declared.links.Arrival.{Arrival}
 use Rattle.dc_talk.specs.declared.links.LinkFault.{LinkFault}
 use Rattle.dc_talk.specs.declared.log.Deed.{Deed}
 use Rattle.dc_talk.specs.Acting.{Acting}
-use Rattle.dc_talk.specs.declared.sent.Sent.{Sent}
 use Rattle.script_core.specs.declared.steps.OperatorStep.TheVariants.{Link}
 use Rattle.script_core.specs.declared.rounds.Role.TheVariants.{Sender, Receiver, Reporter, Pruner}
 use Rattle.script_core.specs.Steps.{IsCount}
@@ -41,7 +42,7 @@ pub sender_worked : (n number i : ℕ) (old new : List Post) (a b : Acting) → 
 sender_worked n number i old new a b few is = record { deeds = is.deeds; such = is.such; leaves = is.adds.leaves; posts = λ framed from to f t. is.posts from to (within n from few f) (within n to few t) ∙ ap (λ items. cond (from == i && not (to == i)) (post_put items (post_at old from to)) (post_at old from to)) (framed to) }
 
 -- of a receiver, whichever its round
-received : (due : Post → List Sent) (later : Post → Post) (n i : ℕ) (old new : List Post) (a b : Acting) → n ≤ MOST_CENTRES → HasReceived due later n i old new a b → (from to : ℕ) → IsCount n from → IsCount n to → post_at new from to ≡ cond (to == i && not (from == i)) (later (post_at old from to)) (post_at old from to)
+received : (due : Post → List (Arrival Sent)) (later : Post → Post) (n i : ℕ) (old new : List Post) (a b : Acting) → n ≤ MOST_CENTRES → HasReceived due later n i old new a b → (from to : ℕ) → IsCount n from → IsCount n to → post_at new from to ≡ cond (to == i && not (from == i)) (later (post_at old from to)) (post_at old from to)
 received due later n i old new a b few is from to f t =
     is.posts from to (within n from few f) (within n to few t)
     ∙ (ap (λ test. cond ((to == i && not (from == i)) && test) (later (post_at old from to)) (post_at old from to)) (le-leb from n f.1) ∙ whole (to == i && not (from == i)) (later (post_at old from to)) (post_at old from to))

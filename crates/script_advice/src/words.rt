@@ -10,7 +10,7 @@ use std::alloc::{AllocError, Global};
 const A_CLIENT: &[u8] = b"c1";
 
 /// How many forms are told at most; where there are more, the words are that tell them apart.
-const MOST_FORMS: usize = 4;
+const MOST_FORMS: usize = 6;
 
 // Whether a word is among others.
 fn is_among(known: &[&[u8]], word: &[u8]) -> bool {

@@ -11,7 +11,7 @@ use Rattle.dc_talk.specs.declared.say.Say.{Say}
 use Rattle.dc_talk.specs.declared.say.Say.TheVariants.{Records, Vector}
 use Rattle.dc_talk.specs.declared.log.Fate.TheVariants.{Unheard}
 use Rattle.dc_talk.specs.declared.log.Deed.{Deed}
-use Rattle.dc_talk.specs.declared.log.Deed.TheVariants.{Did, Asked, Told}
+use Rattle.dc_talk.specs.declared.log.Deed.TheVariants.{Did, Asked, Told, Spoilt}
 use Rattle.dc_talk.specs.declared.line.ShipEnd.{ShipEnd}
 use Rattle.dc_talk.specs.declared.line.Line.{Line}
 use Rattle.dc_talk.specs.Sents.{with_hops}
@@ -51,6 +51,7 @@ carries_behind front before (Asked i (Fetch object here) fate) is = absurd is
 carries_behind front before (Asked i (Commit tx) fate) is = absurd is
 carries_behind front before (Did call outcome) is = absurd is
 carries_behind front before (Told line) is = tt
+carries_behind front before (Spoilt from item why) is = tt
 
 -- so do all
 pub carries_more : (front before deeds : List Deed) → CarriesAll before deeds → CarriesAll (front ++ before) deeds

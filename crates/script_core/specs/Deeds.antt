@@ -1,6 +1,6 @@
 -- What a step leaves in a log: the calls of the session with how they ended, the asks with what became of them,
 -- and the line of the step. All but the answers of the centres is fixed.
-use Rattle.std.specs.Prelude.{◌≡◌, ℕ, ℤ, pos, int_lt, Bool, true, false, ◌==◌, cond, fold, map, List, [], ◌∷◌, ◌++◌, Option, Some, None}
+use Rattle.std.specs.Prelude.{◌≡◌, ℕ, ℤ, pos, int_lt, Bool, true, false, cond, fold, map, List, [], ◌∷◌, ◌++◌, Option, Some, None}
 use Rattle.std.specs.Option.{option_map}
 use Rattle.std.specs.List.{list_any}
 use Rattle.std.specs.Int.{w128, int_wrap}

@@ -7,7 +7,7 @@ use Rattle.dc_talk.specs.declared.ask.Ask.TheVariants.{Send, Deliver, Relay, Rep
 use Rattle.dc_talk.specs.declared.say.Say.{Say}
 use Rattle.dc_talk.specs.declared.say.Say.TheVariants.{Records, Vector}
 use Rattle.dc_talk.specs.declared.log.Deed.{Deed}
-use Rattle.dc_talk.specs.declared.log.Deed.TheVariants.{Asked, Told}
+use Rattle.dc_talk.specs.declared.log.Deed.TheVariants.{Asked, Told, Spoilt}
 use Rattle.dc_talk.specs.Sents.{with_hops}
 use Rattle.dc_talk.specs.Logs.{exchanged_in}
 
@@ -37,6 +37,7 @@ Carries before (Asked i Prune fate) = Unit {0}
 Carries before (Asked i Stop fate) = Unit {0}
 Carries before (Asked i Start fate) = Unit {0}
 Carries before (Told line) = Unit {0}
+Carries before (Spoilt from item why) = Unit {0}
 Carries before _ = ⊥
 
 -- the same of each of the deeds, after those before it

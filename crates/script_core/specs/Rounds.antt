@@ -2,12 +2,14 @@
 use Rattle.std.specs.Prelude.{◌≡◌, ℕ, ◌+◌, ◌-◌, ◌*◌, ◌%◌, ◌==◌, Bool, cond, not, filter, List, [], ◌∷◌, ◌++◌, Option}
 use Rattle.vv_core.specs.Vectors.{at, centres}
 use Rattle.dc_talk.specs.declared.sent.Sent.{Sent}
+use Rattle.dc_talk.specs.declared.links.Arrival.{Arrival}
+use Rattle.dc_talk.specs.declared.links.Arrival.TheVariants as arrival
 use Rattle.dc_talk.specs.declared.ask.Ask.TheVariants.{Send, Deliver, Report, Prune}
 use Rattle.dc_talk.specs.declared.say.Say.{Say}
 use Rattle.dc_talk.specs.declared.say.Say.TheVariants.{Records, Vector}
 use Rattle.dc_talk.specs.declared.log.Fate.TheVariants.{Unheard}
 use Rattle.dc_talk.specs.declared.log.Deed.{Deed}
-use Rattle.dc_talk.specs.declared.log.Deed.TheVariants.{Asked}
+use Rattle.dc_talk.specs.declared.log.Deed.TheVariants.{Asked, Spoilt}
 use Rattle.dc_talk.specs.declared.line.Line.{Line}
 use Rattle.script_core.specs.declared.rounds.TheConstants.{MOST_MAILED, ROUNDS_BETWEEN_PRUNES}
 use Rattle.script_core.specs.declared.rounds.Role.{Role}
@@ -69,15 +71,20 @@ mailed to deeds = mailed_from 0 to deeds
 
 -- ---- a receiver
 
--- deliveries to a centre of just these records, in order, whatever it answers
-abbrev pub Brings : ℕ → List Sent → List Deed → Type 0
-Brings to [] deeds = deeds ≡ []
-Brings to (item ∷ items) [] = ⊥
-Brings to (item ∷ items) (deed ∷ deeds) = ((say : Say) × (deed ≡ Asked to (Deliver item.item item.hops) (Unheard say))) × Brings to items deeds
+-- what comes of an item of a link: a delivery of its record, whatever is answered, or a note that it was none
+abbrev pub BringsOne : Route → Arrival Sent → Deed → Type 0
+BringsOne r (arrival.Whole item) deed = (say : Say) × (deed ≡ Asked r.to (Deliver item.item item.hops) (Unheard say))
+BringsOne r (arrival.Spoilt number why) deed = deed ≡ Spoilt r.from number why
 
--- a round of the receiver of centre j among n, where these records are due from each other centre
-abbrev pub ReceiverDeeds : ℕ → ℕ → (ℕ → List Sent) → List Deed → Type 0
-ReceiverDeeds n j due deeds = InTurn (λ from deeds. Brings j (due from) deeds) (others n j) deeds
+-- so it is with just these items, in order
+abbrev pub Brings : Route → List (Arrival Sent) → List Deed → Type 0
+Brings r [] deeds = deeds ≡ []
+Brings r (item ∷ items) [] = ⊥
+Brings r (item ∷ items) (deed ∷ deeds) = BringsOne r item deed × Brings r items deeds
+
+-- a round of the receiver of centre j among n, where these items are due from each other centre
+abbrev pub ReceiverDeeds : ℕ → ℕ → (ℕ → List (Arrival Sent)) → List Deed → Type 0
+ReceiverDeeds n j due deeds = InTurn (λ from deeds. Brings (route from j) (due from) deeds) (others n j) deeds
 
 -- ---- a reporter and a pruner
 

@@ -14,7 +14,7 @@ use Rattle.dc_talk.specs.Calls.{sort_of_change}
 use Rattle.dc_talk.specs.declared.line.StepWord.{StepWord}
 use Rattle.dc_talk.specs.declared.line.StepWord.TheVariants.{Inc as IncWord, Set as SetWord, Add as AddWord, Del as DelWord, Put as PutWord, Drop as DropWord, Read as ReadWord, Grant as GrantWord, Give as GiveWord, Take as TakeWord, Rights as RightsWord}
 use Rattle.dc_talk.specs.declared.links.LinkFault.{LinkFault}
-use Rattle.dc_talk.specs.declared.links.LinkFault.TheVariants.{Clean, Drop, Twice, Hold}
+use Rattle.dc_talk.specs.declared.links.LinkFault.TheVariants.{Clean, Drop, Twice, Hold, Cut, Bend}
 use Rattle.script_core.specs.declared.rounds.TheConstants.{MOST_EVERY}
 use Rattle.script_core.specs.declared.script.Header.{Header}
 use Rattle.script_core.specs.declared.steps.ClientStep.{ClientStep}
@@ -152,6 +152,8 @@ IsFault Clean = Unit {0}
 IsFault (Drop every) = IsCount MOST_EVERY every
 IsFault (Twice every) = IsCount MOST_EVERY every
 IsFault (Hold every) = IsCount MOST_EVERY every
+IsFault (Cut every) = IsCount MOST_EVERY every
+IsFault (Bend every) = IsCount MOST_EVERY every
 
 -- what the operator may do in a script of n centres
 abbrev pub IsOperatorStep : ℕ → OperatorStep → Type 0

@@ -168,6 +168,26 @@ a_link_to_the_same_centre : RefusedAt 3 (codes "link 2 2 twice 1\n") cause.Range
 unfolding script_read words_of number_in delta_in object_named form_among said_word row_of row_in_text row_in may_stand read_more
 a_link_to_the_same_centre = refl
 
+a_cut_of_no_item : RefusedAt 3 (codes "link 1 2 cut 0\n") cause.Range
+unfolding script_read words_of number_in delta_in object_named form_among said_word row_of row_in_text row_in may_stand read_more
+a_cut_of_no_item = refl
+
+a_bend_of_too_many_items : RefusedAt 3 (codes "link 2 1 bend 1000001\n") cause.Range
+unfolding script_read words_of number_in delta_in object_named form_among said_word row_of row_in_text row_in may_stand read_more
+a_bend_of_too_many_items = refl
+
+a_bend_without_a_number : RefusedAt 3 (codes "link 1 2 bend\n") cause.Count
+unfolding script_read words_of number_in delta_in object_named form_among said_word row_of row_in_text row_in may_stand read_more
+a_bend_without_a_number = refl
+
+a_cut_on_the_way_to_itself : RefusedAt 3 (codes "link 1 1 cut 2\n") cause.Range
+unfolding script_read words_of number_in delta_in object_named form_among said_word row_of row_in_text row_in may_stand read_more
+a_cut_on_the_way_to_itself = refl
+
+a_link_that_snaps : RefusedAt 3 (codes "link 1 2 snap 2\n") cause.Word
+unfolding script_read words_of number_in delta_in object_named form_among said_word row_of row_in_text row_in may_stand read_more
+a_link_that_snaps = refl
+
 -- ---- relays
 
 -- this line behind the two of a header with three centres and one client is refused so
@@ -286,7 +306,7 @@ two_phases : Reads (codes "phase\nup 1\nend\nphase\ndown 2\nend\n") (phase_of (O
 unfolding script_read words_of number_in delta_in object_named form_among said_word row_of row_in_text row_in may_stand read_more
 two_phases = refl
 
-faults_of_links : Reads (codes "link 1 2 hold 3\nlink 2 1 drop 1\nlink 1 2 twice 2\nlink 1 2 clean\n") (section_of (Operator (Link 1 2 (fault.Hold 3))) ∷ section_of (Operator (Link 2 1 (fault.Drop 1))) ∷ section_of (Operator (Link 1 2 (fault.Twice 2))) ∷ section_of (Operator (Link 1 2 fault.Clean)) ∷ [])
+faults_of_links : Reads (codes "link 1 2 hold 3\nlink 2 1 drop 1\nlink 1 2 twice 2\nlink 2 1 cut 4\nlink 1 2 bend 5\nlink 1 2 clean\n") (section_of (Operator (Link 1 2 (fault.Hold 3))) ∷ section_of (Operator (Link 2 1 (fault.Drop 1))) ∷ section_of (Operator (Link 1 2 (fault.Twice 2))) ∷ section_of (Operator (Link 2 1 (fault.Cut 4))) ∷ section_of (Operator (Link 1 2 (fault.Bend 5))) ∷ section_of (Operator (Link 1 2 fault.Clean)) ∷ [])
 unfolding script_read words_of number_in delta_in object_named form_among said_word row_of row_in_text row_in may_stand read_more
 faults_of_links = refl
 

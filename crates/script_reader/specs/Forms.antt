@@ -54,6 +54,8 @@ word_text word.Tell = codes "tell"
 word_text word.Prune = codes "prune"
 word_text word.Link = codes "link"
 word_text word.Hold = codes "hold"
+word_text word.Cut = codes "cut"
+word_text word.Bend = codes "bend"
 word_text word.Clean = codes "clean"
 word_text word.Settle = codes "settle"
 word_text word.Phase = codes "phase"
@@ -99,6 +101,8 @@ parts_of form.Prune = Fixed word.Prune ∷ Centre ∷ []
 parts_of form.LinkDrop = Fixed word.Link ∷ Centre ∷ Other ∷ Fixed word.Drop ∷ Count 1 MOST_COUNTED ∷ []
 parts_of form.LinkTwice = Fixed word.Link ∷ Centre ∷ Other ∷ Fixed word.Twice ∷ Count 1 MOST_COUNTED ∷ []
 parts_of form.LinkHold = Fixed word.Link ∷ Centre ∷ Other ∷ Fixed word.Hold ∷ Count 1 MOST_COUNTED ∷ []
+parts_of form.LinkCut = Fixed word.Link ∷ Centre ∷ Other ∷ Fixed word.Cut ∷ Count 1 MOST_COUNTED ∷ []
+parts_of form.LinkBend = Fixed word.Link ∷ Centre ∷ Other ∷ Fixed word.Bend ∷ Count 1 MOST_COUNTED ∷ []
 parts_of form.LinkClean = Fixed word.Link ∷ Centre ∷ Other ∷ Fixed word.Clean ∷ []
 parts_of form.Settle = Fixed word.Settle ∷ []
 parts_of form.Phase = Fixed word.Phase ∷ []
@@ -106,7 +110,7 @@ parts_of form.End = Fixed word.End ∷ []
 
 -- all forms
 abbrev pub forms : List Form
-forms = form.Centres ∷ form.Clients ∷ form.Cache ∷ form.Limit ∷ form.Threads ∷ form.Rounds ∷ form.Connect ∷ form.Begin ∷ form.Inc ∷ form.Set ∷ form.Add ∷ form.Del ∷ form.Put ∷ form.Drop ∷ form.Read ∷ form.Grant ∷ form.Give ∷ form.Take ∷ form.Rights ∷ form.Commit ∷ form.Abort ∷ form.Push ∷ form.Flush ∷ form.Refresh ∷ form.Again ∷ form.LoseAsk ∷ form.LoseReply ∷ form.AskTwice ∷ form.Down ∷ form.Up ∷ form.ShipOne ∷ form.Ship ∷ form.Relay ∷ form.Tell ∷ form.Prune ∷ form.LinkDrop ∷ form.LinkTwice ∷ form.LinkHold ∷ form.LinkClean ∷ form.Settle ∷ form.Phase ∷ form.End ∷ []
+forms = form.Centres ∷ form.Clients ∷ form.Cache ∷ form.Limit ∷ form.Threads ∷ form.Rounds ∷ form.Connect ∷ form.Begin ∷ form.Inc ∷ form.Set ∷ form.Add ∷ form.Del ∷ form.Put ∷ form.Drop ∷ form.Read ∷ form.Grant ∷ form.Give ∷ form.Take ∷ form.Rights ∷ form.Commit ∷ form.Abort ∷ form.Push ∷ form.Flush ∷ form.Refresh ∷ form.Again ∷ form.LoseAsk ∷ form.LoseReply ∷ form.AskTwice ∷ form.Down ∷ form.Up ∷ form.ShipOne ∷ form.Ship ∷ form.Relay ∷ form.Tell ∷ form.Prune ∷ form.LinkDrop ∷ form.LinkTwice ∷ form.LinkHold ∷ form.LinkCut ∷ form.LinkBend ∷ form.LinkClean ∷ form.Settle ∷ form.Phase ∷ form.End ∷ []
 
 -- a `c` and digits
 abbrev pub is_client_word : List ℕ → Bool

@@ -49,6 +49,8 @@ pub enum Word {
     Prune,
     Link,
     Hold,
+    Cut,
+    Bend,
     Clean,
     Settle,
     Phase,
@@ -137,6 +139,8 @@ pub enum Form {
     LinkDrop,
     LinkTwice,
     LinkHold,
+    LinkCut,
+    LinkBend,
     LinkClean,
     Settle,
     Phase,
@@ -144,7 +148,7 @@ pub enum Form {
 }
 
 /// All forms.
-pub const FORMS: [Form; 42] = [
+pub const FORMS: [Form; 44] = [
     Form::Centres,
     Form::Clients,
     Form::Cache,
@@ -183,6 +187,8 @@ pub const FORMS: [Form; 42] = [
     Form::LinkDrop,
     Form::LinkTwice,
     Form::LinkHold,
+    Form::LinkCut,
+    Form::LinkBend,
     Form::LinkClean,
     Form::Settle,
     Form::Phase,
@@ -232,6 +238,8 @@ pub fn spelled(word: Word) -> &'static [u8]
         Word::Prune => b"prune",
         Word::Link => b"link",
         Word::Hold => b"hold",
+        Word::Cut => b"cut",
+        Word::Bend => b"bend",
         Word::Clean => b"clean",
         Word::Settle => b"settle",
         Word::Phase => b"phase",
@@ -412,6 +420,26 @@ pub fn parts(form: Form) -> &'static [Part]
             Part::Centre,
             Part::Other,
             Part::Fixed(Word::Hold),
+            Part::Count {
+                least: 1,
+                most: MOST_COUNTED,
+            },
+        ],
+        Form::LinkCut => &[
+            Part::Fixed(Word::Link),
+            Part::Centre,
+            Part::Other,
+            Part::Fixed(Word::Cut),
+            Part::Count {
+                least: 1,
+                most: MOST_COUNTED,
+            },
+        ],
+        Form::LinkBend => &[
+            Part::Fixed(Word::Link),
+            Part::Centre,
+            Part::Other,
+            Part::Fixed(Word::Bend),
             Part::Count {
                 least: 1,
                 most: MOST_COUNTED,

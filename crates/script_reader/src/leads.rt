@@ -26,6 +26,8 @@ pub fn forms_from(letter: u8) -> &'static [Form]
             Form::LinkDrop,
             Form::LinkTwice,
             Form::LinkHold,
+            Form::LinkCut,
+            Form::LinkBend,
             Form::LinkClean,
         ],
         b'p' => &[Form::Prune, Form::Phase],

@@ -228,6 +228,18 @@ pub fn row_of(form: Form, said: &Said) -> Row
                 every: u64::from(said.count),
             },
         ),
+        Form::LinkCut => link_row(
+            said,
+            LinkFault::Cut {
+                every: u64::from(said.count),
+            },
+        ),
+        Form::LinkBend => link_row(
+            said,
+            LinkFault::Bend {
+                every: u64::from(said.count),
+            },
+        ),
         Form::LinkClean => link_row(said, LinkFault::Clean),
         Form::Settle => operator_row(OperatorStep::Settle),
         Form::Phase => Row::Phase,

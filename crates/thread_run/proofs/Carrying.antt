@@ -11,6 +11,7 @@ use Rattle.list_core.specs.Members.{In}
 use Rattle.list_core.proofs.Members.{In_from_filter}
 use Rattle.vv_core.specs.Vectors.{centres}
 use Rattle.dc_talk.specs.declared.sent.Sent.{Sent}
+use Rattle.dc_talk.specs.declared.links.Arrival.{Arrival}
 use Rattle.dc_talk.specs.declared.log.Deed.{Deed}
 use Rattle.dc_talk.specs.declared.log.Note.{Note}
 use Rattle.mail_link.specs.Ends.{GiverView}
@@ -22,11 +23,11 @@ use Rattle.script_core.specs.declared.steps.Step.TheVariants.{Client, Operator}
 use Rattle.script_core.specs.Steps.{IsCount, IsStepOf}
 use Rattle.script_core.specs.Rows.{may_order_in_phase, IsInPhase}
 use Rattle.script_core.specs.Links.{Inlet}
-use Rattle.script_core.specs.Carrying.{InTurn, no_turn, next_turn}
+use Rattle.script_core.specs.Carrying.{route, InTurn, no_turn, next_turn}
 use Rattle.script_core.specs.Rounds.{others, Brings, ReceiverDeeds}
 use Rattle.run_book.specs.Moves.{operator_step}
 use Rattle.run_book.proofs.Happenings.WorkerRounds.{others_within}
-use Rattle.run_sections.specs.Orders.{deeds_of, InOrder, Intake, intake, Receipt, takes_some, takes_rest, delivered_of, inlet_then, ReceiverGoes}
+use Rattle.run_sections.specs.Orders.{deeds_of, InOrder, Intake, intake, Receipt, takes_some, takes_rest, arrived_of, inlet_then, ReceiverGoes}
 use Rattle.run_sections.specs.Sections.{linked, receipts_in}
 use Rattle.run_sections.proofs.Orders.{order_more}
 use Rattle.phase_actors.specs.declared.receivers.ReceiverEnd.{ReceiverEnd}
@@ -42,20 +43,20 @@ other_than : (n j from : ℕ) → In from (others n j) → from ≢ j
 other_than n j from there same = false≢true (sym (ap not (eq-eqb from j same)) ∙ (In_from_filter (λ k. not (k == j)) (centres n) from there).1)
 
 -- what is due alike from the others is delivered alike
-delivers_alike : (n j : ℕ) (due given : ℕ → List Sent) (deeds : List Deed) → ((from : ℕ) → IsCount n from → from ≢ j → due from ≡ given from) → ReceiverDeeds n j due deeds → ReceiverDeeds n j given deeds
+delivers_alike : (n j : ℕ) (due given : ℕ → List (Arrival Sent)) (deeds : List Deed) → ((from : ℕ) → IsCount n from → from ≢ j → due from ≡ given from) → ReceiverDeeds n j due deeds → ReceiverDeeds n j given deeds
 delivers_alike n j due given deeds same are = go (others n j) deeds (λ from there. same from (others_within n j from there) (other_than n j from there)) are
   where
-    go : (froms : List ℕ) (deeds : List Deed) → ((from : ℕ) → In from froms → due from ≡ given from) → InTurn (λ from deeds. Brings j (due from) deeds) froms deeds → InTurn (λ from deeds. Brings j (given from) deeds) froms deeds
+    go : (froms : List ℕ) (deeds : List Deed) → ((from : ℕ) → In from froms → due from ≡ given from) → InTurn (λ from deeds. Brings (route from j) (due from) deeds) froms deeds → InTurn (λ from deeds. Brings (route from j) (given from) deeds) froms deeds
     go [] deeds each no_turn = no_turn
-    go (from ∷ froms) deeds each (next_turn first later whole does rest) = next_turn first later whole (subst (λ items. Brings j items first) (each from (inl refl)) does) (go froms later (λ other there. each other (inr there)) rest)
+    go (from ∷ froms) deeds each (next_turn first later whole does rest) = next_turn first later whole (subst (λ items. Brings (route from j) items first) (each from (inl refl)) does) (go froms later (λ other there. each other (inr there)) rest)
 
 -- a round from where the same lies at the ends
 goes_alike : (n j step : ℕ) (s t later : ℕ → Intake) (receipt : Receipt) (notes : List Note) → ((from : ℕ) → IsCount n from → from ≢ j → s from ≡ t from) → ReceiverGoes n j s step receipt notes later → ReceiverGoes n j t step receipt notes later
 goes_alike n j step s t later receipt notes same goes = record {
   items = goes.items;
   may = goes.may;
-  delivers = delivers_alike n j (λ from. delivered_of receipt (s from).inlet (goes.items from)) (λ from. delivered_of receipt (t from).inlet (goes.items from)) (deeds_of notes)
-      (λ from range other. ap (λ (x : Intake). delivered_of receipt x.inlet (goes.items from)) (same from range other)) goes.delivers;
+  delivers = delivers_alike n j (λ from. arrived_of receipt (s from).inlet (goes.items from)) (λ from. arrived_of receipt (t from).inlet (goes.items from)) (deeds_of notes)
+      (λ from range other. ap (λ (x : Intake). arrived_of receipt x.inlet (goes.items from)) (same from range other)) goes.delivers;
   then_is = λ from range other. goes.then_is from range other ∙ ap (λ (x : Intake). intake (inlet_then receipt x.inlet (goes.items from)) (x.taken ++ goes.items from)) (same from range other);
 }
 

@@ -40,6 +40,15 @@ impl Updates {
         }
     }
 
+    /// No updates, and room for so many.
+    pub fn with_capacity(alloc: Global, capacity: usize) -> Result<Self, AllocError>
+        ensures { IfOk result (λ made. made ≡ []) }
+    {
+        Ok(Updates {
+            items: Items::Own(Vec::with_capacity(alloc, capacity)?),
+        })
+    }
+
     /// Puts an update behind the others; those that are shared are copied before. Nothing changes where memory is refused.
     pub fn push(&mut self, update: Update) -> Result<(), AllocError>
         ensures ok { OnOk result (self.new ≡ self.old ++ update ∷ []) }

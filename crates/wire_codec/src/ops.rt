@@ -13,11 +13,15 @@ use ids_core::{ObjectId, Sort};
 use std::alloc::Global;
 use tx_core::{Op, Update, Updates, is_small_delta};
 
-/// So many updates.
+// The fewest bytes of an update: a kind, a name of one byte, a code, and a word of one byte.
+const LEAST_BYTES: usize = 6;
+
+/// So many updates. It takes no more memory at once than the bytes that are there have room for.
 pub fn updates_at(alloc: Global, count: u16, bytes: &[u8]) -> Result<(Updates, &[u8]), Stop>
     ensures { Gives (λ x. (x.0, x.1.now)) result (updates_at count bytes.now) }
 {
-    let mut updates = Updates::new(alloc);
+    let room = usize::from(count).min(bytes.len() / LEAST_BYTES);
+    let mut updates = Updates::with_capacity(alloc, room)?;
     let mut rest = bytes;
     for _ in 0..count {
         let (update, behind) = found!(update_at(alloc, rest));

@@ -18,6 +18,7 @@ use Rattle.script_core.specs.Steps.{IsCount}
 use Rattle.script_core.specs.Deeds.{Progress, StepDeeds, after_all, armed_after, stepped}
 use Rattle.script_core.specs.Mail.{due_in_round, due_at_close}
 use Rattle.dc_talk.specs.declared.sent.Sent.{Sent}
+use Rattle.dc_talk.specs.declared.links.Arrival.{Arrival}
 use Rattle.client_stub.specs.Playing.{StubView}
 use Rattle.ids_core.specs.declared.limits.TheConstants.{MOST_CENTRES}
 use Rattle.dc_mail.specs.Posts.{post_at, new_posts}
@@ -27,7 +28,7 @@ use Rattle.run_book.specs.Played.{Stage, new_progress, first_stage, DoesSo, come
 use Rattle.run_book.proofs.Happenings.Entries.{own_then, other_then, deeds_marked}
 use Rattle.run_book.proofs.Happenings.Playing.{played_none as none_played, played_more, all_at}
 use Rattle.script_core.specs.Rounds.{ReceiverDeeds, Brings, others}
-use Rattle.script_core.specs.Carrying.{InTurn, no_turn, next_turn}
+use Rattle.script_core.specs.Carrying.{route, InTurn, no_turn, next_turn}
 use Rattle.list_core.specs.Members.{In}
 use Rattle.list_core.proofs.Gets.{set_else, set_here}
 use Rattle.run_book.proofs.Happenings.WorkerRounds.{others_within}
@@ -218,12 +219,12 @@ order_makes section number step old new t = record {
 -- ---- a worker's round
 
 -- a receiver delivers what is due from the others
-receives_as : (n j : ℕ) (due given : ℕ → List Sent) (deeds : List Deed) → ((from : ℕ) → IsCount n from → due from ≡ given from) → ReceiverDeeds n j due deeds → ReceiverDeeds n j given deeds
+receives_as : (n j : ℕ) (due given : ℕ → List (Arrival Sent)) (deeds : List Deed) → ((from : ℕ) → IsCount n from → due from ≡ given from) → ReceiverDeeds n j due deeds → ReceiverDeeds n j given deeds
 receives_as n j due given deeds same are = go (others n j) deeds (λ from there. same from (others_within n j from there)) are
   where
-    go : (froms : List ℕ) (deeds : List Deed) → ((from : ℕ) → In from froms → due from ≡ given from) → InTurn (λ from deeds. Brings j (due from) deeds) froms deeds → InTurn (λ from deeds. Brings j (given from) deeds) froms deeds
+    go : (froms : List ℕ) (deeds : List Deed) → ((from : ℕ) → In from froms → due from ≡ given from) → InTurn (λ from deeds. Brings (route from j) (due from) deeds) froms deeds → InTurn (λ from deeds. Brings (route from j) (given from) deeds) froms deeds
     go [] deeds each no_turn = no_turn
-    go (from ∷ froms) deeds each (next_turn first later whole does rest) = next_turn first later whole (subst (λ items. Brings j items first) (each from (inl refl)) does) (go froms later (λ other there. each other (inr there)) rest)
+    go (from ∷ froms) deeds each (next_turn first later whole does rest) = next_turn first later whole (subst (λ items. Brings (route from j) items first) (each from (inl refl)) does) (go froms later (λ other there. each other (inr there)) rest)
 
 -- what is due where the same lies on the links
 does_as : (n number centre : ℕ) (work : Work) (one two : Stage) (deeds : List Deed) → IsCount n centre → ((from to : ℕ) → IsCount n from → IsCount n to → one.posts from to ≡ two.posts from to) → DoesSo n one number (work_of centre work) deeds → DoesSo n two number (work_of centre work) deeds

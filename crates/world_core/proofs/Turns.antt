@@ -12,7 +12,7 @@ use Rattle.dc_talk.specs.declared.ask.Ask.{Ask}
 use Rattle.dc_talk.specs.declared.calls.Connection.{Connection}
 use Rattle.dc_talk.specs.declared.log.Fate.TheVariants.{Unheard}
 use Rattle.dc_talk.specs.declared.log.Deed.{Deed}
-use Rattle.dc_talk.specs.declared.log.Deed.TheVariants.{Did, Asked, Told}
+use Rattle.dc_talk.specs.declared.log.Deed.TheVariants.{Did, Asked, Told, Spoilt}
 use Rattle.dc_talk.specs.declared.log.Note.{Note}
 use Rattle.dc_talk.specs.Logs.{marked, entries_made}
 use Rattle.dc_talk.specs.Acting.{IsAskBehind}
@@ -53,6 +53,7 @@ behind_go door n turn deeds count behind = subst (All (GoesToOneOf n)) (sym (dee
     each (Asked i ask fate) here = (here.0, omega (arith, here.1, count))
     each (Did call outcome) here = tt
     each (Told line) here = tt
+    each (Spoilt from item why) here = tt
 
 -- each trail ends with the entries of what was done through a door that is alone
 pub trails_made : (actor : ℕ) (old : List CentreTrail) (door : DoorView) (deeds : List Deed) → HasDone (shown_of (begun actor old)) door deeds → (i : ℕ) → door.seen i ≡ trail_at old i ++ entries_made actor i deeds

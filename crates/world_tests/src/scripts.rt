@@ -217,14 +217,15 @@ c2 push
 c3 push
 ";
 
-// Three clients among three centres with phases, over links that drop, double and hold records; a centre is stopped for
-// a while in the second one, and there are steps behind the last round.
+// Three clients among three centres with phases, over links that drop, double, hold and spoil records; a centre is stopped
+// for a while in the second one, and there are steps behind the last round.
 const PHASES: &[u8] = b"\
 centres 3 k 2
 clients 3
 rounds 9
 link 1 2 hold 2
 link 2 3 drop 3
+link 3 1 cut 2
 phase
 c1 connect 1
 c2 connect 2
@@ -248,6 +249,7 @@ c3 flush
 end
 link 1 3 twice 1
 link 1 2 hold 1
+link 3 2 bend 1
 c1 refresh
 phase
 prune 1
@@ -332,6 +334,7 @@ c1 begin
 c1 inc c.a 4
 c1 commit
 c1 flush
+link 1 2 cut 1
 phase
 down 1
 c2 refresh

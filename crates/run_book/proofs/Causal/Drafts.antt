@@ -23,7 +23,7 @@ use Rattle.dc_talk.specs.declared.calls.Outcome.TheVariants.{Fine, Got, Number, 
 use Rattle.dc_talk.specs.declared.calls.Refusal.TheVariants.{TooManyTags}
 use Rattle.dc_talk.specs.declared.log.Fate.TheVariants.{Heard}
 use Rattle.dc_talk.specs.declared.log.Deed.{Deed}
-use Rattle.dc_talk.specs.declared.log.Deed.TheVariants.{Did, Asked, Told}
+use Rattle.dc_talk.specs.declared.log.Deed.TheVariants.{Did, Asked, Told, Spoilt}
 use Rattle.dc_talk.specs.declared.log.Note.{Note}
 use Rattle.dc_talk.specs.Clients.{Client, new_client, next_tx, draft_updates}
 use Rattle.dc_talk.specs.Calls.{op_of, over, looked_up, change_outcome, commit_outcome, outcome_of, did}
@@ -103,6 +103,7 @@ module _ {Fit : Client → Deed → Type 0} {Open : Client → Type 0} {Made : T
   holds_deed s C before (Asked i ask (Heard say)) fit allowed h = unchanged (heard s i ask say) C (holds_heard s C i ask say h)
   holds_deed s C before (Asked i ask _) fit allowed h = unchanged s C h
   holds_deed s C before (Told line) fit allowed h = unchanged s C h
+  holds_deed s C before (Spoilt from item why) fit allowed h = absurd allowed
 
   -- so both hold at each moment of a log that follows the rule, where the session and each deed are as Fit says
   pub holds_after : (n client capacity : ℕ) (notes : List Note) → Follows n client capacity notes → ((p : ℕ) (note : Note) → slice_get notes p ≡ Some note → Fit (client_after n client capacity (take p notes)) note.deed) → (m : ℕ) → HoldsOf Open Made (client_after n client capacity (take m notes)) (commits_of n client capacity (take m notes))

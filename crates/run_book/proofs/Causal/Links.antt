@@ -20,7 +20,7 @@ use Rattle.dc_talk.specs.declared.say.Say.TheVariants.{Welcome, Snap, Object, Kn
 use Rattle.dc_talk.specs.declared.calls.Connection.{Connection}
 use Rattle.dc_talk.specs.declared.log.Fate.TheVariants.{Heard}
 use Rattle.dc_talk.specs.declared.log.Deed.{Deed}
-use Rattle.dc_talk.specs.declared.log.Deed.TheVariants.{Did, Asked, Told}
+use Rattle.dc_talk.specs.declared.log.Deed.TheVariants.{Did, Asked, Told, Spoilt}
 use Rattle.dc_talk.specs.declared.log.Note.{Note}
 use Rattle.dc_talk.specs.Entries.{Entry}
 use Rattle.dc_talk.specs.Records.{vector, guard}
@@ -200,6 +200,7 @@ module _ (b : Book) (setup : Setup) (a : ℕ) where
         go false took there = stays X note s.vector link (old link there)
     reached_deed (Asked i ask _) is heard link there = stays X note s.vector link (old link there)
     reached_deed (Told line) is heard link there = stays X note s.vector link (old link there)
+    reached_deed (Spoilt from item why) is heard link there = stays X note s.vector link (old link there)
 
 -- ---- a book
 

@@ -28,7 +28,7 @@ use Rattle.dc_talk.specs.declared.calls.Refusal.TheVariants.{TooManyTags}
 use Rattle.dc_talk.specs.declared.calls.Cached.{Cached}
 use Rattle.dc_talk.specs.declared.log.Fate.TheVariants.{Heard}
 use Rattle.dc_talk.specs.declared.log.Deed.{Deed}
-use Rattle.dc_talk.specs.declared.log.Deed.TheVariants.{Did, Asked, Told}
+use Rattle.dc_talk.specs.declared.log.Deed.TheVariants.{Did, Asked, Told, Spoilt}
 use Rattle.dc_talk.specs.declared.log.Note.{Note}
 use Rattle.dc_talk.specs.Records.{count, vector, inside, mine as mine_of}
 use Rattle.dc_talk.specs.Answers.{answer}
@@ -239,6 +239,7 @@ module _ (b : Book) (setup : Setup) (fit : FitsWith b setup) where
   standing_deed c s C (Asked i ask (Heard say)) says sound next held h = unchanged c (heard s i ask say) C (standing_heard c s C i ask say (says i ask say refl) next held h)
   standing_deed c s C (Asked i ask _) says sound next held h = unchanged c s C h
   standing_deed c s C (Told line) says sound next held h = unchanged c s C h
+  standing_deed c s C (Spoilt from item why) says sound next held h = unchanged c s C h
 
   -- nothing is covered at first
   standing_new : (c : ℕ) → Standing b setup c (new_client b.n c setup.capacity) []

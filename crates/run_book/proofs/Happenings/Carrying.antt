@@ -16,7 +16,7 @@ use Rattle.dc_talk.specs.declared.ask.Ask.TheVariants.{Hello, Refresh, Fetch, Co
 use Rattle.dc_talk.specs.declared.say.Say.{Say}
 use Rattle.dc_talk.specs.declared.say.Say.TheVariants.{Records, Vector}
 use Rattle.dc_talk.specs.declared.log.Deed.{Deed}
-use Rattle.dc_talk.specs.declared.log.Deed.TheVariants.{Did, Asked, Told}
+use Rattle.dc_talk.specs.declared.log.Deed.TheVariants.{Did, Asked, Told, Spoilt}
 use Rattle.dc_talk.specs.declared.log.Note.{Note}
 use Rattle.dc_talk.specs.Entries.{Entry}
 use Rattle.dc_talk.specs.Logs.{marked, exchanged_in, entry_for}
@@ -91,6 +91,7 @@ carries_allowed n k setup all t before done (Asked i (Fetch o here) fate) is = a
 carries_allowed n k setup all t before done (Asked i (Commit tx) fate) is = absurd is
 carries_allowed n k setup all t before done (Did call outcome) is = absurd is
 carries_allowed n k setup all t before done (Told line) is = tt
+carries_allowed n k setup all t before done (Spoilt from item why) is = tt
 
 -- the trails of the front of what happened are histories
 histories_front : (n k : ℕ) (setup : Setup) (all more : List Happened) → AreHistories n k setup (all ++ more) → AreHistories n k setup all

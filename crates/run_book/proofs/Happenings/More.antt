@@ -13,7 +13,7 @@ use Rattle.dc_talk.specs.declared.ask.Ask.TheVariants as ask
 use Rattle.dc_talk.specs.declared.say.Say.{Say}
 use Rattle.dc_talk.specs.declared.say.Say.TheVariants.{Records, Vector}
 use Rattle.dc_talk.specs.declared.log.Deed.{Deed}
-use Rattle.dc_talk.specs.declared.log.Deed.TheVariants.{Did, Asked, Told}
+use Rattle.dc_talk.specs.declared.log.Deed.TheVariants.{Did, Asked, Told, Spoilt}
 use Rattle.dc_talk.specs.declared.log.Note.{Note}
 use Rattle.dc_talk.specs.Entries.{Entry}
 use Rattle.dc_talk.specs.Clients.{Client, new_client}
@@ -48,6 +48,7 @@ pub allows_as : (trails others : ℕ → List Entry) → ((i : ℕ) → trails i
 allows_as trails others same (Asked i a fate) h = asks_as trails others same a h
 allows_as trails others same (Did call outcome) h = absurd h
 allows_as trails others same (Told line) h = tt
+allows_as trails others same (Spoilt from item why) h = tt
 
 -- ---- each may happen in turn
 

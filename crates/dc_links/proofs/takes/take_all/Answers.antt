@@ -1,12 +1,13 @@
 use Rattle.std.proofs.Common.{rules, refl, ◌∙◌}
 use Rattle.dc_talk.specs.Acting.{acting, IsCutShort}
+use Rattle.script_core.specs.Carrying.{route}
 use Rattle.dc_worker.specs.Brings.{ReceivesPart, incoming}
 use Rattle.dc_worker.proofs.Work.{cut_then}
 use Rattle.dc_worker.proofs.Bringing.{receives_none, receives_then}
 use Rattle.dc_links.proofs.takes.take_all.Goals as goal
 
 pub items-init : goal.items-init
-items-init g c = record { place = refl; link = c.requires.link; receives = (0, receives_none c.args.at _ c.args.inlet.now c.args.taker.now.taken c.args.taker.now.taken refl) }
+items-init g c = record { place = refl; link = c.requires.link; receives = (0, receives_none (route c.args.from c.args.at) _ c.args.inlet.now c.args.taker.now.taken c.args.taker.now.taken refl) }
 
 pub returns-in_err-take_one-clause-short : goal.returns-in_err-take_one-clause-short
 returns-in_err-take_one-clause-short g c =
@@ -21,7 +22,7 @@ returns-in_err-take_one-clause-part g c =
     let a = incoming (acting (g.D.Door.shown c.args.door.now) c.args.log.now) c.args.inlet.now c.args.taker.now.taken in
     let b = incoming (acting (g.D.Door.shown c.items.door) c.items.log) c.items.inlet c.items.taker.taken in
     let e = incoming (acting (g.D.Door.shown c.take_one.new.door) c.take_one.new.log) c.take_one.new.inlet c.take_one.new.taker.taken in
-    let part : ReceivesPart c.args.at a e = record { number = c.items.invariant.receives.0; between = b; receives = c.items.invariant.receives.1; stops = c.in_err-take_one.ensures.stops } in
+    let part : ReceivesPart (route c.args.from c.args.at) a e = record { number = c.items.invariant.receives.0; between = b; receives = c.items.invariant.receives.1; stops = c.in_err-take_one.ensures.stops } in
     search rules
 
 pub items-preserved : goal.items-preserved
@@ -32,5 +33,5 @@ items-preserved g c = record {
       let a = incoming (acting (g.D.Door.shown c.args.door.now) c.args.log.now) c.args.inlet.now c.args.taker.now.taken in
       let b = incoming (acting (g.D.Door.shown c.items.door) c.items.log) c.items.inlet c.items.taker.taken in
       let e = incoming (acting (g.D.Door.shown c.take_one.new.door) c.take_one.new.log) c.take_one.new.inlet c.take_one.new.taker.taken in
-      (_, receives_then c.args.at c.items.invariant.receives.0 _ a b e c.items.invariant.receives.1 c.in_ok-take_one.ensures.receives);
+      (_, receives_then (route c.args.from c.args.at) c.items.invariant.receives.0 _ a b e c.items.invariant.receives.1 c.in_ok-take_one.ensures.receives);
 }

@@ -1,5 +1,6 @@
 use Rattle.std.proofs.Common.{◌≡◌, ℕ}
 use Rattle.dc_talk.specs.Acting.{acting}
+use Rattle.script_core.specs.Carrying.{route}
 use Rattle.dc_worker.specs.Brings.{Receives, incoming}
 use Rattle.dc_links.proofs.takes.take_all.Given as goal
 
@@ -7,5 +8,5 @@ abbrev pub invariant-items : goal.invariant-items
 invariant-items g l = record {
   place : g.D.Door.place l.door ≡ g.D.Door.place l.fn.door;
   link : l.taker.link ≡ l.link;
-  receives : (number : ℕ) × Receives l.at number (incoming (acting (g.D.Door.shown l.fn.door) l.fn.log) l.fn.inlet l.fn.taker.taken) (incoming (acting (g.D.Door.shown l.door) l.log) l.inlet l.taker.taken);
+  receives : (number : ℕ) × Receives (route l.from l.at) number (incoming (acting (g.D.Door.shown l.fn.door) l.fn.log) l.fn.inlet l.fn.taker.taken) (incoming (acting (g.D.Door.shown l.door) l.log) l.inlet l.taker.taken);
 }

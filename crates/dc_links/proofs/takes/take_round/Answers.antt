@@ -1,5 +1,6 @@
 use Rattle.std.proofs.Common.{rules, refl, ◌∙◌}
 use Rattle.dc_talk.specs.Acting.{acting, IsCutShort}
+use Rattle.script_core.specs.Carrying.{route}
 use Rattle.dc_worker.specs.Brings.{ReceivesPart, incoming}
 use Rattle.dc_worker.proofs.Work.{cut_then}
 use Rattle.dc_worker.proofs.Bringing.{receives_none}
@@ -7,7 +8,7 @@ use Rattle.dc_links.proofs.OneLink.{receives_found, receives_missed}
 use Rattle.dc_links.proofs.takes.take_round.Goals as goal
 
 pub items-init : goal.items-init
-items-init g c = record { place = refl; link = c.requires.link; receives = receives_none c.args.at _ c.args.inlet.now c.args.taker.now.taken c.args.taker.now.taken refl; misses = refl }
+items-init g c = record { place = refl; link = c.requires.link; receives = receives_none (route c.args.from c.args.at) _ c.args.inlet.now c.args.taker.now.taken c.args.taker.now.taken refl; misses = refl }
 
 pub returns-in_err-take_one-clause-short : goal.returns-in_err-take_one-clause-short
 returns-in_err-take_one-clause-short g c =
@@ -22,14 +23,14 @@ returns-then-not-branch-clause-receives g c =
     let a = incoming (acting (g.D.Door.shown c.args.door.now) c.args.log.now) c.args.inlet.now c.args.taker.now.taken in
     let b = incoming (acting (g.D.Door.shown c.items.door) c.items.log) c.items.inlet c.items.taker.taken in
     let e = incoming (acting (g.D.Door.shown c.take_one.new.door) c.take_one.new.log) c.take_one.new.inlet c.take_one.new.taker.taken in
-    receives_missed c.args.at c.items.number c.in_ok-take_one.field-0 a b e c.if-not-branch.true c.items.invariant.receives c.in_ok-take_one.ensures.receives
+    receives_missed (route c.args.from c.args.at) c.items.number c.in_ok-take_one.field-0 a b e c.if-not-branch.true c.items.invariant.receives c.in_ok-take_one.ensures.receives
 
 pub returns-in_err-take_one-clause-part : goal.returns-in_err-take_one-clause-part
 returns-in_err-take_one-clause-part g c =
     let a = incoming (acting (g.D.Door.shown c.args.door.now) c.args.log.now) c.args.inlet.now c.args.taker.now.taken in
     let b = incoming (acting (g.D.Door.shown c.items.door) c.items.log) c.items.inlet c.items.taker.taken in
     let e = incoming (acting (g.D.Door.shown c.take_one.new.door) c.take_one.new.log) c.take_one.new.inlet c.take_one.new.taker.taken in
-    let part : ReceivesPart c.args.at a e = record { number = c.items.number; between = b; receives = c.items.invariant.receives; stops = c.in_err-take_one.ensures.stops } in
+    let part : ReceivesPart (route c.args.from c.args.at) a e = record { number = c.items.number; between = b; receives = c.items.invariant.receives; stops = c.in_err-take_one.ensures.stops } in
     search rules
 
 pub items-preserved : goal.items-preserved
@@ -40,6 +41,6 @@ items-preserved g c = record {
       let a = incoming (acting (g.D.Door.shown c.args.door.now) c.args.log.now) c.args.inlet.now c.args.taker.now.taken in
       let b = incoming (acting (g.D.Door.shown c.items.door) c.items.log) c.items.inlet c.items.taker.taken in
       let e = incoming (acting (g.D.Door.shown c.take_one.new.door) c.take_one.new.log) c.take_one.new.inlet c.take_one.new.taker.taken in
-      receives_found c.args.at c.items.number c.in_ok-take_one.field-0 a b e c.if-not-branch.false c.items.invariant.receives c.in_ok-take_one.ensures.receives;
+      receives_found (route c.args.from c.args.at) c.items.number c.in_ok-take_one.field-0 a b e c.if-not-branch.false c.items.invariant.receives c.in_ok-take_one.ensures.receives;
   misses = c.in_ok-take_one.ensures.found c.if-not-branch.false ∙ c.items.invariant.misses;
 }

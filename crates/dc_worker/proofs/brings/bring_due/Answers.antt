@@ -1,6 +1,7 @@
 use Rattle.std.proofs.Common.{rules, ◌++◌}
 use Rattle.std.specs.Option.{option_to_list}
 use Rattle.dc_talk.specs.Acting.{acting, IsCutShort}
+use Rattle.script_core.specs.Carrying.{route}
 use Rattle.script_core.specs.Rounds.{Brings}
 use Rattle.dc_worker.specs.Work.{AddsSuch}
 use Rattle.dc_worker.proofs.Work.{cut_then, on_turn, err_turn}
@@ -24,8 +25,8 @@ returns-clause-brings g c =
     let first = option_to_list c.args.due.first in
     let again = option_to_list c.args.due.again in
     let held = option_to_list c.args.due.held in
-    on_turn c.bring_some-3.result (AddsSuch (Brings c.args.at held) d e) (AddsSuch (Brings c.args.at (first ++ again ++ held)) a e)
-    (λ last. brings_both c.args.at (first ++ again) held a d e (brings_both c.args.at first again a b d c.in_ok-bring_some.ensures.brings c.in_ok-bring_some-2.ensures.brings) last)
+    on_turn c.bring_some-3.result (AddsSuch (Brings (route c.args.from c.args.at) held) d e) (AddsSuch (Brings (route c.args.from c.args.at) (first ++ again ++ held)) a e)
+    (λ last. brings_both (route c.args.from c.args.at) (first ++ again) held a d e (brings_both (route c.args.from c.args.at) first again a b d c.in_ok-bring_some.ensures.brings c.in_ok-bring_some-2.ensures.brings) last)
     c.bring_some-3.ensures.brings
 
 pub returns-clause-short : goal.returns-clause-short

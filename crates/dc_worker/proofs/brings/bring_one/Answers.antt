@@ -14,7 +14,7 @@ returns-in_err-due-clause-short g c =
 pub returns-in_err-due-clause-left : goal.returns-in_err-due-clause-left
 returns-in_err-due-clause-left g c =
     let old = c.args.inlet.now in let new = c.pass.new.self in
-    let left : (new ≡ old) ⊎ (new ≡ inlet_after old (c.args.item ∷ [])) = inl c.in_err-due.ensures.err in
+    let left : (new ≡ old) ⊎ (new ≡ inlet_after old (c.args.frame ∷ [])) = inl c.in_err-due.ensures.err in
     search rules
 
 pub returns-clause-left : goal.returns-clause-left
@@ -22,4 +22,4 @@ returns-clause-left g c =
     let a = acting (g.D.Door.shown c.args.door.now) c.args.log.now in
     let e = acting (g.D.Door.shown c.bring_due.new.door) c.bring_due.new.log in
     let old = c.args.inlet.now in let new = c.pass.new.self in
-    err_turn c.bring_due.result (IsCutShort a e) ((new ≡ old) ⊎ (new ≡ inlet_after old (c.args.item ∷ []))) (λ cut. inr c.in_ok-due.ensures.ok) c.bring_due.ensures.short
+    err_turn c.bring_due.result (IsCutShort a e) ((new ≡ old) ⊎ (new ≡ inlet_after old (c.args.frame ∷ []))) (λ cut. inr c.in_ok-due.ensures.ok) c.bring_due.ensures.short

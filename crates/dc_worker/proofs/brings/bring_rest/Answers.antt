@@ -1,4 +1,5 @@
 use Rattle.dc_talk.specs.Acting.{acting, IsCutShort}
+use Rattle.script_core.specs.Carrying.{route}
 use Rattle.script_core.specs.Links.{arrivals}
 use Rattle.script_core.specs.Rounds.{Brings}
 use Rattle.dc_worker.specs.Work.{AddsSuch}
@@ -12,8 +13,8 @@ returns-clause-brings g c =
     let a = acting (g.D.Door.shown c.args.door.now) c.args.log.now in
     let b = acting (g.D.Door.shown c.bring.new.door) c.bring.new.log in
     let e = acting (g.D.Door.shown c.bring_held.new.door) c.bring_held.new.log in
-    on_turn c.bring_held.result (AddsSuch (Brings c.args.at c.bring.new.inlet.held) b e) (AddsSuch (Brings c.args.at (arrivals c.args.inlet.now c.args.items.items)) a e)
-    (λ last. brings_rest c.args.at c.args.inlet.now c.args.items.items c.bring.new.inlet a b e c.in_ok-bring.ensures.brings c.in_ok-bring.ensures.inlet last)
+    on_turn c.bring_held.result (AddsSuch (Brings (route c.args.from c.args.at) c.bring.new.inlet.held) b e) (AddsSuch (Brings (route c.args.from c.args.at) (arrivals c.args.inlet.now c.args.frames.items)) a e)
+    (λ last. brings_rest (route c.args.from c.args.at) c.args.inlet.now c.args.frames.items c.bring.new.inlet a b e c.in_ok-bring.ensures.brings c.in_ok-bring.ensures.inlet last)
     c.bring_held.ensures.brings
 
 pub returns-clause-short : goal.returns-clause-short
@@ -28,6 +29,6 @@ returns-clause-part g c =
     let a = acting (g.D.Door.shown c.args.door.now) c.args.log.now in
     let b = acting (g.D.Door.shown c.bring.new.door) c.bring.new.log in
     let e = acting (g.D.Door.shown c.bring_held.new.door) c.bring_held.new.log in
-    err_turn c.bring_held.result (IsCutShort b e) (BringsPart c.args.at c.args.items.items c.args.inlet.now c.bring_held.new.inlet a e)
-    (λ cut. brings_part_held c.args.at c.args.inlet.now c.args.items.items c.bring.new.inlet c.bring_held.new.inlet a b e c.in_ok-bring.ensures.brings c.in_ok-bring.ensures.inlet c.bring_held.ensures.inlet cut)
+    err_turn c.bring_held.result (IsCutShort b e) (BringsPart (route c.args.from c.args.at) c.args.frames.items c.args.inlet.now c.bring_held.new.inlet a e)
+    (λ cut. brings_part_held (route c.args.from c.args.at) c.args.inlet.now c.args.frames.items c.bring.new.inlet c.bring_held.new.inlet a b e c.in_ok-bring.ensures.brings c.in_ok-bring.ensures.inlet c.bring_held.ensures.inlet cut)
     c.bring_held.ensures.short
