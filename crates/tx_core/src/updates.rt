@@ -40,13 +40,13 @@ impl Updates {
         }
     }
 
-    /// No updates, and room for so many.
-    pub fn with_capacity(alloc: Global, capacity: usize) -> Result<Self, AllocError>
-        ensures { IfOk result (λ made. made ≡ []) }
+    /// The updates of a list. It takes no memory.
+    pub fn from_vec(list: Vec<Update>) -> Self
+        ensures { result ≡ list.items }
     {
-        Ok(Updates {
-            items: Items::Own(Vec::with_capacity(alloc, capacity)?),
-        })
+        Updates {
+            items: Items::Own(list),
+        }
     }
 
     /// Puts an update behind the others; those that are shared are copied before. Nothing changes where memory is refused.

@@ -135,12 +135,19 @@ impl Vector {
         ensures entries { result ≡ raised self.now stamp.now }
         ensures width { length result ≡ length self.now }
     {
-        let mut entries = self.entries;
-        raise_entry(&mut entries[..usize::from(self.width)], stamp);
-        Vector {
-            entries,
-            width: self.width,
-        }
+        let mut raised = *self;
+        raised.raise_by(stamp);
+        raised
+    }
+
+    /// Joins one stamp: the entry of its centre becomes at least its number.
+    pub fn raise_by(&mut self, stamp: &Stamp)
+        requires { (1 ≤ stamp.now.centre) × (stamp.now.centre ≤ length self.old) }
+        ensures entries { self.new ≡ raised self.old stamp.now }
+        ensures width { length self.new ≡ length self.old }
+    {
+        let width = usize::from(self.width);
+        raise_entry(&mut self.entries[..width], stamp);
     }
 
     /// At each centre the greatest number that at least `k` rows reach. The rows have one width.

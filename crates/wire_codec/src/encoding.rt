@@ -3,6 +3,7 @@ ghost use Rattle.std.specs.Prelude.{◌≡◌, ◌≤◌, ◌+◌, ◌++◌, ◌
 ghost use Rattle.std.specs.List.{flat_map};
 ghost use Rattle.ids_core.specs.declared.limits.TheConstants.{MOST_TAGS, MOST_UPDATES};
 ghost use Rattle.ids_core.specs.Orders.{sort_number};
+ghost use Rattle.wire_codec.specs.declared.item.Item.TheVariants.{Rec, Rep};
 ghost use Rattle.wire_codec.specs.declared.item.TheConstants.{VERSION};
 ghost use Rattle.wire_codec.specs.Spelling.{u16_bytes, u32_bytes, u64_bytes, name_bytes, tag_bytes, tags_bytes, delta_bytes, op_bytes, update_bytes, entries_bytes, tx_bytes, record_bytes, spelled, IsSpelled, IsSpelledUpdate, IsSpelledOp};
 
@@ -17,36 +18,38 @@ pub fn encode(alloc: Global, item: &Item) -> Result<Vec<u8>, NoMemory>
     requires { IsSpelled VERSION item.now }
     ensures { IfOk result (λ bytes. bytes.items ≡ spelled VERSION item.now) }
 {
+    match item {
+        Item::Rec { item, hops } => encode_record(alloc, item, *hops),
+        Item::Rep { centre, vector } => encode_report(alloc, *centre, vector),
+    }
+}
+
+/// The bytes of a record with its hops that fits.
+pub fn encode_record(alloc: Global, item: &Record, hops: u8) -> Result<Vec<u8>, NoMemory>
+    requires { IsSpelled VERSION (Rec item.now hops) }
+    ensures { IfOk result (λ bytes. bytes.items ≡ spelled VERSION (Rec item.now hops)) }
+{
     let mut out = Vec::with_capacity(alloc, room(item))?;
-    put_item(&mut out, item)?;
+    out.extend_from_slice(&[SIGN, VERSION, 1, item.stamp.centre])?;
+    put_record(&mut out, item, hops)?;
     Ok(out)
 }
 
-// About how many bytes an item has: enough for one without tags.
-fn room(item: &Item) -> usize {
-    match item {
-        Item::Rep { vector, .. } => 5 + 8 * vector.as_slice().len(),
-        Item::Rec { item, .. } => {
-            let count = item.tx.updates.len().min(256);
-            36 + 16 * item.deps.as_slice().len() + 64 * count
-        }
-    }
+// About how many bytes a record has: enough for one without tags.
+fn room(item: &Record) -> usize {
+    let count = item.tx.updates.len().min(256);
+    36 + 16 * item.deps.as_slice().len() + 64 * count
 }
 
-fn put_item(out: &mut Vec<u8>, item: &Item) -> Result<(), AllocError>
-    requires { IsSpelled VERSION item.now }
-    ensures { OnOk result (out.new.items ≡ out.old.items ++ spelled VERSION item.now) }
+// The bytes of a centre's report.
+fn encode_report(alloc: Global, centre: u8, vector: &Vector) -> Result<Vec<u8>, NoMemory>
+    requires { IsSpelled VERSION (Rep centre vector.now) }
+    ensures { IfOk result (λ bytes. bytes.items ≡ spelled VERSION (Rep centre vector.now)) }
 {
-    match item {
-        Item::Rec { item, hops } => {
-            out.extend_from_slice(&[SIGN, VERSION, 1, item.stamp.centre])?;
-            put_record(out, item, *hops)
-        }
-        Item::Rep { centre, vector } => {
-            out.extend_from_slice(&[SIGN, VERSION, 2, *centre, vector.width()])?;
-            put_entries(out, vector)
-        }
-    }
+    let mut out = Vec::with_capacity(alloc, 5 + 8 * vector.as_slice().len())?;
+    out.extend_from_slice(&[SIGN, VERSION, 2, centre, vector.width()])?;
+    put_entries(&mut out, vector)?;
+    Ok(out)
 }
 
 fn put_record(out: &mut Vec<u8>, item: &Record, hops: u8) -> Result<(), AllocError>

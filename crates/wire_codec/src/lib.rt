@@ -25,7 +25,7 @@ mod records;
 mod tags;
 
 pub use decoding::decode;
-pub use encoding::encode;
+pub use encoding::{encode, encode_record};
 pub use fits::{fits_record, fits_tx};
 pub use item::{Decoded, Item, OLDEST_VERSION, SIGN, VERSION};
 pub use laws::{law_fields, law_front, law_one_spelling};

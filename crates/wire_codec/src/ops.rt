@@ -21,14 +21,14 @@ pub fn updates_at(alloc: Global, count: u16, bytes: &[u8]) -> Result<(Updates, &
     ensures { Gives (λ x. (x.0, x.1.now)) result (updates_at count bytes.now) }
 {
     let room = usize::from(count).min(bytes.len() / LEAST_BYTES);
-    let mut updates = Updates::with_capacity(alloc, room)?;
+    let mut list = Vec::with_capacity(alloc, room)?;
     let mut rest = bytes;
     for _ in 0..count {
         let (update, behind) = found!(update_at(alloc, rest));
-        updates.push(update)?;
+        list.push(update)?;
         rest = behind;
     }
-    Ok((updates, rest))
+    Ok((Updates::from_vec(list), rest))
 }
 
 // An update.

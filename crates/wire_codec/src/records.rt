@@ -119,7 +119,7 @@ fn vector_at(width: u8, bytes: &[u8]) -> Result<(Vector, &[u8]), Stop>
     for place in 0..width {
         let (seq, behind) = seq_at(0, rest)?;
         let centre = place + 1;
-        vector = vector.raise(&Stamp { centre, seq });
+        vector.raise_by(&Stamp { centre, seq });
         rest = behind;
     }
     Ok((vector, rest))

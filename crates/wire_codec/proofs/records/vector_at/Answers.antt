@@ -14,7 +14,7 @@ returns-in_err-seq c =
 
 pub loop-place-preserved : goal.loop-place-preserved
 loop-place-preserved c =
-    let now = c.raise-vector.ensures.entries in
+    let now = c.raise_by.ensures.entries in
     let old = c.loop-place.vector in
     let stamp : Stamp = record { centre = c.loop-place.place + 1; seq = c.in_ok-seq.seq } in
     let inside : c.loop-place.place < length old = omega (arith, c.loop-place-test.true, c.loop-place.invariant.wide) in
@@ -22,7 +22,7 @@ loop-place-preserved c =
     let all = one_more (take c.loop-place.place old) c.in_ok-seq.seq (entries_at (c.args.width - c.loop-place.place) c.loop-place.rest.now) (entries_at (c.args.width - (c.loop-place.place + 1)) c.in_ok-seq.behind.now) (entries_at c.args.width c.args.bytes.now) entry c.loop-place.invariant.so_far in
     let front = raised_front old stamp c.loop-place.place refl inside (c.loop-place.invariant.behind c.loop-place.place (omega arith)) in
     record {
-      wide = c.raise-vector.ensures.width ∙ c.loop-place.invariant.wide;
+      wide = c.raise_by.ensures.width ∙ c.loop-place.invariant.wide;
       behind = λ k past. ap (λ v. get_or v k 0) now ∙ raised_behind old stamp c.loop-place.place k refl inside past (c.loop-place.invariant.behind k (omega (arith, past)));
       so_far = ap (λ v. with_front (take (c.loop-place.place + 1) v) (entries_at (c.args.width - (c.loop-place.place + 1)) c.in_ok-seq.behind.now)) now ∙ ap (λ xs. with_front xs (entries_at (c.args.width - (c.loop-place.place + 1)) c.in_ok-seq.behind.now)) front ∙ all;
     }
