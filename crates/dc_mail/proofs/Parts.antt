@@ -1,11 +1,10 @@
 -- What is off a link where a round over it came to an early end.
-use Rattle.std.proofs.Common.{◌≡◌, inl, ℕ, List, [], ◌++◌, take, drop, Result, Ok, Err, OnErr, refl, sym, ap, ◌∙◌, subst, arith}
+use Rattle.std.proofs.Common.{◌≡◌, List, [], ◌++◌, take, drop, Result, Ok, Err, OnErr, refl, sym, ap, ◌∙◌}
 use Rattle.std.proofs.lemmas.List.{append-nil, take-append-drop}
 use Rattle.dc_talk.specs.declared.sent.Sent.{Sent}
 use Rattle.dc_talk.specs.Acting.{Acting, IsCutShort}
 use Rattle.script_core.specs.declared.rounds.TheConstants.{MOST_MAILED}
 use Rattle.script_core.specs.Carrying.{Route}
-use Rattle.script_core.specs.Links.{Inlet}
 use Rattle.script_core.specs.Mail.{Post}
 use Rattle.dc_worker.specs.Brings.{BringsPart}
 use Rattle.dc_worker.proofs.Bringing.{brings_part_none}

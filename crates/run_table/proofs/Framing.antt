@@ -1,6 +1,6 @@
 -- What a sender of a history mails has frames.
 use Rattle.std.proofs.Common.{◌≡◌, ◌≤◌, ◌<◌, ℕ, zero, suc, ◌+◌, ◌==◌, inl, inr, ⊎_elim, Bool, true, false, cond, List, [], ◌∷◌, map, length, Some, None, refl, sym, ap, ◌∙◌, subst, arith}
-use Rattle.std.specs.Prelude.{slice_get, All}
+use Rattle.std.specs.Prelude.{slice_get}
 use Rattle.std.specs.Option.{option_map}
 use Rattle.std.proofs.lemmas.Bool.{eq-eqb, cases_lt}
 use Rattle.std.proofs.lemmas.Option.{same_Some, slice_get-map, slice_get_past}
@@ -26,7 +26,7 @@ use Rattle.dc_talk.specs.Answers.{History}
 use Rattle.dc_talk.specs.Laws.{IsCentreHistory}
 use Rattle.dc_door.specs.Centres.{CentreTrail}
 use Rattle.dc_door.specs.KeptDoors.{entries_of, trail_at, settings_of}
-use Rattle.link_frames.specs.Frames.{is_deliverable, framed}
+use Rattle.link_frames.specs.Frames.{is_deliverable}
 use Rattle.trail_frames.specs.Carried.{AreDeliverable}
 use Rattle.trail_frames.proofs.Carrying.{sent_deliverable, answered_before}
 use Rattle.script_core.specs.declared.script.Script.{Script}

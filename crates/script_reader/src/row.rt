@@ -95,6 +95,7 @@ fn link_row(said: &Said, fault: LinkFault) -> Row
 pub fn row_of(form: Form, said: &Said) -> Row
     ensures { result ≡ row_of form said.now }
 {
+    let every = u64::from(said.count);
     match form {
         Form::Centres => Row::Centres {
             n: said.n,
@@ -210,36 +211,11 @@ pub fn row_of(form: Form, said: &Said) -> Row
         Form::Prune => operator_row(OperatorStep::Prune {
             centre: said.centre,
         }),
-        Form::LinkDrop => link_row(
-            said,
-            LinkFault::Drop {
-                every: u64::from(said.count),
-            },
-        ),
-        Form::LinkTwice => link_row(
-            said,
-            LinkFault::Twice {
-                every: u64::from(said.count),
-            },
-        ),
-        Form::LinkHold => link_row(
-            said,
-            LinkFault::Hold {
-                every: u64::from(said.count),
-            },
-        ),
-        Form::LinkCut => link_row(
-            said,
-            LinkFault::Cut {
-                every: u64::from(said.count),
-            },
-        ),
-        Form::LinkBend => link_row(
-            said,
-            LinkFault::Bend {
-                every: u64::from(said.count),
-            },
-        ),
+        Form::LinkDrop => link_row(said, LinkFault::Drop { every }),
+        Form::LinkTwice => link_row(said, LinkFault::Twice { every }),
+        Form::LinkHold => link_row(said, LinkFault::Hold { every }),
+        Form::LinkCut => link_row(said, LinkFault::Cut { every }),
+        Form::LinkBend => link_row(said, LinkFault::Bend { every }),
         Form::LinkClean => link_row(said, LinkFault::Clean),
         Form::Settle => operator_row(OperatorStep::Settle),
         Form::Phase => Row::Phase,

@@ -12,7 +12,7 @@ use Rattle.script_core.specs.declared.steps.ClientStep.{ClientStep}
 use Rattle.script_core.specs.declared.steps.OperatorStep.{OperatorStep}
 use Rattle.script_core.specs.declared.steps.Section.{Section}
 use Rattle.script_core.specs.declared.rounds.Role.TheVariants.{Sender, Receiver, Reporter, Pruner}
-use Rattle.run_book.specs.Moves.{Move, move, client_does, operator_does, worker_does, closes, client_steps, operator_steps, client_turn, operator_turn, one_or_none, worker_turn}
+use Rattle.run_book.specs.Moves.{Move, move, client_does, operator_does, worker_does, closes, client_steps, client_turn, operator_turn, one_or_none, worker_turn}
 use Rattle.run_book.proofs.Moves.{counted_more}
 use Rattle.run_table.specs.declared.dealing.Dealt.{Dealt}
 use Rattle.run_table.specs.Dealing.{IsDealt, line_of}

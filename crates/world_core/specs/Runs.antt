@@ -1,6 +1,5 @@
 -- What runs of scripts on one thread leave.
 use Rattle.std.specs.Prelude.{◌≡◌, ℕ, List, ◌++◌, map, Some}
-use Rattle.script_core.specs.declared.script.Script.{Script}
 use Rattle.script_core.specs.Steps.{IsCount}
 use Rattle.script_core.specs.Scripts.{IsInRange}
 use Rattle.dc_mail.specs.Posts.{post_at}

@@ -1,5 +1,5 @@
 use Rattle.std.proofs.Common.{◌≤◌, length, refl, arith}
-use Rattle.std.proofs.lemmas.Result.{on_ok_weaker, on_err_weaker}
+use Rattle.std.proofs.lemmas.Result.{on_ok_weaker}
 use Rattle.run_table.specs.Works.{work_of}
 use Rattle.run_table.proofs.Acting.{worker_range, round_left, on_err_both, round_cut}
 use Rattle.run_table.proofs.table.Table.work.Goals as goal
