@@ -1,4 +1,5 @@
 pub mod Blocks
+pub mod Swaps
 pub mod Casts
 pub mod Begun
 pub mod Crews

@@ -5,6 +5,7 @@
 mod begun;
 mod blocks;
 mod crews;
+mod gathering;
 mod idle;
 mod threads;
 

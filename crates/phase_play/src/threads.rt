@@ -7,6 +7,7 @@ ghost use Rattle.phase_play.specs.Casts.{IsCrewOf, HasCrewPlayed, IsCast, HaveAl
 
 use crate::blocks::{cut, join_blocks};
 use crate::crews::{Crew, begin_crews, end_crews};
+use crate::gathering::{gather, put_back};
 use crate::idle::{idle_crews, is_idle, play_idle};
 use ids_core::NoMemory;
 use io_edge::Gate;
@@ -34,8 +35,8 @@ fn all_of<X: Drop>(alloc: Global, results: Vec<Result<X, NoMemory>>) -> Result<V
     Ok(all)
 }
 
-// The clients, in so many threads.
-fn play_players<R: Threads + Wait + Sync, G: Gate>(
+// The clients in blocks, each in a thread of its own.
+fn play_blocks<R: Threads + Wait + Sync, G: Gate>(
     rt: &R,
     alloc: Global,
     scene: Scene<'_>,
@@ -54,6 +55,27 @@ fn play_players<R: Threads + Wait + Sync, G: Gate>(
     { play_clients(rt, alloc, scene, gate, pace, block) };
     let results = map_vec(rt, blocks, &each)?;
     join_blocks(alloc, all_of(alloc, results)?)
+}
+
+// The clients, in so many threads. Those at one centre are played in one thread as far as may be, for a thread whose client
+// asks a centre waits there for the clients of others.
+fn play_players<R: Threads + Wait + Sync, G: Gate>(
+    rt: &R,
+    alloc: Global,
+    scene: Scene<'_>,
+    gate: &G,
+    pace: &Pace,
+    players: Vec<Player>,
+) -> Result<Vec<Player>, NoMemory>
+    requires scene { IsScene scene }
+    requires players { All (IsPlayerOf scene) players.items }
+    ensures { IfOk result (λ played. AllZip (HasTakenSteps scene.entry) players.items played.items) }
+{
+    let mut gathered = players;
+    let swaps = gather(alloc, &mut gathered)?;
+    let mut played = play_blocks(rt, alloc, scene, gate, pace, gathered)?;
+    put_back(&mut played, swaps);
+    Ok(played)
 }
 
 // The operator and the workers of all centres: where there are rounds, these begin in threads of their own, and then the

@@ -1,27 +1,31 @@
-use Rattle.std.proofs.Common.{rules, ◌≡◌, List, length, sym, subst}
+use Rattle.std.proofs.Common.{◌≡◌, ℕ, List, length, sym, ap, ◌∙◌, subst}
 use Rattle.std.specs.Prelude.{All}
 use Rattle.std.specs.List.{AllZip}
-use Rattle.std.specs.Global.{Vec}
-use Rattle.std.proofs.lemmas.Result.{IfOk-weaker}
+use Rattle.std.proofs.lemmas.List.Elements.{length_all_zip}
 use Rattle.phase_actors.specs.declared.clients.Player.{Player}
 use Rattle.phase_actors.specs.Actors.{IsPlayerOf, HasTakenSteps}
-use Rattle.phase_play.proofs.Cutting.{in_blocks, block_all, blocks_zip, all_given}
+use Rattle.phase_play.specs.declared.gathering.Swap.{Swap}
+use Rattle.phase_play.specs.Swaps.{IsWithin, swapped_back}
+use Rattle.phase_play.proofs.Swapping.{all_by, zip_back}
 use Rattle.phase_play.proofs.threads.play_players.Goals as goal
 
-pub map_vec-requires-after_bounds : goal.map_vec-requires-after_bounds
-map_vec-requires-after_bounds g c κs within = λ place block inside is.
-    let all : All (IsPlayerOf c.args.scene) block.items = block_all (IsPlayerOf c.args.scene) c.in_ok-blocks.blocks.items place block (subst (All (IsPlayerOf c.args.scene)) (sym c.in_ok-blocks.ensures.all) c.requires.players) inside is in
-    ((c.requires.scene, all), search rules)
+pub play_blocks-requires-clause-players : goal.play_blocks-requires-clause-players
+play_blocks-requires-clause-players g c κs within =
+    let noted = c.in_ok-swaps.ensures in
+    let is = IsPlayerOf c.args.scene in
+    subst (All is) (sym noted.made) (all_by is c.args.players.items noted.more noted.within c.requires.players)
+
+pub put_back-requires : goal.put_back-requires
+put_back-requires g c =
+    let noted = c.in_ok-swaps.ensures in
+    let long : length c.in_ok-played.played.items ≡ length c.args.players.items = sym (length_all_zip (HasTakenSteps c.args.scene) c.gather.new.players.items c.in_ok-played.played.items c.in_ok-played.ensures) ∙ noted.long in
+    let within : All (IsWithin (length c.args.players.items)) c.in_ok-swaps.swaps.items = subst (All (IsWithin (length c.args.players.items))) (sym noted.noted) noted.within in
+    subst (λ (n : ℕ). All (IsWithin n) c.in_ok-swaps.swaps.items) (sym long) within
 
 pub returns : goal.returns
 returns g c =
-    let scene = c.args.scene in
-    let blocks : List (Vec Player) = c.in_ok-blocks.blocks.items in
-    let done : List (Vec Player) = c.in_ok-all_of.field-0.items in
-    let results = c.in_ok-results.results.items in
-    let long : length results ≡ length blocks = search rules in
-    let zip : AllZip (λ (block after : Vec Player). AllZip (HasTakenSteps scene) block.items after.items) blocks done =
-    all_given (λ (block after : Vec Player). AllZip (HasTakenSteps scene) block.items after.items) blocks results done long c.in_ok-all_of.ensures
-    (λ place other inside. let given = (c.in_ok-results.ensures.each place other inside).1 in (given.job, given.job_is, given.call.met)) in
-    let whole : AllZip (HasTakenSteps scene) c.args.players.items (in_blocks done) = subst (λ (players : List Player). AllZip (HasTakenSteps scene) players (in_blocks done)) c.in_ok-blocks.ensures.all (blocks_zip (HasTakenSteps scene) blocks done zip) in
-    IfOk-weaker c.join_blocks.result (λ joined. joined.items ≡ in_blocks done) (λ joined. AllZip (HasTakenSteps scene) c.args.players.items joined.items) (λ joined is. subst (AllZip (HasTakenSteps scene) c.args.players.items) (sym is) whole) c.join_blocks.ensures
+    let noted = c.in_ok-swaps.ensures in
+    let steps = HasTakenSteps c.args.scene in
+    let done : List Player = c.in_ok-played.played.items in
+    let played : AllZip steps c.args.players.items (swapped_back done noted.more) = zip_back steps c.args.players.items done noted.more noted.within (subst (λ (xs : List Player). AllZip steps xs done) noted.made c.in_ok-played.ensures) in
+    subst (λ (xs : List Player). AllZip steps c.args.players.items xs) (ap (λ (swaps : List Swap). swapped_back done swaps) (sym noted.noted) ∙ sym c.put_back.ensures) played
