@@ -16,6 +16,10 @@ use std::alloc::Global;
 use std::sync::Wait;
 use std::thread::{Threads, join, map_vec, scope, scope_env};
 
+// How many clients each thread has at least where those at one centre are brought together. A thread with fewer seldom
+// waits for others, and what it waits holds its clients back until the workers have come on.
+const FEWEST_GATHERED: usize = 4;
+
 /// The actors of a phase: the operator, the clients in order, and the workers of each centre.
 #[derive(Drop)]
 pub struct Cast {
@@ -57,9 +61,9 @@ fn play_blocks<R: Threads + Wait + Sync, G: Gate>(
     join_blocks(alloc, all_of(alloc, results)?)
 }
 
-// The clients, in so many threads. Those at one centre are played in one thread as far as may be, for a thread whose client
-// asks a centre waits there for the clients of others.
-fn play_players<R: Threads + Wait + Sync, G: Gate>(
+// The clients in blocks, those at one centre in one thread as far as may be: a thread whose client asks a centre waits
+// there for the clients of other threads.
+fn play_gathered<R: Threads + Wait + Sync, G: Gate>(
     rt: &R,
     alloc: Global,
     scene: Scene<'_>,
@@ -76,6 +80,26 @@ fn play_players<R: Threads + Wait + Sync, G: Gate>(
     let mut played = play_blocks(rt, alloc, scene, gate, pace, gathered)?;
     put_back(&mut played, swaps);
     Ok(played)
+}
+
+// The clients, in so many threads.
+fn play_players<R: Threads + Wait + Sync, G: Gate>(
+    rt: &R,
+    alloc: Global,
+    scene: Scene<'_>,
+    gate: &G,
+    pace: &Pace,
+    players: Vec<Player>,
+) -> Result<Vec<Player>, NoMemory>
+    requires scene { IsScene scene }
+    requires players { All (IsPlayerOf scene) players.items }
+    ensures { IfOk result (λ played. AllZip (HasTakenSteps scene.entry) players.items played.items) }
+{
+    if players.len() / FEWEST_GATHERED < scene.script.threads as usize {
+        play_blocks(rt, alloc, scene, gate, pace, players)
+    } else {
+        play_gathered(rt, alloc, scene, gate, pace, players)
+    }
 }
 
 // The operator and the workers of all centres: where there are rounds, these begin in threads of their own, and then the

@@ -7,7 +7,7 @@ use Rattle.phase_actors.specs.Actors.{IsPlayerOf, HasTakenSteps}
 use Rattle.phase_play.specs.declared.gathering.Swap.{Swap}
 use Rattle.phase_play.specs.Swaps.{IsWithin, swapped_back}
 use Rattle.phase_play.proofs.Swapping.{all_by, zip_back}
-use Rattle.phase_play.proofs.threads.play_players.Goals as goal
+use Rattle.phase_play.proofs.threads.play_gathered.Goals as goal
 
 pub play_blocks-requires-clause-players : goal.play_blocks-requires-clause-players
 play_blocks-requires-clause-players g c κs within =
