@@ -145,9 +145,13 @@ centre_pruned s x y t mark trimmed news gone h counts base stable marked joined 
   gone = subst (λ v. Covers (all_known_of t v) gone) (sym counts) (subst (Covers (all_known_of t x.counts)) (sym joined) (Covers_join (all_known_of t x.counts) trimmed (all_known_of t x.counts) h.gone (Covers_refl (all_known_of t x.counts))));
 }
 
--- what it will fold is here
+-- what is stable is here
+pub stable_here : (t : Table) (counts : List ℕ) → Covers counts (stable_of t counts)
+stable_here t counts = Covers-meet_right (kth_largest t.k (rows_of t counts)) counts
+
+-- and so is what it will fold
 pub mark_here : (s : Settings) (x : AppliedView) (t : Table) (mark trimmed : List ℕ) → IsCentre s x t mark trimmed → Covers x.counts mark
-mark_here s x t mark trimmed h = Covers_trans x.counts (stable_of t x.counts) mark (Covers-meet_right (kth_largest t.k (rows_of t x.counts)) x.counts) h.stable
+mark_here s x t mark trimmed h = Covers_trans x.counts (stable_of t x.counts) mark (stable_here t x.counts) h.stable
 
 -- ---- what is held
 

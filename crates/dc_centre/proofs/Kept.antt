@@ -25,15 +25,17 @@ use Rattle.check_point.specs.Points.{PointView, HasFewUpdates}
 use Rattle.point_log.specs.KeptLogs.{IsKeptLog}
 use Rattle.point_log.specs.StandFor.{with_one}
 use Rattle.point_log.specs.Served.{IsServed, AreServed, ServedEntries, served_of}
+use Rattle.point_log.specs.Mines.{IsMine, AreMines, MineEntries, mine_of}
 use Rattle.point_log.proofs.KeptLogs.{none_kept, kept_more, kept_left}
 use Rattle.point_log.proofs.Serving.{kept_on, served_more, none_served}
+use Rattle.point_log.proofs.Telling.{mine_more, none_mines}
 use Rattle.dc_centre.specs.Applied.{AppliedView, IsNext, is_fresh, IsCentreOf, IsKept}
 use Rattle.dc_centre.proofs.Applying.{IsNothing, Noted, more_kept, stamp_out}
 
 -- ---- at first
 
-pub kept_none : (n : ℕ) (x : AppliedView) (served : ServedEntries) → (1 ≤ n) × (n ≤ MOST_CENTRES) → IsNothing n x → ((client : ℕ) → stamp_of x.lasts client ≡ None) → served ≡ [] → IsKept x served
-kept_none n x served width h none empty = record {
+pub kept_none : (n : ℕ) (x : AppliedView) (served : ServedEntries) (mines : MineEntries) → (1 ≤ n) × (n ≤ MOST_CENTRES) → IsNothing n x → ((client : ℕ) → stamp_of x.lasts client ≡ None) → served ≡ [] → mines ≡ [] → IsKept x served mines
+kept_none n x served mines width h none empty untold = record {
   width = subst (λ (m : ℕ). (1 ≤ m) × (m ≤ MOST_CENTRES)) (sym wide) width;
   based = ap length h.base ∙ sym (ap length h.counts);
   within = subst (λ (v : List ℕ). Covers x.counts v) (h.counts ∙ sym h.base) (Covers_refl x.counts);
@@ -42,6 +44,7 @@ kept_none n x served width h none empty = record {
   updates = subst (λ (k : log.LogView). All (λ (l : Logged). HasFewUpdates l.tx) k.items) (sym h.log) (All-nil (λ (l : Logged). HasFewUpdates l.tx));
   logged = subst IsKeptLog (sym h.log) none_kept;
   states = none_served x.counts x.point x.log served empty;
+  told = none_mines x.counts x.point x.log mines untold;
 }
   where
     wide : length x.counts ≡ n
@@ -107,8 +110,15 @@ module _ (x : AppliedView) (r : Record) (fresh : Bool) (lasts : List Last) (next
     here = λ o. kept_on (IsServed x.point x.log o) (λ s. Covers x.counts s.at) (λ s. Covers (raised x.counts r.stamp) s.at) (served_of served o) (λ s is here. Covers_trans (raised x.counts r.stamp) x.counts s.at (Covers-join_left x.counts _) here) (are.states o) (are.here o);
   }
 
-pub kept_taken : (x : AppliedView) (lasts : List Last) (r : Record) (served : ServedEntries) → IsKept x served → IsNext x r → Noted r (is_fresh x r) x.lasts lasts → IsKept (more_kept x r (is_fresh x r) lasts) served
-kept_taken x lasts r served h next noted = record {
+  -- and the numbers that were told
+  mines_more : (mines : MineEntries) → AreMines x.counts x.point x.log mines → AreMines (raised x.counts r.stamp) x.point (with_one x.log r fresh) mines
+  mines_more mines are = record {
+    numbers = λ c. kept_on (IsMine x.point x.log c) (λ m. Covers x.counts m.at) (IsMine x.point (with_one x.log r fresh) c) (mine_of mines c) (λ m is here. mine_more x.point x.log c r fresh m (stamp_out x.counts m.at r.stamp here next.seq) is) (are.numbers c) (are.here c);
+    here = λ c. kept_on (IsMine x.point x.log c) (λ m. Covers x.counts m.at) (λ m. Covers (raised x.counts r.stamp) m.at) (mine_of mines c) (λ m is here. Covers_trans (raised x.counts r.stamp) x.counts m.at (Covers-join_left x.counts _) here) (are.numbers c) (are.here c);
+  }
+
+pub kept_taken : (x : AppliedView) (lasts : List Last) (r : Record) (served : ServedEntries) (mines : MineEntries) → IsKept x served mines → IsNext x r → Noted r (is_fresh x r) x.lasts lasts → IsKept (more_kept x r (is_fresh x r) lasts) served mines
+kept_taken x lasts r served mines h next noted = record {
   width = subst (λ (m : ℕ). (1 ≤ m) × (m ≤ MOST_CENTRES)) (sym wide) h.width;
   based = h.based ∙ sym wide;
   within = Covers_trans (raised x.counts r.stamp) x.counts x.point.vector (Covers-join_left x.counts _) h.within;
@@ -117,6 +127,7 @@ kept_taken x lasts r served h next noted = record {
   updates = In-All (λ (l : Logged). HasFewUpdates l.tx) (with_one x.log r fresh).items (each_more x r fresh lasts next noted HasFewUpdates (λ l i. All-In (λ (l : Logged). HasFewUpdates l.tx) x.log.items l h.updates i) (record { few = next.few }) fresh);
   logged = kept_more x.log h.logged r fresh (not_logged x r h.numbers);
   states = states_more x r fresh lasts next noted served h.logged h.states;
+  told = mines_more x r fresh lasts next noted mines h.told;
 }
   where
     fresh : Bool
@@ -127,8 +138,8 @@ kept_taken x lasts r served h next noted = record {
 
 -- ---- once more is folded
 
-pub kept_pruned : (x : AppliedView) (point : PointView) (left : log.LogView) (to : List ℕ) (before served : ServedEntries) → IsKept x before → length to ≡ length x.counts → Covers x.counts to → point.vector ≡ to → left ≡ record x.log { items = log.left_of to x.log.items } → served ≡ [] → IsKept (record x { point = point; log = left }) served
-kept_pruned x point left to before served h wide here is out empty = record {
+pub kept_pruned : (x : AppliedView) (point : PointView) (left : log.LogView) (to : List ℕ) (before served : ServedEntries) (earlier mines : MineEntries) → IsKept x before earlier → length to ≡ length x.counts → Covers x.counts to → point.vector ≡ to → left ≡ record x.log { items = log.left_of to x.log.items } → served ≡ [] → mines ≡ [] → IsKept (record x { point = point; log = left }) served mines
+kept_pruned x point left to before served earlier mines h wide here is out empty untold = record {
   width = h.width;
   based = ap length is ∙ wide;
   within = subst (Covers x.counts) (sym is) here;
@@ -137,4 +148,5 @@ kept_pruned x point left to before served h wide here is out empty = record {
   updates = subst (λ (k : log.LogView). All (λ (l : Logged). HasFewUpdates l.tx) k.items) (sym out) (All-filter (λ l. not (log.is_inside to l)) (λ (l : Logged). HasFewUpdates l.tx) x.log.items h.updates);
   logged = subst IsKeptLog (sym out) (kept_left x.log h.logged to);
   states = none_served x.counts point left served empty;
+  told = none_mines x.counts point left mines untold;
 }

@@ -14,6 +14,7 @@ use Rattle.check_point.specs.Points.{PointView, HasFewUpdates}
 use Rattle.point_log.specs.StandFor.{StandFor}
 use Rattle.point_log.specs.KeptLogs.{IsKeptLog}
 use Rattle.point_log.specs.Served.{ServedEntries, AreServed}
+use Rattle.point_log.specs.Mines.{MineEntries, AreMines}
 use Rattle.dc_talk.specs.Records.{count, vector, guard, first_stamp, top, has}
 use Rattle.dc_talk.specs.Dots.{dots_of}
 
@@ -80,8 +81,9 @@ pub record IsApplied (n : ℕ) (x : AppliedView) (A : List Record) : Type 0 wher
 
 -- what is kept is well kept, whatever records it stands for: all vectors are of one width, and what is folded is counted;
 -- the stamp of each client is of a centre; each transaction in the log has few updates, and is one of its client's up to
--- the last; and the log can be folded on, as the states are that were served
-pub record IsKept (x : AppliedView) (served : ServedEntries) : Type 0 where
+-- the last; the log can be folded on, as the states are that were served; and the numbers that were told are those of
+-- clients
+pub record IsKept (x : AppliedView) (served : ServedEntries) (mines : MineEntries) : Type 0 where
   pub width : (1 ≤ length x.counts) × (length x.counts ≤ MOST_CENTRES)
   pub based : length x.point.vector ≡ length x.counts
   pub within : Covers x.counts x.point.vector
@@ -90,3 +92,4 @@ pub record IsKept (x : AppliedView) (served : ServedEntries) : Type 0 where
   pub updates : All (λ (l : Logged). HasFewUpdates l.tx) x.log.items
   pub logged : IsKeptLog x.log
   pub states : AreServed x.counts x.point x.log served
+  pub told : AreMines x.counts x.point x.log mines

@@ -12,21 +12,22 @@ ghost use Rattle.dc_talk.specs.Records.{joined};
 ghost use Rattle.dc_centre.specs.Applied.{IsNext, is_fresh, IsApplied};
 
 use check_point::Point;
+use dc_talk::SharedState;
 use dup_guard::Guard;
 use ids_core::{Dot, NoMemory, ObjectId};
 use op_log::Log;
-use point_log::{ServedStates, keep, mine_at, prune, serve};
+use point_log::{Mines, ServedStates, keep, prune, serve, tell_mine};
 use std::alloc::Global;
 use std::collections::BTreeMap;
 use std::marker::Model;
-use tx_core::{Record, State, Tx};
+use tx_core::{Record, Tx};
 use vv_core::{Stamp, Vector};
 
 /// What a centre keeps of the records that it applied: how many there are of each centre, the last
 /// number of each client with its first stamp, the greatest rank, and the transactions, those within a
 /// vector folded into states, and the others in a log. Beside them it keeps states that it served, each of
-/// an object with many operations in the log at a vector within the counts, until it is pruned: they are
-/// what point and log tell, and no contract shows them.
+/// an object with many operations in the log at a vector within the counts, and of each client the last number that
+/// it told, until it is pruned: they are what point and log tell, and no contract shows them.
 #[derive(Drop)]
 pub struct Applied {
     pub(crate) vector: Vector,
@@ -35,6 +36,7 @@ pub struct Applied {
     pub(crate) point: Point,
     pub(crate) log: Log,
     pub(crate) served: ServedStates,
+    pub(crate) mines: Mines,
 }
 
 impl Model for Applied {
@@ -47,7 +49,7 @@ impl Model for Applied {
 
     ghost view = { λ a. record { counts = a.vector; lasts = a.guard; greatest = a.top; point = a.point; log = a.log } };
 
-    ghost invariant = { λ a. IsKept (record { counts = a.vector; lasts = a.guard; greatest = a.top; point = a.point; log = a.log }) a.served.entries };
+    ghost invariant = { λ a. IsKept (record { counts = a.vector; lasts = a.guard; greatest = a.top; point = a.point; log = a.log }) a.served.entries a.mines.entries };
 }
 
 impl Applied {
@@ -65,6 +67,7 @@ impl Applied {
             point: Point::new(alloc, n)?,
             log: Log::new(alloc)?,
             served: BTreeMap::new(alloc),
+            mines: BTreeMap::new(alloc),
         })
     }
 
@@ -119,22 +122,26 @@ impl Applied {
         self.top
     }
 
-    /// The greatest number of a client's transactions within a vector, 0 for none.
-    pub fn mine(&self, client: u32, at: &Vector) -> u64
-        ensures { result ≡ mine_told self.now.point self.now.log client at.now }
+    /// The greatest number of a client's transactions within a vector that is within the counts, 0 for none. Nothing that
+    /// is seen changes. Time: at the vector of the client's last call a look-up, and else the client's transactions
+    /// in the log.
+    pub fn mine(&mut self, client: u32, at: &Vector) -> u64
+        requires { Covers self.old.counts at.now }
+        ensures number { result ≡ mine_told self.old.point self.old.log client at.now }
+        ensures same { self.new ≡ self.old }
     {
-        mine_at(&self.point, &self.log, client, at)
+        tell_mine(&self.point, &self.log, &mut self.mines, client, at)
     }
 
     /// The state of an object at a vector within the counts that covers the base. Nothing that is seen
-    /// changes. Time: for an object with few operations in the log these, and else what came since its
-    /// state was last kept.
+    /// changes. Time: for an object with few operations in the log these, and else a copy of the state that
+    /// was last kept and what came since. At the vector of that one it is handed out again.
     pub fn state(
         &mut self,
         alloc: Global,
         object: &ObjectId,
         at: &Vector,
-    ) -> Result<State, NoMemory>
+    ) -> Result<SharedState, NoMemory>
         requires width { length at.now ≡ length self.old.counts }
         requires covers { Covers at.now self.old.point.vector }
         requires here { Covers self.old.counts at.now }
@@ -188,6 +195,7 @@ impl Applied {
     {
         prune(alloc, &mut self.point, &mut self.log, to)?;
         self.served.clear();
+        self.mines.clear();
         Ok(())
     }
 }

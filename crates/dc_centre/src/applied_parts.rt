@@ -15,7 +15,7 @@ use std::alloc::Global;
 use std::collections::BTreeMap;
 
 impl Applied {
-    /// What is kept, but for the states that were served. No other parts are that. Time: a copy of all states and
+    /// What is kept, but for the states that were served and the numbers that were told. No other parts are that. Time: a copy of all states and
     /// of the log, and a sort of the objects and of the clients.
     pub fn parts(&self, alloc: Global) -> Result<AppliedParts, NoMemory>
         ensures told { IfOk result (AreAppliedPartsOf self.now) }
@@ -31,7 +31,7 @@ impl Applied {
         })
     }
 
-    /// What is kept where these are its parts. No state is served yet. Time: linear in the parts, with a logarithm
+    /// What is kept where these are its parts. No state is served yet, and no number told. Time: linear in the parts, with a logarithm
     /// for the tables.
     pub fn of_parts(alloc: Global, parts: AppliedParts) -> Result<Applied, NoMemory>
         requires { AreAppliedParts parts }
@@ -45,6 +45,7 @@ impl Applied {
             point: Point::of_parts(alloc, parts.point)?,
             log: Log::of_parts(alloc, parts.rest)?,
             served: BTreeMap::new(alloc),
+            mines: BTreeMap::new(alloc),
         })
     }
 }

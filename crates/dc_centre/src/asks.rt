@@ -8,7 +8,7 @@ ghost use Rattle.tx_core.specs.Checks.{IsFit};
 ghost use Rattle.dc_centre.specs.Centre.{Goes, row_over, stable_over};
 
 use crate::centre::Centre;
-use dc_talk::{Say, Sent, SharedRecord, SharedState};
+use dc_talk::{Say, Sent, SharedRecord};
 use ids_core::{NoMemory, ObjectId};
 use std::alloc::Global;
 use tx_core::{Record, Tx};
@@ -39,10 +39,11 @@ impl Centre {
     }
 
     /// The answer to a refresh, in two copies.
-    pub(crate) fn snap(&self, client: u32, at: &Vector) -> (Say, Say)
-        requires { length at.now ≡ self.now.settings.n }
-        ensures answer { result.0 ≡ row_over self.now (Refresh client at.now) }
+    pub(crate) fn snap(&mut self, client: u32, at: &Vector) -> (Say, Say)
+        requires { length at.now ≡ self.old.settings.n }
+        ensures answer { result.0 ≡ row_over self.old (Refresh client at.now) }
         ensures copy { result.1 ≡ result.0 }
+        ensures same { self.new ≡ self.old }
     {
         match Vector::first_lack(&self.applied.vector(), at) {
             Some(lack) => (lacks(lack), lacks(lack)),
@@ -76,7 +77,7 @@ impl Centre {
         if let Some(lack) = Vector::first_lack(at, &self.applied.base()) {
             return Ok((pruned(lack), pruned(lack)));
         }
-        let state = SharedState::new(alloc, self.applied.state(alloc, object, at)?)?;
+        let state = self.applied.state(alloc, object, at)?;
         let copy = state.copy()?;
         Ok((Say::Object { state: copy }, Say::Object { state }))
     }

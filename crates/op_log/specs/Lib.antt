@@ -2,3 +2,4 @@ pub mod Logs
 pub mod Places
 pub mod RestParts
 pub mod Tables
+pub mod StampLists

@@ -1,5 +1,5 @@
 // The log of a centre.
-ghost use Rattle.std.specs.Prelude.{◌≡◌, ◌≤◌, [], false, map, length, IfOk, OnOk, OnErr};
+ghost use Rattle.std.specs.Prelude.{◌≡◌, ◌≤◌, ◌&&◌, [], not, false, map, length, IfOk, OnOk, OnErr};
 ghost use Rattle.ids_core.specs.declared.limits.TheConstants.{MOST_UPDATES};
 ghost use Rattle.op_log.specs.Logs.{chain_of, is_inside_at, mine_in, within_of, left_of, has_dot, with_stamp, with_record};
 ghost use Rattle.op_log.specs.RestParts.{AreParts, log_of, parts_of, with_part};
@@ -8,7 +8,7 @@ use crate::chains::{Cell, Chains};
 use crate::dots::{Dots, mine_of, name};
 use crate::logged::Logged;
 use crate::parts::parts_of;
-use crate::slots::{Slots, is_inside_at, keep};
+use crate::slots::{Slots, is_inside_at, is_since, keep};
 use crate::stamps::{alias_at, keep_stamped, note_all};
 use crate::sweep::sweep_chains;
 use crate::take::take_all;
@@ -75,7 +75,7 @@ impl Log {
             Some(appended) => appended,
             None => return Err(NoMemory),
         };
-        let x = Logged::of(self.alloc, number, item)?;
+        let x = Logged::of(number, item)?;
         name(&mut self.dots, &item.tx.dot, number)?;
         put_tx(&mut self.chains, number, &item.tx)?;
         if keep_stamped(&mut self.slots, &mut self.places, x, &item.stamp).is_err() {
@@ -94,7 +94,16 @@ impl Log {
         ensures err { OnErr result (self.new ≡ self.old) }
     {
         match self.dots.get(dot) {
-            Some(number) => alias_at(&mut self.slots, &mut self.places, *number, dot, stamp),
+            Some(number) => {
+                alias_at(
+                    self.alloc,
+                    &mut self.slots,
+                    &mut self.places,
+                    *number,
+                    dot,
+                    stamp,
+                )
+            },
             None => Ok(false),
         }
     }
@@ -111,6 +120,14 @@ impl Log {
         ensures { result ≡ is_inside_at at.now tx self.now.items }
     {
         is_inside_at(&self.slots, tx, at)
+    }
+
+    /// Whether the transaction of a number has a stamp within the vector, and none within the one before. It takes
+    /// no memory.
+    pub fn since(&self, tx: u64, before: &Vector, at: &Vector) -> bool
+        ensures { result ≡ (is_inside_at at.now tx self.now.items && not (is_inside_at before.now tx self.now.items)) }
+    {
+        is_since(&self.slots, tx, before, at)
     }
 
     /// The greatest number of a client's transactions with a stamp within the vector, 0 for none.

@@ -1,10 +1,10 @@
 // A transaction in the log.
-ghost use Rattle.std.specs.Prelude.{◌≡◌, ◌++◌, ◌∷◌, [], IfOk, OnOk, OnErr};
+ghost use Rattle.std.specs.Prelude.{◌≡◌, ◌&&◌, ◌++◌, ◌∷◌, [], not, IfOk, OnOk, OnErr};
 ghost use Rattle.op_log.specs.Logs.{is_inside, first_of, with_one};
 ghost use Rattle.op_log.specs.RestParts.{rest_part, logged_part};
 
+use crate::stamp_list::StampList;
 use ids_core::NoMemory;
-use list_core::List;
 use stamp_index::is_any_within;
 use std::alloc::Global;
 use tx_core::{Record, RestPart, Tx};
@@ -16,20 +16,18 @@ use vv_core::{Stamp, Vector};
 pub struct Logged {
     pub number: u64,
     pub tx: Tx,
-    pub stamps: List<Stamp>,
+    pub stamps: StampList,
 }
 
 impl Logged {
     /// The transaction of a record, with its stamp.
-    pub(crate) fn of(alloc: Global, number: u64, item: &Record) -> Result<Logged, NoMemory>
+    pub(crate) fn of(number: u64, item: &Record) -> Result<Logged, NoMemory>
         ensures { IfOk result (λ x. x ≡ first_of number item.now) }
     {
-        let mut stamps = List::new(alloc);
-        stamps.push(item.stamp)?;
         Ok(Logged {
             number,
             tx: item.tx.copy()?,
-            stamps,
+            stamps: StampList::one(item.stamp),
         })
     }
 
@@ -40,17 +38,17 @@ impl Logged {
         Logged {
             number,
             tx: part.tx,
-            stamps: part.stamps,
+            stamps: StampList::from_list(part.stamps),
         }
     }
 
     /// The transaction with its stamps, again.
-    pub(crate) fn part(&self) -> Result<RestPart, NoMemory>
+    pub(crate) fn part(&self, alloc: Global) -> Result<RestPart, NoMemory>
         ensures { IfOk result (λ part. part ≡ rest_part self.now) }
     {
         Ok(RestPart {
             tx: self.tx.copy()?,
-            stamps: self.stamps.copy()?,
+            stamps: self.stamps.to_list(alloc)?,
         })
     }
 
@@ -61,12 +59,18 @@ impl Logged {
         is_any_within(self.stamps.as_slice(), at)
     }
 
+    /// Whether one of its stamps is within the vector, and none within the one before.
+    pub(crate) fn came_since(&self, before: &Vector, at: &Vector) -> bool
+        ensures { result ≡ (is_inside at.now self.now && not (is_inside before.now self.now)) }
+    {
+        self.is_inside(at) && !self.is_inside(before)
+    }
+
     /// One stamp more. An `Err` leaves all as it was.
-    pub(crate) fn add(&mut self, stamp: &Stamp) -> Result<(), NoMemory>
+    pub(crate) fn add(&mut self, alloc: Global, stamp: &Stamp) -> Result<(), NoMemory>
         ensures ok { OnOk result (self.new ≡ with_one stamp.now self.old) }
         ensures err { OnErr result (self.new ≡ self.old) }
     {
-        self.stamps.push(*stamp)?;
-        Ok(())
+        self.stamps.push(alloc, *stamp)
     }
 }

@@ -15,7 +15,7 @@ pub(crate) fn parts_of(alloc: Global, slots: &Slots) -> Result<RestParts, NoMemo
 {
     let mut parts = List::new(alloc);
     for x in slots.values() {
-        parts.push(x.part()?)?;
+        parts.push(x.part(alloc)?)?;
     }
     Ok(parts)
 }

@@ -1,5 +1,5 @@
 // The transactions in the log, found by their numbers.
-ghost use Rattle.std.specs.Prelude.{◌≡◌, ◌&&◌, ◌<◌, ◌++◌, ◌∷◌, [], true, All, IfOk, OnOk, OnErr};
+ghost use Rattle.std.specs.Prelude.{◌≡◌, ◌&&◌, ◌<◌, ◌++◌, ◌∷◌, [], not, true, All, IfOk, OnOk, OnErr};
 ghost use Rattle.std.specs.Map.{values_of};
 ghost use Rattle.list_core.specs.Members.{In};
 ghost use Rattle.ids_core.specs.Ids.{same_dot};
@@ -9,6 +9,7 @@ ghost use Rattle.op_log.specs.Tables.{Rises, IsKeyed, is_own_inside};
 
 use crate::logged::Logged;
 use ids_core::{Dot, NoMemory};
+use std::alloc::Global;
 use std::collections::BTreeMap;
 use vv_core::{Stamp, Vector};
 
@@ -33,6 +34,18 @@ pub(crate) fn is_inside_at(slots: &Slots, number: u64, at: &Vector) -> bool
 {
     match slots.get(&number) {
         Some(x) => x.is_inside(at),
+        None => false,
+    }
+}
+
+// Whether the transaction of a number is there with a stamp within the vector, and none within the one before.
+pub(crate) fn is_since(slots: &Slots, number: u64, before: &Vector, at: &Vector) -> bool
+    requires keyed { IsKeyed slots.now.entries }
+    requires rises { Rises (values_of slots.now.entries) }
+    ensures { result ≡ (is_inside_at at.now number (values_of slots.now.entries) && not (is_inside_at before.now number (values_of slots.now.entries))) }
+{
+    match slots.get(&number) {
+        Some(x) => x.came_since(before, at),
         None => false,
     }
 }
@@ -72,6 +85,7 @@ pub(crate) fn is_named(slots: &Slots, number: u64, dot: &Dot) -> bool
 // Adds a stamp to the transaction of a number, if it has the dot: whether it has. No other transaction
 // has it. An `Err` leaves all as it was.
 pub(crate) fn add_at(
+    alloc: Global,
     slots: &mut Slots,
     number: u64,
     dot: &Dot,
@@ -86,20 +100,20 @@ pub(crate) fn add_at(
     ensures keyed { IsKeyed slots.new.entries }
 {
     match slots.get_mut(&number) {
-        Some(x) => add_if(x, dot, stamp),
+        Some(x) => add_if(alloc, x, dot, stamp),
         None => Ok(false),
     }
 }
 
 // Adds a stamp to a transaction, if it has the dot: whether it has. An `Err` leaves all as it was.
-fn add_if(x: &mut Logged, dot: &Dot, stamp: &Stamp) -> Result<bool, NoMemory>
+fn add_if(alloc: Global, x: &mut Logged, dot: &Dot, stamp: &Stamp) -> Result<bool, NoMemory>
     ensures found { IfOk result (λ found. found ≡ same_dot x.old.tx.dot dot.now) }
     ensures ok { OnOk result (x.new ≡ stamped dot.now stamp.now x.old) }
     ensures err { OnErr result (x.new ≡ x.old) }
     ensures number { x.new.number ≡ x.old.number }
 {
     if x.tx.dot == *dot {
-        x.add(stamp)?;
+        x.add(alloc, stamp)?;
         Ok(true)
     } else {
         Ok(false)

@@ -15,6 +15,7 @@ use crate::logged::Logged;
 use crate::slots::{Slots, add_at, is_named, keep};
 use ids_core::{Dot, NoMemory};
 use stamp_index::{Places, lift, note};
+use std::alloc::Global;
 use vv_core::Stamp;
 
 // Keeps a transaction, whose number is above all others and has no stamp yet, with a stamp. An `Err` leaves
@@ -44,6 +45,7 @@ pub(crate) fn keep_stamped(
 // Gives the transaction of a number one stamp more, if it has the dot: whether it has. No other transaction
 // has it. An `Err` leaves all as it was.
 pub(crate) fn alias_at(
+    alloc: Global,
     slots: &mut Slots,
     places: &mut Places,
     number: u64,
@@ -64,7 +66,7 @@ pub(crate) fn alias_at(
         return Ok(false);
     }
     let new = note(places, number, stamp)?;
-    let found = add_at(slots, number, dot, stamp);
+    let found = add_at(alloc, slots, number, dot, stamp);
     if new && found.is_err() {
         lift(places, number, stamp);
     }

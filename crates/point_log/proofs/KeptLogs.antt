@@ -57,7 +57,7 @@ pub any_later : (w v : List ℕ) (stamps : List Stamp) → Covers w v → is_any
 any_later w v [] later is = is
 any_later w v (s ∷ stamps) later is = ⊎_elim (λ here. or_left (within s w) (is_any_within w stamps) (within_grows w v s later here)) (λ rest. or_right (within s w) (is_any_within w stamps) (any_later w v stamps later rest)) (or_cases (within s v) (is_any_within v stamps) is)
 
-any_stays : (w : List ℕ) (stamps : List Stamp) (s : Stamp) → within s w ≡ false → is_any_within w (stamps ++ s ∷ []) ≡ is_any_within w stamps
+pub any_stays : (w : List ℕ) (stamps : List Stamp) (s : Stamp) → within s w ≡ false → is_any_within w (stamps ++ s ∷ []) ≡ is_any_within w stamps
 any_stays w [] s out = or-false (within s w) ∙ out
 any_stays w (t ∷ stamps) s out = ap (λ b. within t w || b) (any_stays w stamps s out)
 

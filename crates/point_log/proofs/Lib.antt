@@ -8,3 +8,4 @@ pub mod LogGrowth
 pub mod StandingFor
 pub mod KeptLogs
 pub mod Serving
+pub mod Telling

@@ -1,5 +1,5 @@
 -- States that are kept, folded on at a later vector, and after one record more.
-use Rattle.std.proofs.Common.{◌≡◌, ◌≤◌, ◌<◌, ℕ, ◌+◌, Bool, true, false, cond, ◌&&◌, ◌⊎◌, inl, inr, ⊎_elim, Option, Some, None, List, [], ◌∷◌, ◌++◌, length, take, drop, get_or, sym, ap, subst, ◌∙◌, arith}
+use Rattle.std.proofs.Common.{◌≡◌, ◌≤◌, ◌<◌, ℕ, ◌+◌, Bool, true, false, cond, ◌&&◌, ◌⊎◌, inl, inr, ⊎_elim, Option, Some, None, List, [], ◌∷◌, ◌++◌, length, take, drop, get_or, refl, sym, ap, subst, ◌∙◌, arith}
 use Rattle.std.specs.Prelude.{filter, not, IfSome, ◌==◌, Result, Ok, Err, OnOk, OnErr, IfOk}
 use Rattle.std.specs.BTreeMap.{is_at}
 use Rattle.std.proofs.Math.Bool.{and-false}
@@ -19,7 +19,10 @@ use Rattle.vv_core.specs.Vectors.{within, Covers}
 use Rattle.vv_core.specs.Stamps.{is_any_within}
 use Rattle.vv_core.proofs.Covering.{Covers_trans}
 use Rattle.tx_core.specs.declared.tx.Record.{Record}
+use Rattle.tx_core.specs.declared.state.State.{State}
 use Rattle.tx_core.specs.States.{fold_of}
+use Rattle.dc_talk.specs.Clients.{same_vector}
+use Rattle.dc_talk.proofs.Vectors.{same_vector-true}
 use Rattle.op_log.specs.declared.chains.Cell.{Cell}
 use Rattle.op_log.specs.declared.logged.Logged.{Logged}
 use Rattle.op_log.specs.Logs as log
@@ -41,6 +44,18 @@ since_drop v w items n cells first =
   where
     none : (c : Cell) → In c (take n cells) → is_since v w items c ≡ false
     none c i = ap (λ b. log.is_inside_at w c.tx items && not b) (first c i) ∙ and-false (log.is_inside_at w c.tx items)
+
+-- nothing came since the same vector
+since_same : (v : List ℕ) (items : List Logged) (cells : List Cell) → filter (is_since v v items) cells ≡ []
+since_same v items cells = filter_none (is_since v v items) cells (λ c i. neither (log.is_inside_at v c.tx items))
+  where
+    neither : (b : Bool) → (b && not b) ≡ false
+    neither true = refl
+    neither false = refl
+
+-- so what is kept at a vector stays there
+pub same_served : (v w : List ℕ) (items : List Logged) (cells : List Cell) (state : State) → same_vector v w ≡ true → state ≡ fold_of state (ops_in (filter (is_since v w items) cells))
+same_served v w items cells state is = sym (ap (λ w. fold_of state (ops_in (filter (is_since v w items) cells))) (sym (same_vector-true v w is)) ∙ ap (λ l. fold_of state (ops_in l)) (since_same v items cells))
 
 -- what is within a vector is within a later one
 pub inside_later : (w v : List ℕ) (n : ℕ) (items : List Logged) → Covers w v → log.is_inside_at v n items ≡ true → log.is_inside_at w n items ≡ true
@@ -154,8 +169,8 @@ put_over (Err x) old mid new o s room is same q = inr (⊎_elim (λ was. inl (ap
 pub kept_found : (P : Served → Type 0) (found : Option Served) (s : Served) → found ≡ Some s → IfSome found P → P s
 kept_found P found s is all = subst (λ found. IfSome found P) is all
 
--- of what is kept of an object, where it is of two kinds, a third holds that follows
-pub kept_on : (P Q R : Served → Type 0) (found : Option Served) → ((s : Served) → P s → Q s → R s) → IfSome found P → IfSome found Q → IfSome found R
+-- of what is kept, where it is of two kinds, a third holds that follows
+pub kept_on : {X : Type 0} (P Q R : X → Type 0) (found : Option X) → ((s : X) → P s → Q s → R s) → IfSome found P → IfSome found Q → IfSome found R
 kept_on P Q R None on p q = tt
 kept_on P Q R (Some s) on p q = on s p q
 

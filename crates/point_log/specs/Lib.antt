@@ -3,3 +3,4 @@ pub mod LogSplits
 pub mod StandFor
 pub mod KeptLogs
 pub mod Served
+pub mod Mines

@@ -3,9 +3,11 @@
 #![tactic(auto)]
 
 mod laws;
+mod mines;
 mod served;
 mod standing;
 
 pub use laws::{law_split, law_split_steps, law_stand_for, law_stand_for_steps};
+pub use mines::{Mine, Mines, tell_mine};
 pub use served::{Served, ServedStates, serve};
 pub use standing::{keep, mine_at, prune, state_at};

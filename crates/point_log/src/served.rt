@@ -12,6 +12,7 @@ ghost use Rattle.point_log.specs.Served.{is_since, AreInside, IsServed, AreServe
 
 use crate::standing::state_at;
 use check_point::Point;
+use dc_talk::SharedState;
 use ids_core::{NoMemory, ObjectId};
 use op_log::{Cell, Log};
 use std::alloc::Global;
@@ -25,12 +26,12 @@ const FEW_CELLS: usize = 16;
 /// How many objects' states are kept at most. Where one more is to be, all are forgotten.
 const MOST_SERVED: usize = 1_024;
 
-/// The state of an object at a vector, and how many of the first operations of the object's chain are
-/// known to be of transactions with a stamp within the vector.
+/// The state of an object at a vector, which answers share, and how many of the first operations of the
+/// object's chain are known to be of transactions with a stamp within the vector.
 #[derive(Drop)]
 pub struct Served {
     pub at: Vector,
-    pub state: State,
+    pub state: SharedState,
     pub done: usize,
 }
 
@@ -38,8 +39,9 @@ pub struct Served {
 pub type ServedStates = BTreeMap<ObjectId, Served>;
 
 /// The state of an object at a vector that covers the point's. Where the object has many operations in the
-/// log the state is kept, and a later one is folded from there: time is then that of what came since, and
-/// of what of it an earlier vector had left out. No more than `MOST_SERVED` states are kept.
+/// log the state is kept. At the same vector it is handed out again, with no memory for the state. At a later
+/// vector a copy of it is folded on: time is then that of the copy, of what came since, and of what of it an
+/// earlier vector had left out. No more than `MOST_SERVED` states are kept.
 pub fn serve(
     alloc: Global,
     point: &Point,
@@ -47,7 +49,7 @@ pub fn serve(
     kept: &mut ServedStates,
     object: &ObjectId,
     at: &Vector,
-) -> Result<State, NoMemory>
+) -> Result<SharedState, NoMemory>
     requires wide { length at.now ≡ length point.now.vector }
     requires covers { Covers at.now point.now.vector }
     requires well { IsKeptLog log.now }
@@ -57,7 +59,7 @@ pub fn serve(
     ensures here { (w : List ℕ) → Covers w at.now → ((o : ObjectOf) → IfSome (served_of kept.old.entries o) (λ s. Covers w s.at)) → (o : ObjectOf) → IfSome (served_of kept.new.entries o) (λ s. Covers w s.at) }
 {
     if log.chain(object).len() < FEW_CELLS || is_ahead(kept, object, at) {
-        return state_at(alloc, point, log, object, at);
+        return SharedState::new(alloc, state_at(alloc, point, log, object, at)?);
     }
     let found = kept.remove(object);
     let served = served_on(alloc, point, log, found, object, at)?;
@@ -95,7 +97,7 @@ fn served_on(
     ensures at { IfOk result (λ s. s.at ≡ at.now) }
 {
     match found {
-        Some(served) => gone_on(served, log, log.chain(object), at),
+        Some(served) => gone_on(alloc, served, log, log.chain(object), at),
         None => served_first(alloc, point, log, object, at),
     }
 }
@@ -115,14 +117,20 @@ fn served_first(
 {
     Ok(Served {
         at: *at,
-        state: state_at(alloc, point, log, object, at)?,
+        state: SharedState::new(alloc, state_at(alloc, point, log, object, at)?)?,
         done: first_inside(log, log.chain(object), 0, at),
     })
 }
 
 // A state, and what came since folded: the operations of its object's chain whose transaction has a stamp
-// within the vector, and none within the one before.
-fn gone_on(served: Served, log: &Log, cells: &[Cell], at: &Vector) -> Result<Served, NoMemory>
+// within the vector, and none within the one before. At the same vector nothing did.
+fn gone_on(
+    alloc: Global,
+    served: Served,
+    log: &Log,
+    cells: &[Cell],
+    at: &Vector,
+) -> Result<Served, NoMemory>
     requires few { served.done ≤ length cells.now }
     requires first { AreInside at.now log.now.items (take served.done cells.now) }
     ensures state { IfOk result (λ s. s.state ≡ fold_of served.state (ops_in (filter (is_since served.at at.now log.now.items) (drop served.done cells.now)))) }
@@ -130,15 +138,19 @@ fn gone_on(served: Served, log: &Log, cells: &[Cell], at: &Vector) -> Result<Ser
     ensures few { IfOk result (λ s. s.done ≤ length cells.now) }
     ensures first { IfOk result (λ s. AreInside at.now log.now.items (take s.done cells.now)) }
 {
+    if served.at == *at {
+        return Ok(served);
+    }
     let Served {
         at: before,
-        mut state,
+        state,
         done,
     } = served;
-    fold_since(&mut state, log, &cells[done..], &before, at)?;
+    let mut later = state.as_state().copy()?;
+    fold_since(&mut later, log, &cells[done..], &before, at)?;
     Ok(Served {
         at: *at,
-        state,
+        state: SharedState::new(alloc, later)?,
         done: first_inside(log, cells, done, at),
     })
 }
@@ -165,7 +177,7 @@ fn fold_since(
 fn is_since(log: &Log, cell: &Cell, before: &Vector, at: &Vector) -> bool
     ensures { result ≡ is_since before.now at.now log.now.items cell.now }
 {
-    log.inside(cell.tx, at) && !log.inside(cell.tx, before)
+    log.since(cell.tx, before, at)
 }
 
 // How many of the first operations, of which so many are known to be, are of transactions with a stamp

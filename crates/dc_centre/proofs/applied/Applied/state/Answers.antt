@@ -16,4 +16,5 @@ invariant_of-self c = record {
     states = c.serve.ensures.served;
     here = c.serve.ensures.here c.self.inside.vector (subst (λ (x : AppliedView). Covers x.counts c.args.at.now) (sym c.self.view_is) c.requires.here) c.self.invariant.states.here;
   };
+  told = c.self.invariant.told;
 }
