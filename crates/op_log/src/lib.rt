@@ -8,6 +8,7 @@ mod dots;
 mod log;
 mod logged;
 mod parts;
+mod slot;
 mod slots;
 mod stamp_list;
 mod stamps;

@@ -78,7 +78,15 @@ impl Log {
         let x = Logged::of(number, item)?;
         name(&mut self.dots, &item.tx.dot, number)?;
         put_tx(&mut self.chains, number, &item.tx)?;
-        if keep_stamped(&mut self.slots, &mut self.places, x, &item.stamp).is_err() {
+        if keep_stamped(
+            self.alloc,
+            &mut self.slots,
+            &mut self.places,
+            x,
+            &item.stamp,
+        )
+        .is_err()
+        {
             take_last_tx(&mut self.chains, &item.tx);
             return Err(NoMemory);
         }
@@ -198,7 +206,7 @@ impl Log {
         name(&mut dots, &part.tx.dot, number)?;
         put_tx(&mut chains, number, &part.tx)?;
         note_all(&mut places, number, part.stamps.as_slice())?;
-        keep(&mut slots, Logged::of_part(number, part))?;
+        keep(alloc, &mut slots, Logged::of_part(number, part))?;
         Ok(Log {
             appended,
             slots,

@@ -8,21 +8,22 @@ ghost use Rattle.op_log.specs.Logs.{is_inside, is_inside_at, has_dot, stamped, w
 ghost use Rattle.op_log.specs.Tables.{Rises, IsKeyed, is_own_inside};
 
 use crate::logged::Logged;
+use crate::slot::Slot;
 use ids_core::{Dot, NoMemory};
 use std::alloc::Global;
 use std::collections::BTreeMap;
 use vv_core::{Stamp, Vector};
 
 /// The transactions in the log by their numbers.
-pub(crate) type Slots = BTreeMap<u64, Logged>;
+pub(crate) type Slots = BTreeMap<u64, Slot>;
 
 // Keeps a transaction, whose number is above all others. An `Err` leaves all as it was.
-pub(crate) fn keep(slots: &mut Slots, x: Logged) -> Result<(), NoMemory>
+pub(crate) fn keep(alloc: Global, slots: &mut Slots, x: Logged) -> Result<(), NoMemory>
     requires { All (λ e. e.0 < x.number) slots.old.entries }
     ensures ok { OnOk result (slots.new.entries ≡ slots.old.entries ++ (x.number, x) ∷ []) }
     ensures err { OnErr result (slots.new.entries ≡ slots.old.entries) }
 {
-    slots.insert(x.number, x)?;
+    slots.insert(x.number, Slot::new(alloc, x)?)?;
     Ok(())
 }
 
@@ -63,10 +64,10 @@ pub(crate) fn is_own_inside(slots: &Slots, number: u64, dot: &Dot, at: &Vector) 
 }
 
 // Whether a transaction has the dot and a stamp within the vector.
-fn has_inside(x: &Logged, dot: &Dot, at: &Vector) -> bool
+fn has_inside(x: &Slot, dot: &Dot, at: &Vector) -> bool
     ensures { result ≡ (same_dot x.now.tx.dot dot.now && is_inside at.now x.now) }
 {
-    x.tx.dot == *dot && x.is_inside(at)
+    x.has(dot) && x.is_inside(at)
 }
 
 // Whether the transaction of a number has the dot, which no other one has.
@@ -77,7 +78,7 @@ pub(crate) fn is_named(slots: &Slots, number: u64, dot: &Dot) -> bool
     ensures { result ≡ has_dot dot.now (values_of slots.now.entries) }
 {
     match slots.get(&number) {
-        Some(x) => x.tx.dot == *dot,
+        Some(x) => x.has(dot),
         None => false,
     }
 }
@@ -100,22 +101,7 @@ pub(crate) fn add_at(
     ensures keyed { IsKeyed slots.new.entries }
 {
     match slots.get_mut(&number) {
-        Some(x) => add_if(alloc, x, dot, stamp),
+        Some(x) => x.add_if(alloc, dot, stamp),
         None => Ok(false),
-    }
-}
-
-// Adds a stamp to a transaction, if it has the dot: whether it has. An `Err` leaves all as it was.
-fn add_if(alloc: Global, x: &mut Logged, dot: &Dot, stamp: &Stamp) -> Result<bool, NoMemory>
-    ensures found { IfOk result (λ found. found ≡ same_dot x.old.tx.dot dot.now) }
-    ensures ok { OnOk result (x.new ≡ stamped dot.now stamp.now x.old) }
-    ensures err { OnErr result (x.new ≡ x.old) }
-    ensures number { x.new.number ≡ x.old.number }
-{
-    if x.tx.dot == *dot {
-        x.add(alloc, stamp)?;
-        Ok(true)
-    } else {
-        Ok(false)
     }
 }

@@ -21,6 +21,7 @@ use vv_core::Stamp;
 // Keeps a transaction, whose number is above all others and has no stamp yet, with a stamp. An `Err` leaves
 // all as it was.
 pub(crate) fn keep_stamped(
+    alloc: Global,
     slots: &mut Slots,
     places: &mut Places,
     x: Logged,
@@ -35,7 +36,7 @@ pub(crate) fn keep_stamped(
 {
     let number = x.number;
     note(places, number, stamp)?;
-    if keep(slots, x).is_err() {
+    if keep(alloc, slots, x).is_err() {
         lift(places, number, stamp);
         return Err(NoMemory);
     }

@@ -61,7 +61,7 @@ fn sweep_number(chains: &mut Chains, slots: &Slots, number: u64, base: &Vector)
     ensures swept { (x : Logged) → In x (values_of slots.now.entries) → x.number ≡ number → (u : UpdateOf) → In u x.tx.updates → IsSwept base.now (values_of slots.now.entries) chains.new u.object }
 {
     if let Some(x) = slots.get(&number) {
-        sweep_updates(chains, slots, number, x.tx.updates.as_slice(), base);
+        sweep_updates(chains, slots, number, x.updates(), base);
     }
 }
 

@@ -59,8 +59,8 @@ fn take_one(slots: &mut Slots, dots: &mut Dots, places: &mut Places, number: u64
     ensures fewer { (p : PlaceOf) → has_place places.new.keys p ≡ true → has_place places.old.keys p ≡ true }
 {
     if let Some(x) = slots.remove(&number) {
-        forget(dots, &x.tx.dot);
-        lift_all(places, number, x.stamps.as_slice());
+        forget(dots, &x.dot());
+        lift_all(places, number, x.stamps());
     }
 }
 

@@ -73,7 +73,7 @@ fn copies_of(alloc: Global, slots: &Slots, numbers: &Numbers) -> Result<Vec<Tx>,
     let mut txs = Vec::new(alloc);
     for number in numbers {
         if let Some(x) = slots.get(number) {
-            txs.push(x.tx.copy()?)?;
+            txs.push(x.tx().copy()?)?;
         }
     }
     Ok(txs)

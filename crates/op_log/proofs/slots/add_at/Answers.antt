@@ -16,19 +16,19 @@ returns-in-Some-clause-found c =
 pub returns-in-Some-clause-ok : goal.returns-in-Some-clause-ok
 returns-in-Some-clause-ok c =
     let there = sym c.in-Some.ensures.value in
-    let t = c.get_mut.follows.holds c.add_if.new.x in
+    let t = c.get_mut.follows.holds c.add_if.new.self in
     on_ok_weaker c.add_if.result (λ e. ap values_of (t.0 ∙ ap (set_value (is_at (nat_cmp c.args.number)) c.args.slots.now.entries) e) ∙ stamped_some c.args.dot.now c.args.stamp.now c.args.number _ _ c.requires.keyed c.requires.rises c.requires.one there) c.add_if.ensures.ok
 
 pub returns-in-Some-clause-err : goal.returns-in-Some-clause-err
 returns-in-Some-clause-err c =
     let there = sym c.in-Some.ensures.value in
-    let t = c.get_mut.follows.holds c.add_if.new.x in
+    let t = c.get_mut.follows.holds c.add_if.new.self in
     on_err_weaker c.add_if.result (λ e. t.0 ∙ ap (set_value (is_at (nat_cmp c.args.number)) c.args.slots.now.entries) e ∙ set_value_same _ _ _ there) c.add_if.ensures.err
 
 pub returns-in-Some-clause-keyed : goal.returns-in-Some-clause-keyed
 returns-in-Some-clause-keyed c =
     let there = sym c.in-Some.ensures.value in
-    let t = c.get_mut.follows.holds c.add_if.new.x in
+    let t = c.get_mut.follows.holds c.add_if.new.self in
     let number = (found_at c.args.number c.args.slots.now.entries _ c.requires.keyed there).1 in
     subst IsKeyed (sym t.0) (keyed_set c.args.number _ _ c.requires.keyed (c.add_if.ensures.number ∙ number))
 
