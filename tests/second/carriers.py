@@ -4,9 +4,14 @@ Each step and each round is a generator: it yields a centre and an ask, and gets
 """
 from collections import deque
 
+import objects
+from script import on_tap
+from words import vector_text
+
 MOST_SENT = 1024
 MOST_MAILED = 64
 ROUNDS_BETWEEN_PRUNES = 8
+MISSED = {"down": "down", "pruned": "pruned", "lacks": "refused", "misfit": "refused"}  # how a feed ends by an answer
 
 
 def others(n, centre):
@@ -70,9 +75,14 @@ def inform(source, to):
     return None, say[1]
 
 
+def opening(script, centre):
+    """What the tap of a centre shows before any feed: a vector, and the state of each object."""
+    return (0,) * script.n, {thing: objects.empty(thing) for thing in on_tap(script, centre)}
+
+
 class Operator:
-    def __init__(self, script, tell, set_link):
-        self.n, self.tell, self.set_link = script.n, tell, set_link
+    def __init__(self, script, tell, set_link, shows):
+        self.script, self.n, self.tell, self.set_link, self.shows = script, script.n, tell, set_link, shows
 
     def say(self, text):
         self.tell(0, text)
@@ -111,9 +121,23 @@ class Operator:
     def do_prune(self, centre):
         say = yield centre, ("prune",)
         if say[0] == "base":
-            self.say(f"{centre} base {','.join(map(str, say[1]))} folded {say[2]} trimmed {say[3]}")
+            self.say(f"{centre} base {vector_text(say[1])} folded {say[2]} trimmed {say[3]}")
         else:
             self.say(f"{centre} base down")
+
+    def do_feed(self, centre):
+        say = yield centre, ("prune",)
+        if say[0] == "base":
+            vector, states = say[1], {}
+            for thing in on_tap(self.script, centre):
+                say = yield centre, ("fetch", thing, vector)
+                if say[0] != "object":
+                    break
+                states[thing] = say[1]
+            else:
+                self.shows[centre] = (vector, states)
+                return self.say(f"{centre} fed {vector_text(vector)}")
+        self.say(f"{centre} feed {MISSED[say[0]]}")
 
     def do_settle(self):
         news = True

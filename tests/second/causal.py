@@ -1,4 +1,4 @@
-"""Looks at each read by itself: is it causal, and is its value that of what it stands on?
+"""Looks at each read by itself: is it causal, and is its value that of what it stands on? And is that of a tap one of its centre?
 
 What a read stands on is taken of the `basis` line, its value of the line of the read. The rest is counted anew from what
 happened: the entries of the trails, and the events of each client. No state that the model of a centre or of a session keeps is
@@ -8,8 +8,8 @@ before it in its own transaction.
 import re
 
 from objects import cells_of
-from script import holders_of
-from words import value_text
+from script import holders_of, on_tap
+from words import value_text, vector_text
 
 
 class Fault(Exception):
@@ -28,6 +28,7 @@ class Graph:
         for centre in range(1, self.n + 1):
             for caller, ask, say, moment in self.trails[centre]:
                 self.note(centre, ask, say, moment)
+        self.fed = [shows_in(self.n, self.trails[centre], on_tap(world.script, centre)) if centre else None for centre in range(self.n + 1)]
         self.nodes = {}
         self.deps = {}
         for client in world.clients[1:]:
@@ -109,6 +110,23 @@ class Graph:
     def holders(self, dot, moment):
         """How many centres had the dot by then."""
         return sum(1 for had in self.had[1:] if had.get(dot, moment + 1) <= moment)
+
+
+def shows_in(n, trail, things):
+    """The vectors that a tap of these objects shows, each with how many entries of its centre's trail stand before it.
+
+    The operator fetches for taps alone, so a prune of its own with all fetches at the base behind it was a feed."""
+    shows, base, left = [(0, (0,) * n)], None, []
+    for place, (caller, ask, say, _) in enumerate(trail, 1):
+        if caller != 1:
+            continue
+        if ask[0] == "prune":
+            base, left = (say[1] if say[0] == "base" else None), list(things)
+        elif ask[0] == "fetch" and say[0] == "object" and left[:1] == [ask[1]] and ask[2] == base:
+            left.pop(0)
+            if not left:
+                shows.append((place, base))
+    return shows
 
 
 # ---- values, by which update sees which
@@ -197,6 +215,8 @@ class Session:
                 self.hear(event)
             elif event[0] == "rights":
                 self.count(event)
+            elif event[0] == "look":
+                self.look_through(event)
             else:
                 self.reads += 1
                 self.read(event)
@@ -236,6 +256,17 @@ class Session:
         got = self.lines[line] if line < len(self.lines) else "nothing"
         if rights < 0 or rights != number or not got.endswith(f" {rights}"):
             raise Fault(("line", self.client, line), f"'{got}', but over its basis the client has {rights}")
+
+    def look_through(self, event):
+        """Looks at a line of a tap: it has the last show of its centre by then, and the value over what the show's vector covers."""
+        _, centre, thing, place, line = event
+        vector = [show for before, show in self.graph.fed[centre] if before <= place][-1]
+        acts = [act for dot in sorted(self.graph.cover(vector)) for act in self.acts(thing, dot)]
+        value = value_text(thing[0], value_of(thing[0], acts))
+        want = f"c{self.client} tap {centre} {thing} at {vector_text(vector)} {value}"
+        got = self.lines[line] if line < len(self.lines) else "nothing"
+        if got != want:
+            raise Fault(("line", self.client, line), f"'{got}', but the tap shows '{want}'")
 
     def acts(self, thing, dot):
         tx = self.graph.nodes[dot]

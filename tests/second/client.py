@@ -26,7 +26,7 @@ def end_text(say):
 
 
 class Client:
-    def __init__(self, number, script, tell, places):
+    def __init__(self, number, script, tell, places, shows):
         self.number, self.capacity, self.holders = number, script.cache, holders_of(script)
         self.vector = (0,) * script.n
         self.own = self.mine = self.clock = 0
@@ -34,7 +34,7 @@ class Client:
         self.link = None  # the centre, and the commits that it is known to have
         self.armed = None
         self.sent = {}  # the commits that were sent, by number
-        self.tell, self.places = tell, places
+        self.tell, self.places, self.shows = tell, places, shows
         self.events = []
         self.moves = 0
 
@@ -219,6 +219,13 @@ class Client:
             value = value_text(thing[0], objects.value_of(thing, seen[0]))
             line = self.tell(self.number, f"c{self.number} read {thing} {value}")
             self.events.append(("read", thing, self.own, self.vector, self.clock, tuple(self.draft or ()), line))
+
+    def do_tap(self, word, centre, thing):
+        vector, states = self.shows[centre]
+        value = value_text(thing[0], objects.value_of(thing, states[thing]))
+        line = self.tell(self.number, f"c{self.number} tap {centre} {thing} at {vector_text(vector)} {value}")
+        self.events.append(("look", centre, thing, len(self.places[centre]), line))
+        yield from ()
 
     def do_change(self, word, thing, *said):
         if self.draft is None:

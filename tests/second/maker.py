@@ -1,7 +1,7 @@
 """Makes scripts that look random, the same for each seed.
 
 There are two to five centres and one to four clients, lines before, between and behind two phases, links with faults, and a
-`settle` with reads and rights at the end. Where there are three centres and more, one is lost for good behind the phases, and its
+`settle` with reads and rights at the end, and feeds of taps and looks outside of phases. Where there are three centres and more, one is lost for good behind the phases, and its
 records go on past it.
 """
 import random
@@ -14,10 +14,12 @@ KEYS = ["k", "l"]
 class Maker:
     def __init__(self, seed):
         self.pick = random.Random(seed)
+        self.taps_pick = random.Random(-1 - seed)
         self.n = 2 + seed % 4
         self.m = self.pick.randint(1, 4)
         self.lines = []
         self.commits = [0] * (self.m + 1)  # about how many commits each client has made
+        self.tapped = []  # the objects on taps, each with its centre
 
     def chance(self, sides):
         return self.pick.randrange(sides) == 0
@@ -210,6 +212,28 @@ class Maker:
         for client in range(1, self.m + 1):
             self.add(f"c{client} connect {self.pick.choice(chain[:2])}")
 
+    # ---- taps
+
+    def taps(self):
+        """The header's lines of taps, of which two scripts of three have some."""
+        if self.taps_pick.randrange(3) == 0:
+            return
+        for place in range(self.taps_pick.randint(1, 6)):
+            one = (self.taps_pick.randint(1, self.n), "c.a" if place == 0 else self.taps_pick.choice(OBJECTS))
+            if one not in self.tapped:
+                self.tapped.append(one)
+                self.add(f"tap {one[0]} {one[1]}")
+
+    def feed_and_look(self):
+        """Some feeds and looks, in which a centre may be stopped or was pruned before."""
+        for _ in range(self.taps_pick.randint(0, 4) if self.tapped else 0):
+            centre, thing = self.taps_pick.choice(self.tapped)
+            look = f"c{self.taps_pick.randint(1, self.m)} tap {centre} {thing}"
+            self.add(*self.taps_pick.choice([
+                [look], [f"feed {centre}"], [f"feed {centre}", look], [f"feed {centre}", f"feed {centre}", look],
+                [f"down {centre}", f"feed {centre}", f"up {centre}", look],
+            ]))
+
     # ---- the whole
 
     def block(self):
@@ -230,6 +254,7 @@ class Maker:
         self.add(f"centres {self.n} k {min(self.centre(), self.centre())}", f"clients {self.m}")
         self.add(f"cache {self.pick.randint(1, 3)}", f"threads {self.pick.randint(1, 4)}")
         self.add(f"rounds {self.pick.choice([0, 1, 1, 2, 2, 3, 4, 8, 9, 16])}")
+        self.taps()
         if self.chance(6):
             self.add("limit 3")
         for client in range(1, self.m + 1):
@@ -252,9 +277,11 @@ class Maker:
 
     def ending(self):
         self.add("settle")
+        self.add(*(f"feed {centre}" for centre in dict.fromkeys(centre for centre, _ in self.tapped) for _ in range(2)))
         for client in range(1, self.m + 1):
             self.add(f"c{client} abort", f"c{client} refresh", *(f"c{client} read {thing}" for thing in OBJECTS))
             self.add(f"c{client} rights b.a", f"c{client} rights b.b")
+            self.add(*(f"c{client} tap {centre} {thing}" for centre, thing in self.tapped))
 
     def script(self):
         self.head()
@@ -263,8 +290,10 @@ class Maker:
         for _ in range(2):
             for _ in range(self.pick.randint(1, 4)):
                 self.block()
+                self.feed_and_look()
             self.links()
             self.phase()
+            self.feed_and_look()
             if self.chance(4):
                 self.let_go()
         if self.n > 2:

@@ -1,7 +1,7 @@
 """Plays a script by the rules, on one thread, and keeps the book: what is printed, the trails, and the events of clients."""
 from centre import Centre
 from client import Client
-from carriers import Link, Operator, MOST_MAILED, others, sender_round, reporter_round, pruner_round
+from carriers import Link, Operator, MOST_MAILED, opening, others, sender_round, reporter_round, pruner_round
 from words import ask_text, say_text, basis_text
 
 SENDER, RECEIVER, REPORTER, PRUNER = 1, 2, 3, 4
@@ -14,8 +14,9 @@ class World:
         self.script = script
         self.centres = [None] + [Centre(me, script) for me in range(1, script.n + 1)]
         self.trails = [None] + [[] for _ in range(script.n)]  # each entry: the caller, the ask, the answer, and the moment
-        self.clients = [None] + [Client(number, script, self.tell, self.trails) for number in range(1, script.clients + 1)]
-        self.operator = Operator(script, self.tell, self.set_link)
+        self.shows = {centre: opening(script, centre) for centre in range(1, script.n + 1)}  # what each tap shows
+        self.clients = [None] + [Client(number, script, self.tell, self.trails, self.shows) for number in range(1, script.clients + 1)]
+        self.operator = Operator(script, self.tell, self.set_link, self.shows)
         self.links = {(one, two): Link() for one in range(1, script.n + 1) for two in others(script.n, one)}
         self.lines = []
         self.fresh = {}  # the lines of this section, by client, the operator's under 0

@@ -8,12 +8,13 @@ import re
 from collections import namedtuple
 
 Section = namedtuple("Section", "phase steps")
-Script = namedtuple("Script", "n k clients cache limit threads rounds sections")
+Script = namedtuple("Script", "n k clients cache limit threads rounds taps sections")
 
 NAME = r"[a-z0-9_]{1,32}"
 NUMBER = r"(?:0|[1-9][0-9]{0,18})"
 BOUNDED = r"b\.[a-z0-9_]{1,25}"
 MOST_HOLDERS = 8
+MOST_TAPPED = 8
 SETTINGS = {"cache": (1, 100000, 1024), "limit": (1, 1000000, 1000000), "threads": (1, 16, 4), "rounds": (0, 1000, 32)}
 CLIENT_FORMS = [
     (rf"connect ({NUMBER})", "connect"), (r"begin", "begin"), (rf"inc (c\.{NAME}) (-?{NUMBER})", "inc"),
@@ -23,9 +24,10 @@ CLIENT_FORMS = [
     (rf"(grant|take) ({BOUNDED}) ({NUMBER})", None), (rf"give ({BOUNDED}) ({NUMBER}) ({NUMBER})", "give"),
     (rf"rights ({BOUNDED})", "rights"),
     (rf"again ({NUMBER}) ({NUMBER})", "again"), (r"lose (ask|reply)", "lose"),
+    (rf"tap ({NUMBER}) ([crsm]\.{NAME})", "tap"),
 ]
 OPERATOR_FORMS = [
-    (rf"(down|up|prune) ({NUMBER})", None), (rf"ship ({NUMBER}) ({NUMBER}) ({NUMBER})", "ship"),
+    (rf"(down|up|prune|feed) ({NUMBER})", None), (rf"ship ({NUMBER}) ({NUMBER}) ({NUMBER})", "ship"),
     (rf"(ship|tell) ({NUMBER}) ({NUMBER})", None), (rf"relay ({NUMBER}) ({NUMBER}) ({NUMBER})", "relay"), (r"(settle)", None),
     (rf"link ({NUMBER}) ({NUMBER}) (clean)", "link"), (rf"link ({NUMBER}) ({NUMBER}) (drop|twice|hold|cut|bend) ({NUMBER})", "link"),
 ]
@@ -34,7 +36,10 @@ COMPILED = {who: [(re.compile(form), word) for form, word in forms] for who, for
 # The last number of a step that has one beside its centres: how many centres stand before it, and its greatest value.
 COUNTED = {"ship": (2, 1000000), "link": (3, 1000000), "again": (1, 4611686018427387904)}
 RIGHTS = ("grant", "give", "take", "rights")
-CENTRES = {"connect": 1, "again": 1, "down": 1, "up": 1, "prune": 1, "ship": 2, "tell": 2, "link": 2, "relay": 3}
+CENTRES = {
+    "connect": 1, "again": 1, "tap": 1, "down": 1, "up": 1, "prune": 1, "feed": 1, "ship": 2, "tell": 2, "link": 2, "relay": 3,
+}
+OUTSIDE = ("settle", "link", "feed", "tap")  # the words of the steps that stand in no phase
 
 
 class NoScript(Exception):
@@ -90,6 +95,8 @@ def checked(step, script, number):
         if said[1] == "-0" or abs(int(said[1])) > 10**12 or said[0].startswith("c.bc_"):
             refuse(number)
         said[1] = int(said[1])
+    if word == "feed" and not on_tap(script, said[0]) or word == "tap" and said[1] not in on_tap(script, said[0]):
+        refuse(number)
     if word in RIGHTS:
         said[1:] = amounts_in(step[0], said[1:], script, number)
     return (step[0], word, *said)
@@ -105,6 +112,20 @@ def amounts_in(client, said, script, number):
     return said
 
 
+def on_tap(script, centre):
+    """The objects that the tap of a centre shows, in their order."""
+    return [thing for of, thing in script.taps if of == centre]
+
+
+def tapped(words, n, taps, number):
+    """The centre and the object of a line of the header, which are not among those before it."""
+    found = re.fullmatch(rf"tap ({NUMBER}) ([crsm]\.{NAME})", words)
+    one = (int(found[1]), found[2]) if found else None
+    if one is None or not 1 <= one[0] <= n or one in taps or len(taps) == MOST_TAPPED:
+        refuse(number)
+    return one
+
+
 def header_of(lines):
     """The settings, and the place of the first line behind them."""
     heads = [re.fullmatch(rf"centres ({NUMBER}) k ({NUMBER})", lines[0][1]) if lines else None]
@@ -114,16 +135,19 @@ def header_of(lines):
     n, k, clients = int(heads[0][1]), int(heads[0][2]), int(heads[1][1])
     if not (1 <= n <= 8 and 1 <= k <= n and 1 <= clients <= 1024):
         refuse(1)
-    said, place = {}, 2
-    while place < len(lines) and lines[place][1].split()[0] in SETTINGS:
+    said, taps, place = {}, [], 2
+    while place < len(lines) and lines[place][1].split()[0] in (*SETTINGS, "tap"):
         number, words = lines[place]
+        place += 1
+        if words.split()[0] == "tap":
+            taps.append(tapped(words, n, taps, number))
+            continue
         found = re.fullmatch(rf"(\w+) ({NUMBER})", words)
         if not found or found[1] in said or not SETTINGS[found[1]][0] <= int(found[2]) <= SETTINGS[found[1]][1]:
             refuse(number)
         said[found[1]] = int(found[2])
-        place += 1
     settings = {word: said.get(word, SETTINGS[word][2]) for word in SETTINGS}
-    return Script(n, k, clients, sections=[], **settings), place
+    return Script(n, k, clients, taps=taps, sections=[], **settings), place
 
 
 def read(text):
@@ -141,7 +165,7 @@ def read(text):
             step = step_of(words, script, number)
             if phase is None:
                 script.sections.append(Section(False, [step]))
-            elif step[1] in ("settle", "link"):
+            elif step[1] in OUTSIDE:
                 refuse(number)
             else:
                 phase.append(step)

@@ -161,6 +161,14 @@ add_changed("a printed base with another number trimmed", r"(\d+ base [\d,]+ fol
             lambda pick, line: line[1] + more(line[2]))
 add_changed("a printed shipment applied for alias, or alias for applied", r"(\d+ from \d+ (?:of \d+ )?)(applied|alias)( \d+)",
             lambda pick, line: line[1] + ("alias" if line[2] == "applied" else "applied") + line[3])
+add_changed("a look with another vector", r"(c\d+ tap \d+ \S+ at )([\d,]+)( .*)",
+            lambda pick, line: line[1] + other_vector(pick, line[2]) + line[3])
+add_changed("a look with another number", r"(c\d+ tap \d+ c\.\w+ at [\d,]+ )(-?\d+)", lambda pick, line: line[1] + more(line[2]))
+add_changed("a look with another word", r"(c\d+ tap \d+ r\.\w+ at [\d,]+ )([xyz-])",
+            lambda pick, line: line[1] + another(pick, line[2], "xyz-"))
+add_changed("a look through the tap of another centre", r"(c\d+ tap )(\d+)( .*)", lambda pick, line: line[1] + more(line[2]) + line[3])
+add_changed("a feed with another vector", r"(\d+ fed )([\d,]+)", lambda pick, line: line[1] + other_vector(pick, line[2]))
+add_changed("a feed that found a show told as down", r"(\d+) fed [\d,]+", lambda pick, line: f"{line[1]} feed down")
 add_changed("another number in a refused delivery", r"(\d+ from \d+ .*(?:old|gap|waits .* has|trimmed) )(\d+)",
             lambda pick, line: line[1] + more(line[2]))
 
@@ -194,6 +202,39 @@ def lines_exchanged(pick, lines, script):
     found = printed(lines)
     place = one_of(pick, found[1:])
     return None if place is None else exchanged(lines, place - 1, place)
+
+
+@kind("a look at an older show")
+def older_show(pick, lines, script):
+    """What an earlier look of any client saw of the same object through the same tap, with another vector."""
+    found = places(lines, r"c\d+ tap \d+ \S+ at .*")
+    words = {place: lines[place].split(" ", 5) for place in found}
+    pairs = [(one, other) for one in found for other in found if other < one and words[one][2:4] == words[other][2:4] and words[one][5] != words[other][5]]
+    pair = one_of(pick, pairs)
+    if not pair:
+        return None
+    line = " ".join(words[pair[0]][:5] + words[pair[1]][5:])
+    return lines[:pair[0]] + [line] + lines[pair[0] + 1:]
+
+
+@kind("a look at the opening")
+def look_at_opening(pick, lines, script):
+    found = [place for place in places(lines, r"c\d+ tap \d+ c\.\w+ at .*") if not re.search(r" at [0,]+ 0$", lines[place])]
+    place = one_of(pick, found)
+    if place is None:
+        return None
+    line = " ".join(lines[place].split()[:5] + [",".join(["0"] * script.n), "0"])
+    return lines[:place] + [line] + lines[place + 1:]
+
+
+@kind("a fetch of a feed told as one of another object's")
+def feed_fetches_other(pick, lines, script):
+    """The entries of two fetches of one feed exchanged."""
+    pairs = [(place, place + 1) for place, centre, caller, words in entries(lines)[:-1]
+             if caller == 1 and words.startswith("fetch ") and re.fullmatch(rf"trail {centre} \d+ by 1 fetch .*", lines[place + 1])
+             and lines[place + 1].split(" ", 4)[4] != lines[place].split(" ", 4)[4]]
+    pair = one_of(pick, pairs)
+    return exchanged(lines, *pair) if pair else None
 
 
 # ---- bases

@@ -44,8 +44,8 @@ advise_end() {
     said "$text"
 }
 
-steps='connect, begin, inc, set, add, del, put, drop, read, grant, give, take, rights, commit, abort, push, flush, refresh, again, lose or twice'
-beginnings='centres, clients, cache, limit, threads, rounds, down, up, ship, relay, tell, prune, link, settle, phase or end'
+steps='connect, begin, inc, set, add, del, put, drop, read, grant, give, take, rights, commit, abort, push, flush, refresh, again, lose, twice or tap'
+beginnings='centres, clients, cache, limit, threads, rounds, tap, down, up, ship, relay, tell, prune, feed, link, settle, phase or end'
 faults="'link CENTRE OTHER drop NUMBER', 'link CENTRE OTHER twice NUMBER', 'link CENTRE OTHER hold NUMBER', 'link CENTRE OTHER cut NUMBER', 'link CENTRE OTHER bend NUMBER' or 'link CENTRE OTHER clean'"
 a_name='1 to 32 bytes out of a to z, 0 to 9 and _'
 
@@ -126,6 +126,22 @@ check_advice_on_bounded_counters() {
         'centres 1 k 1' 'clients 1' 'c1 give b.x 1 1'
 }
 
+check_advice_on_taps() {
+    advise_two "too few words; expected 'tap CENTRE OBJECT'" 'tap 1'
+    advise_two "too few words; expected 'cN tap CENTRE OBJECT'" 'c1 tap 1'
+    advise_two "no step begins with 'feed'; write it without the client" 'c1 feed 1'
+    advise_two "centre 2 has no tap; it has one by a line 'tap 2 OBJECT' before all steps" 'tap 1 c.a' 'feed 2'
+    advise_two "no tap of centre 1 shows c.b; one does by a line 'tap 1 c.b' before all steps" 'tap 1 c.a' 'c1 tap 1 c.b'
+    advise_two "no tap of centre 2 shows c.a; one does by a line 'tap 2 c.a' before all steps" 'tap 1 c.a' 'phase' 'c1 tap 2 c.a'
+    advise "a tap may not stand before the header is complete; expected 'clients NUMBER'" 'tap 1 c.a' 'centres 1 k 1' 'tap 1 c.a'
+    advise_two "the tap of centre 1 shows c.a already; a script says so once" 'tap 1 c.a' 'tap 2 c.a' 'tap 1 c.a'
+    advise_two "a script has at most 8 lines 'tap', and this is one more" \
+        'tap 1 c.a' 'tap 1 r.a' 'tap 1 s.a' 'tap 1 m.a' 'tap 2 c.a' 'tap 2 r.a' 'tap 2 s.a' 'tap 2 m.a' 'tap 1 c.b'
+    advise_two "'tap' comes too late; taps stand before all steps and phases" 'c1 begin' 'tap 1 c.a'
+    advise_two "'tap' may not stand in a phase; expected 'end' for the 'phase' of line 4 first" 'tap 1 c.a' 'phase' 'c1 tap 1 c.a'
+    advise_two "'feed' may not stand in a phase; expected 'end' for the 'phase' of line 4 first" 'tap 1 c.a' 'phase' 'feed 1'
+}
+
 check_advice_on_places() {
     advise "a step may not stand before the header is complete; expected 'clients NUMBER'" 'c1 begin' \
         'centres 1 k 1' '' 'c1 begin'
@@ -179,6 +195,7 @@ check_advice() {
     check_advice_on_numbers
     check_advice_on_names
     check_advice_on_bounded_counters
+    check_advice_on_taps
     check_advice_on_places
     check_advice_on_bytes
 }

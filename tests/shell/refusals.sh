@@ -56,6 +56,14 @@ name|c1 take B.x 0
 name|c1 rights b.abcdefghijklmnopqrstuvwxyz
 name|c1 inc c.bc_x_1_1 1
 kind|c1 inc r.bc_x 1
+count|tap 1
+range|tap 2 c.a
+name|tap 1 b.a
+count|feed
+range|feed 1
+range|c1 tap 1 c.a
+name|c1 tap 1 a
+count|c1 tap 1
 END
 }
 

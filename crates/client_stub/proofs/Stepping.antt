@@ -1,6 +1,7 @@
 -- What each step leaves is what is defined for it.
 use Rattle.std.proofs.Common.{◌≡◌, ℕ, Bool, true, false, List, [], ◌∷◌, ◌++◌, Option, Some, None, Ok, Err, refl, sym, ap, ◌∙◌, subst}
 use Rattle.std.proofs.lemmas.List.{append-nil}
+use Rattle.ids_core.specs.declared.object.ObjectId.{ObjectId}
 use Rattle.dc_talk.specs.declared.ask.Ask.{Ask}
 use Rattle.dc_talk.specs.declared.ask.Ask.TheVariants.{Commit as CommitAsk}
 use Rattle.dc_talk.specs.declared.say.Say.{Say}
@@ -21,7 +22,7 @@ use Rattle.script_core.specs.declared.object_call.ObjectCall.{ObjectCall}
 use Rattle.script_core.specs.declared.steps.AskFault.{AskFault}
 use Rattle.script_core.specs.declared.steps.AskFault.TheVariants.{LoseAsk, LoseReply, Twice}
 use Rattle.script_core.specs.declared.steps.ClientStep.{ClientStep}
-use Rattle.script_core.specs.declared.steps.ClientStep.TheVariants.{Arm, Connect, Push, Refresh}
+use Rattle.script_core.specs.declared.steps.ClientStep.TheVariants.{Arm, Connect, Push, Refresh, Look}
 use Rattle.script_core.specs.Deeds.{Asks, OrTells, OverNext, Pushes, FetchDeeds, RefreshDeeds, StepDeeds, after_all, after_fetch, armed_after, calls_on, copies, fate_of, told, took}
 use Rattle.client_stub.specs.declared.purpose.Purpose.{Purpose}
 use Rattle.client_stub.specs.declared.purpose.Purpose.TheVariants as purpose
@@ -149,6 +150,12 @@ arm_takes step p s fault is same =
       grows = record { log = grows.log; client = same; door = grows.door; allowed = grows.allowed; behind = grows.behind };
       armed = refl;
     })
+
+-- ---- looks
+
+-- a look that sees nothing leaves all as it is
+pub look_takes : (step : ClientStep) (p : Playing) (centre : ℕ) (object : ObjectId) → step ≡ Look centre object → Takes step p p
+look_takes step p centre object is = subst (λ step. Takes step p p) (sym is) (record { deeds = []; such = (None, refl); grows = grows_none p; armed = refl })
 
 -- ---- fetches
 

@@ -16,8 +16,10 @@ use ids_core::NoMemory;
 use script_core::OperatorStep;
 
 /// Takes a step of the operator of `n` centres through a door to them, which it leaves at its place: its asks of
-/// the centres, and then its line, where it has one. A link's fault it leaves to the caller, who has the links. The notes are of the section and step that the log is at. An
-/// `Err` is want of memory: it may leave a part of the step in the log and at the centres.
+/// the centres, and then its line, where it has one. A link's fault it leaves to the caller, who has the links, and so it
+/// does with the feed of a tap, for which it does nothing: the caller, who has the taps, plays it. The notes are of the
+/// section and step that the log is at. An `Err` is want of memory: it may leave a part of the step in the log and at the
+/// centres.
 pub fn operate<D: Door>(
     door: &mut D,
     n: u8,
@@ -39,6 +41,7 @@ pub fn operate<D: Door>(
         OperatorStep::Tell { from, to } => order_tell(door, *from, *to, log),
         OperatorStep::Prune { centre } => order_prune(door, *centre, log),
         OperatorStep::Link { .. } => Ok(()),
+        OperatorStep::Feed { .. } => Ok(()),
         OperatorStep::Settle => {
             settle(door, n, log)?;
             Ok(())

@@ -48,9 +48,10 @@ impl Stub {
         &self.session
     }
 
-    /// Takes a step of the client through a door to the centres, which it leaves at its place. The notes
-    /// are of the section and step that the log is at. An `Err` is want of memory: it may leave a part of
-    /// the step in the session, in the log and at the centres, and the armed fault as it was or used.
+    /// Takes a step of the client through a door to the centres, which it leaves at its place. For a look through a
+    /// tap it does nothing: the caller, who has the taps, plays it. The notes are of the section and step that the log
+    /// is at. An `Err` is want of memory: it may leave a part of the step in the session, in the log and at the centres,
+    /// and the armed fault as it was or used.
     pub fn step<D: Door>(
         &mut self,
         alloc: Global,
@@ -88,6 +89,7 @@ impl Stub {
                 self.armed = Some(*fault);
                 Ok(())
             }
+            ClientStep::Look { .. } => Ok(()),
         }
     }
 }

@@ -16,6 +16,7 @@ mod log;
 mod noted;
 mod replies;
 mod say;
+mod seen;
 mod sent;
 mod settings;
 
@@ -32,5 +33,6 @@ pub use log::{Deed, Fate, Log, Note};
 pub use noted::{Ended, NotedOutcome};
 pub use replies::belongs;
 pub use say::{Records, Say};
+pub use seen::{Fed, NotedSeen, Seen};
 pub use sent::{Sent, SharedRecord, SharedState, SharedTx};
 pub use settings::Settings;

@@ -1,4 +1,5 @@
 // The lines that the steps of a script write.
+use crate::seen::{Fed, NotedSeen};
 use ids_core::ObjectId;
 use tx_core::Value;
 use vv_core::{Lack, Stamp, Vector};
@@ -301,5 +302,17 @@ pub enum Line {
     /// The centre was not pruned: it is stopped.
     BaseDown {
         centre: u8,
+    },
+    /// The tap of the centre was fed, and that ended so.
+    Feed {
+        centre: u8,
+        fed: Fed,
+    },
+    /// The client looked at an object through the tap of the centre, and saw this there.
+    Look {
+        client: u32,
+        centre: u8,
+        object: ObjectId,
+        seen: NotedSeen,
     },
 }

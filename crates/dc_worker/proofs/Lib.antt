@@ -2,6 +2,7 @@ pub mod Work
 pub mod Delivering
 pub mod Sending
 pub mod Telling
+pub mod Feeding
 pub mod Turns
 pub mod Items
 pub mod ItemBytes

@@ -7,13 +7,14 @@ use Rattle.dc_talk.specs.declared.say.Say.{Say}
 use Rattle.dc_talk.specs.declared.links.FrameFault.{FrameFault}
 use Rattle.dc_talk.specs.declared.log.Fate.TheVariants.{Unheard}
 use Rattle.dc_talk.specs.declared.log.Deed.{Deed}
-use Rattle.dc_talk.specs.declared.log.Deed.TheVariants.{Asked, Spoilt}
+use Rattle.dc_talk.specs.declared.log.Deed.TheVariants.{Asked, Told, Spoilt}
+use Rattle.dc_talk.specs.declared.line.Line.{Line}
 use Rattle.dc_talk.specs.Entries.{Entry}
 use Rattle.dc_talk.specs.Logs.{Logged, noted, entry_for, entries_made}
 use Rattle.dc_talk.specs.Doors.{DoorView, IsBehind, HasAsked}
 use Rattle.dc_talk.specs.Acting.{Acting, acting, IsCutShort}
 use Rattle.dc_talk.proofs.Doors.{made_other, made_then}
-use Rattle.dc_talk.proofs.Acting.{behind_later, leaves_none, leaves_ask, leaves_quiet, leaves_then, cut_after}
+use Rattle.dc_talk.proofs.Acting.{behind_later, leaves_none, leaves_ask, leaves_quiet, leaves_then, cut_after, cut_behind}
 use Rattle.script_core.specs.Orders.{Orders}
 use Rattle.dc_worker.specs.Work.{Adds, AddsSuch}
 
@@ -43,6 +44,13 @@ adds_spoilt door log later from item why is = record {
   short = λ i some. absurd (some refl);
 }
 
+-- a line
+pub adds_told : (door : DoorView) (log later : Logged) (line : Line) → later ≡ noted log (Told line) → Adds (acting door log) (acting door later) (Told line ∷ [])
+adds_told door log later line is = record {
+  leaves = leaves_quiet (acting door log) (acting door later) (Told line) (λ i. refl) tt refl is;
+  short = λ i some. absurd (some refl);
+}
+
 -- deeds after deeds
 pub adds_then : (a b c : Acting) (ds es : List Deed) → Adds a b ds → Adds b c es → Adds a c (ds ++ es)
 adds_then a b c ds es first later = record {
@@ -65,6 +73,10 @@ adds_behind a b ds i adds is = behind_later a.door b.door i adds.leaves.door.sam
 -- an early end behind deeds
 pub cut_then : (a b c : Acting) (ds : List Deed) → Adds a b ds → IsCutShort b c → IsCutShort a c
 cut_then a b c ds adds cut = cut_after a b c ds adds.leaves cut
+
+-- an early end at once behind deeds
+pub cut_such : (Are : List Deed → Type 0) (a b : Acting) → AddsSuch Are a b → IsCutShort a b
+cut_such Are a b so = cut_behind a b so.deeds so.adds.leaves
 
 -- ---- results
 

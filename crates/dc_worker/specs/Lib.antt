@@ -1,5 +1,6 @@
 pub mod Work
 pub mod Reports
+pub mod Feeds
 pub mod Sends
 pub mod Inlets
 pub mod ItemBytes

@@ -2,7 +2,7 @@
 use Rattle.std.proofs.Common.{◌≡◌, ◌≤◌, ◌+◌, ℕ, zero, suc, true, List, [], ◌∷◌, ◌++◌, length, map, refl, sym, ap, ◌∙◌, subst, arith, append_assoc, append-nil, lit≤, lit<, Ok, Err, Some, None}
 use Rattle.std.specs.Prelude.{Option, Result, codes, decimal, flat_map}
 use Rattle.std.specs.List.{AllByRecursion, cons_option, range_with_len}
-use Rattle.std.proofs.lemmas.Bool.{cond-true}
+use Rattle.std.proofs.lemmas.Bool.{cond-true, or_left}
 use Rattle.std.proofs.lemmas.Fmt.{decimal_step, decimal_digit}
 use Rattle.std.proofs.lemmas.List.{length-append, map-append}
 use Rattle.script_core.specs.declared.limits.TheConstants.{MAX_LINES}
@@ -20,6 +20,7 @@ use Rattle.script_reader.specs.Forms.{form_among}
 use Rattle.script_reader.specs.Said.{said_word}
 use Rattle.script_reader.specs.Rows.{row_of, row_in, row_in_text}
 use Rattle.script_reader.specs.Readings.{may_stand, nothing_read, read_more}
+use Rattle.script_reader.specs.Taps.{is_on_tap}
 use Rattle.script_reader.specs.Lines.{line_taken, taken}
 use Rattle.script_reader.specs.Scripts.{lines_read, script_read}
 use Rattle.load_maker.specs.declared.line.Line.{Line}
@@ -34,7 +35,7 @@ use Rattle.load_maker.proofs.MadeLines.{IsInRange, IsStep, IsInside, step_ranged
 
 -- what is read behind the settings: these sections, and the steps of the open phase, where one is
 abbrev behind : List Section → Option (List Step) → Reading
-behind sections phase = record { centres = Some (record { n = 3; k = 2 }); clients = Some 100; cache = None; limit = None; threads = Some 4; rounds = Some 32; sections = sections; phase = phase }
+behind sections phase = record { centres = Some (record { n = 3; k = 2 }); clients = Some 100; cache = None; limit = None; threads = Some 4; rounds = Some 32; taps = []; sections = sections; phase = phase }
 
 -- a hundred in decimal
 hundred : decimal 100 ≡ codes "100"
@@ -76,10 +77,11 @@ brings_line line sections phase new is takes number rest few =
 
 -- ---- steps
 
--- a step is taken
+-- a step is taken, which needs no tap
 record SaysStep (line : Line) : Type 0 where
   step : Step
   is : row_meant line ≡ row.Does step
+  on : is_on_tap [] step ≡ true
 
 says_step : (line : Line) → IsStep line → SaysStep line
 says_step Centres h = absurd h
@@ -88,12 +90,13 @@ says_step Threads h = absurd h
 says_step Rounds h = absurd h
 says_step Phase h = absurd h
 says_step End h = absurd h
-says_step line h = record { step = _; is = refl }
+says_step line h = record { step = _; is = refl; on = refl }
 
 -- one that may stand in a phase
 record SaysInside (line : Line) : Type 0 where
   step : Step
   is : row_meant line ≡ row.Does step
+  on : is_on_tap [] step ≡ true
   may : may_do_in_phase step ≡ true
 
 says_inside : (line : Line) → IsInside line → SaysInside line
@@ -104,15 +107,15 @@ says_inside Rounds h = absurd h
 says_inside Phase h = absurd h
 says_inside End h = absurd h
 says_inside Settle h = absurd h
-says_inside line h = record { step = _; is = refl; may = refl }
+says_inside line h = record { step = _; is = refl; on = refl; may = refl }
 
-step_out : (sections : List Section) (step : Step) → taken (behind sections None) (Ok (Some (row.Does step))) ≡ Ok (behind (sections ++ section_of step ∷ []) None)
+step_out : (sections : List Section) (step : Step) → is_on_tap [] step ≡ true → taken (behind sections None) (Ok (Some (row.Does step))) ≡ Ok (behind (sections ++ section_of step ∷ []) None)
 unfolding may_stand read_more
-step_out sections step = refl
+step_out sections step on = cond-true _ _ _ (or_left _ _ on)
 
-step_in : (sections : List Section) (steps : List Step) (step : Step) → may_do_in_phase step ≡ true → taken (behind sections (Some steps)) (Ok (Some (row.Does step))) ≡ Ok (behind sections (Some (steps ++ step ∷ [])))
+step_in : (sections : List Section) (steps : List Step) (step : Step) → is_on_tap [] step ≡ true → may_do_in_phase step ≡ true → taken (behind sections (Some steps)) (Ok (Some (row.Does step))) ≡ Ok (behind sections (Some (steps ++ step ∷ [])))
 unfolding may_stand read_more
-step_in sections steps step may = cond-true _ _ _ may
+step_in sections steps step on may = cond-true _ _ _ (or_left _ _ on) ∙ cond-true _ _ _ may
 
 -- steps outside of all phases
 brings_steps : (lines : List Line) (sections : List Section) → AllByRecursion IsStep lines → Brings lines (behind sections None) (behind (sections ++ map section_of (steps_meant lines)) None)
@@ -121,7 +124,7 @@ brings_steps (line ∷ lines) sections all number rest few =
     let found = says_step line all.0 in
     let more : List Section = sections ++ section_of found.step ∷ [] in
     brings_both (line ∷ []) lines (behind sections None) (behind more None) (behind (more ++ map section_of (steps_meant lines)) None)
-    (brings_line line sections None (behind more None) (step_ranged line all.0) (ap (λ (r : Row). taken (behind sections None) (Ok (Some r))) found.is ∙ step_out sections found.step))
+    (brings_line line sections None (behind more None) (step_ranged line all.0) (ap (λ (r : Row). taken (behind sections None) (Ok (Some r))) found.is ∙ step_out sections found.step found.on))
     (brings_steps lines more all.1)
     number rest few
     ∙ ap (λ s. lines_read (number + length (line ∷ lines)) (behind s None) rest) (append_assoc sections (section_of found.step ∷ []) (map section_of (steps_meant lines)) ∙ ap (λ (r : Row). sections ++ map section_of (cons_option (step_meant r) (steps_meant lines))) (sym found.is))
@@ -133,7 +136,7 @@ brings_inside (line ∷ lines) sections steps all number rest few =
     let found = says_inside line all.0 in
     let more : List Step = steps ++ found.step ∷ [] in
     brings_both (line ∷ []) lines (behind sections (Some steps)) (behind sections (Some more)) (behind sections (Some (more ++ steps_meant lines)))
-    (brings_line line sections (Some steps) (behind sections (Some more)) (inside_ranged line all.0) (ap (λ (r : Row). taken (behind sections (Some steps)) (Ok (Some r))) found.is ∙ step_in sections steps found.step found.may))
+    (brings_line line sections (Some steps) (behind sections (Some more)) (inside_ranged line all.0) (ap (λ (r : Row). taken (behind sections (Some steps)) (Ok (Some r))) found.is ∙ step_in sections steps found.step found.on found.may))
     (brings_inside lines sections more all.1)
     number rest few
     ∙ ap (λ s. lines_read (number + length (line ∷ lines)) (behind sections (Some s)) rest) (append_assoc steps (found.step ∷ []) (steps_meant lines) ∙ ap (λ (r : Row). steps ++ cons_option (step_meant r) (steps_meant lines)) (sym found.is))

@@ -45,5 +45,6 @@ script_made num = record {
   limit = MOST_RECORDS;
   threads = 4;
   rounds = 32;
+  taps = [];
   sections = sections_made 10 100 5 num;
 }

@@ -2,9 +2,9 @@
 ghost use Rattle.std.specs.Prelude.{◌≡◌, ◌<◌};
 ghost use Rattle.read_tap.specs.Shows.{width};
 
-use dc_talk::{ListDoor, Log, Say, SharedState};
+use dc_talk::{Fed, ListDoor, Log, Say, SharedState};
 use ids_core::{NoMemory, Sort};
-use read_tap::{Fed, Tap, TapFeeder, TapReader};
+use read_tap::{Tap, TapFeeder, TapReader};
 use samples::{counter, id, mark, single};
 use std::alloc::Global;
 use std::sync::Wait;

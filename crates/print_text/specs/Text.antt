@@ -9,7 +9,7 @@ use Rattle.vv_core.specs.Vectors.{most}
 use Rattle.tx_core.specs.declared.state.Value.{Value}
 use Rattle.tx_core.specs.declared.state.Value.TheVariants.{Number, Word, Words, Pairs}
 use Rattle.dc_talk.specs.declared.line.Line.{Line}
-use Rattle.dc_talk.specs.declared.line.Line.TheVariants.{At, Refused, ConnectMissed, BeginOpen, BeginClock, Closed, ManyUpdates, ManyTags, Unconnected, FetchMissed, FetchLacks, FetchPruned, FetchIgnored, ReadValue, Short, RightsValue, CommitNumber, CommitNone, CommitClosed, CommitPending, AbortClosed, PushUnconnected, PushNone, Push, AgainNone, Again, Flushed, Sees, RefreshUnconnected, RefreshOpen, RefreshLacks, RefreshMissed, RefreshIgnored, Ship, Relay, ToldDown, ToldMisfit, Based, BaseDown}
+use Rattle.dc_talk.specs.declared.line.Line.TheVariants.{At, Refused, ConnectMissed, BeginOpen, BeginClock, Closed, ManyUpdates, ManyTags, Unconnected, FetchMissed, FetchLacks, FetchPruned, FetchIgnored, ReadValue, Short, RightsValue, CommitNumber, CommitNone, CommitClosed, CommitPending, AbortClosed, PushUnconnected, PushNone, Push, AgainNone, Again, Flushed, Sees, RefreshUnconnected, RefreshOpen, RefreshLacks, RefreshMissed, RefreshIgnored, Ship, Relay, ToldDown, ToldMisfit, Based, BaseDown, Feed, Look}
 use Rattle.dc_talk.specs.declared.line.Miss.{Miss}
 use Rattle.dc_talk.specs.declared.line.Miss.TheVariants.{Unreachable, Lost, Misfit}
 use Rattle.dc_talk.specs.declared.line.PushEnd.{PushEnd}
@@ -18,11 +18,14 @@ use Rattle.dc_talk.specs.declared.line.ShipEnd.{ShipEnd}
 use Rattle.dc_talk.specs.declared.line.ShipEnd.TheVariants.{Absent, Applied, Alias, Old, Gap, Waits, Orphan, Trimmed, Down, Misfit as Undelivered}
 use Rattle.dc_talk.specs.declared.line.StepWord.{StepWord}
 use Rattle.dc_talk.specs.declared.line.StepWord.TheVariants.{Read, Rights}
+use Rattle.dc_talk.specs.declared.seen.Fed.{Fed}
+use Rattle.dc_talk.specs.declared.seen.Fed.TheVariants.{Shown, Down as FedDown, Pruned, Refused as FedRefused}
+use Rattle.dc_talk.specs.declared.seen.Seen.{Seen}
 use Rattle.dc_talk.specs.declared.log.Deed.{Deed}
 use Rattle.dc_talk.specs.declared.log.Deed.TheVariants.{Told}
 use Rattle.dc_talk.specs.declared.log.Note.{Note}
 use Rattle.dc_talk.specs.Logs.{Logged}
-use Rattle.script_core.specs.Steps.{shown_text, word_text}
+use Rattle.script_core.specs.Steps.{object_text, shown_text, word_text}
 
 -- a client: `c1`
 abbrev pub client_text : ℕ → List ℕ
@@ -105,6 +108,17 @@ ship_end_text Undelivered = codes "misfit"
 abbrev pub centres_text : ℕ → List ℕ → ℕ → List ℕ
 centres_text to word from = decimal to ++ word ++ decimal from
 
+-- how a feed ended
+abbrev pub fed_text : Fed → List ℕ
+fed_text (Shown vector) = codes "fed " ++ vector_text vector
+fed_text FedDown = codes "feed down"
+fed_text Pruned = codes "feed pruned"
+fed_text FedRefused = codes "feed refused"
+
+-- what a look sees: the vector, and the value there
+abbrev pub seen_text : Seen → List ℕ
+seen_text seen = vector_text seen.vector ++ codes " " ++ value_text seen.value
+
 -- a line, without its line feed
 abbrev pub line_text : Line → List ℕ
 line_text (At client centre) = client_text client ++ codes " at " ++ decimal centre
@@ -146,6 +160,8 @@ line_text (ToldDown from to centre) = centres_text to (codes " told ") from ++ c
 line_text (ToldMisfit from to) = centres_text to (codes " told ") from ++ codes " misfit"
 line_text (Based centre vector folded trimmed) = decimal centre ++ codes " base " ++ vector_text vector ++ codes " folded " ++ decimal folded ++ codes " trimmed " ++ decimal trimmed
 line_text (BaseDown centre) = decimal centre ++ codes " base down"
+line_text (Feed centre fed) = decimal centre ++ codes " " ++ fed_text fed
+line_text (Look client centre object seen) = client_text client ++ codes " tap " ++ decimal centre ++ codes " " ++ object_text object ++ codes " at " ++ seen_text seen
 
 -- the line that a deed tells, with its line feed, and nothing of the other deeds
 abbrev pub told_text : Deed → List ℕ

@@ -2,10 +2,10 @@
 ghost use Rattle.std.specs.Prelude.{◌≡◌, ◌++◌, OnOk, codes, decimal, map};
 ghost use Rattle.std.specs.Fmt.{signed_decimal};
 ghost use Rattle.script_core.specs.Steps.{object_text, shown_text};
-ghost use Rattle.print_text.specs.Text.{centres_text, client_text, end_text, lack_text, lacking_text, later, line_text, miss_text, ship_end_text, stamp_text, step_text, vector_text};
+ghost use Rattle.print_text.specs.Text.{centres_text, client_text, end_text, fed_text, lack_text, lacking_text, later, line_text, miss_text, seen_text, ship_end_text, stamp_text, step_text, vector_text};
 
 use crate::value::{write_sum, write_value};
-use dc_talk::{Line, Miss, PushEnd, ShipEnd, StepWord};
+use dc_talk::{Fed, Line, Miss, PushEnd, Seen, ShipEnd, StepWord};
 use ids_core::{Name, NoMemory, ObjectId, Sort};
 use itoa::Buffer;
 use vv_core::{Lack, Stamp, Vector};
@@ -184,6 +184,17 @@ pub fn write_line(text: &mut Vec<u8>, line: &Line) -> Result<(), NoMemory>
             text.extend_from_slice(b" base down")?;
             Ok(())
         }
+        Line::Feed { centre, fed } => {
+            write_number(text, u64::from(*centre))?;
+            text.extend_from_slice(b" ")?;
+            write_fed(text, fed)
+        }
+        Line::Look {
+            client,
+            centre,
+            object,
+            seen,
+        } => write_look(text, *client, *centre, object, seen.as_seen()),
     }
 }
 
@@ -311,6 +322,46 @@ fn write_based(
     write_vector(text, vector)?;
     write_named(text, b" folded ", folded)?;
     write_named(text, b" trimmed ", trimmed)
+}
+
+fn write_fed(text: &mut Vec<u8>, fed: &Fed) -> Result<(), NoMemory>
+    ensures { OnOk result (text.new.items ≡ text.old.items ++ fed_text fed.now) }
+{
+    match fed {
+        Fed::Shown { vector } => {
+            text.extend_from_slice(b"fed ")?;
+            write_vector(text, vector)?;
+        }
+        Fed::Down => text.extend_from_slice(b"feed down")?,
+        Fed::Pruned => text.extend_from_slice(b"feed pruned")?,
+        Fed::Refused => text.extend_from_slice(b"feed refused")?,
+    }
+    Ok(())
+}
+
+fn write_look(
+    text: &mut Vec<u8>,
+    client: u32,
+    centre: u8,
+    object: &ObjectId,
+    seen: &Seen,
+) -> Result<(), NoMemory>
+    ensures { OnOk result (text.new.items ≡ text.old.items ++ (client_text client ++ codes " tap " ++ decimal centre ++ codes " " ++ object_text object.now ++ codes " at " ++ seen_text seen.now)) }
+{
+    write_centre(text, client, b" tap ", centre)?;
+    text.extend_from_slice(b" ")?;
+    write_object(text, object)?;
+    text.extend_from_slice(b" at ")?;
+    write_seen(text, seen)
+}
+
+// The vector at which a look sees a value, and the value.
+fn write_seen(text: &mut Vec<u8>, seen: &Seen) -> Result<(), NoMemory>
+    ensures { OnOk result (text.new.items ≡ text.old.items ++ seen_text seen.now) }
+{
+    write_vector(text, &seen.vector)?;
+    text.extend_from_slice(b" ")?;
+    write_value(text, &seen.value)
 }
 
 // A client with the words and the centre behind it.

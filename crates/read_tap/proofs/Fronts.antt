@@ -6,7 +6,7 @@ use Rattle.std.proofs.lemmas.Bool.{cases_lt}
 use Rattle.std.proofs.lemmas.List.{append-nil, append_assoc}
 use Rattle.boxcar.specs.Table.{Shelves, Where, Shows as IsIn}
 use Rattle.list_core.proofs.Gets.{get_last}
-use Rattle.read_tap.specs.declared.show.Show.{Show}
+use Rattle.script_core.specs.declared.taps.Show.{Show}
 use Rattle.read_tap.specs.Shows.{IsFront, ArePlaced, show_of}
 
 -- ---- fronts

@@ -1,21 +1,12 @@
 -- The shows of a tap: what its readers see, one after another.
-use Rattle.std.specs.Prelude.{◌≡◌, ℕ, ◌-◌, ◌<◌, List, ◌++◌, map, length, slice_get, Option, Some}
+use Rattle.std.specs.Prelude.{◌≡◌, ℕ, ◌-◌, ◌<◌, List, ◌++◌, length, slice_get, Option, Some}
 use Rattle.list_core.specs.Members.{In}
 use Rattle.boxcar.specs.Table.{Shelves, Where, Shows as IsIn, first}
 use Rattle.ids_core.specs.declared.object.ObjectId.{ObjectId}
-use Rattle.vv_core.specs.Vectors.{zeros}
 use Rattle.tx_core.specs.declared.state.State.{State}
 use Rattle.tx_core.specs.declared.state.Value.{Value}
-use Rattle.tx_core.specs.States.{empty_of, value_of}
-use Rattle.read_tap.specs.declared.show.Show.{Show}
-
--- the states of these objects before any operation
-abbrev pub empty_states : List ObjectId → List State
-empty_states objects = map (λ (object : ObjectId). empty_of object.sort) objects
-
--- the show of these objects before any record, among n centres
-abbrev pub opening : ℕ → List ObjectId → Show
-opening n objects = record { vector = zeros n; states = empty_states objects }
+use Rattle.tx_core.specs.States.{value_of}
+use Rattle.script_core.specs.declared.taps.Show.{Show}
 
 -- the first list is a front of the second
 pub record IsFront {X : Type 0} (front whole : List X) : Type 0 where

@@ -1,21 +1,21 @@
 // The end of a tap that shows.
 ghost use Rattle.std.specs.Prelude.{◌≡◌, ◌+◌, [], ◌∷◌, ◌++◌, length, IfOk, OnOk, OnErr};
 ghost use Rattle.left_right.specs.Handles.{published};
+ghost use Rattle.dc_talk.specs.declared.seen.Fed.TheVariants.{Shown};
 ghost use Rattle.dc_talk.specs.Acting.{acting, IsCutShort};
 ghost use Rattle.dc_talk.specs.Doors.{IsBehind};
 ghost use Rattle.dc_worker.specs.Work.{AddsSuch};
-ghost use Rattle.read_tap.specs.declared.asks.Fed.TheVariants.{Shown};
 ghost use Rattle.read_tap.specs.Shows.{width, shows_in};
 ghost use Rattle.read_tap.specs.Feeds.{Feeds};
 
-use crate::asks::{Fed, Found, find_show};
 use crate::count::LastPlace;
-use crate::show::Show;
 use crate::shows::Shows;
-use dc_talk::{Door, Log};
+use dc_talk::{Door, Fed, Log};
+use dc_worker::find_show;
 use ids_core::{NoMemory, ObjectId};
 use left_right::WriteHandle;
 use list_core::List;
+use script_core::{Found, Show};
 use std::alloc::Global;
 use std::marker::Model;
 use std::sync::Wait;

@@ -1,7 +1,6 @@
 //! Taps: what chosen objects are at a centre's base, shown to readers that take no lock.
 #![tactic(auto)]
 
-mod asks;
 mod count;
 mod feeder;
 mod limits;
@@ -10,10 +9,8 @@ mod show;
 mod shows;
 mod tap;
 
-pub use asks::Fed;
 pub use feeder::TapFeeder;
 pub use limits::{MOST_READERS, MOST_SHOWN};
 pub use reader::TapReader;
-pub use show::Show;
 pub use shows::Shows;
 pub use tap::{Tap, UnclosedTap};

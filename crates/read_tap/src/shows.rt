@@ -4,10 +4,11 @@ ghost use Rattle.std.specs.Arc.{arc_value};
 ghost use Rattle.boxcar.specs.Table.{Shows as IsIn, first};
 ghost use Rattle.read_tap.specs.Shows.{IsFront, IsRead, IsLast, ArePlaced, shows_in, show_of, width, last_of};
 
-use crate::show::{Fits, Show};
+use crate::show::Fits;
 use boxcar::table::{Placed, Table};
 use boxcar::tag::Tag;
 use ids_core::NoMemory;
+use script_core::Show;
 use std::alloc::Global;
 use std::marker::Model;
 use std::sync::{Arc, Wait};

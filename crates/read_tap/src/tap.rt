@@ -3,16 +3,18 @@ ghost use Rattle.std.specs.Prelude.{◌≡◌, ◌≤◌, [], ◌∷◌, length,
 ghost use Rattle.std.specs.Bool.{OnFalse};
 ghost use Rattle.ids_core.specs.declared.limits.TheConstants.{MOST_CENTRES};
 ghost use Rattle.read_tap.specs.declared.limits.TheConstants.{MOST_SHOWN, MOST_READERS};
-ghost use Rattle.read_tap.specs.Shows.{IsFront, SeesMore, opening, shows_in, width};
+ghost use Rattle.script_core.specs.Taps.{opening};
+ghost use Rattle.read_tap.specs.Shows.{IsFront, SeesMore, shows_in, width};
 
 use crate::count::LastPlace;
 use crate::feeder::{Port, TapFeeder};
 use crate::reader::TapReader;
-use crate::show::{Show, tag_of};
+use crate::show::tag_of;
 use crate::shows::Shows;
 use ids_core::{NoMemory, ObjectId};
 use left_right::WriteHandle;
 use list_core::List;
+use script_core::Show;
 use std::alloc::Global;
 use std::sync::Wait;
 

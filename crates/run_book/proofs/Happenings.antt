@@ -6,6 +6,7 @@ pub mod Timely
 pub mod More
 pub mod Playing
 pub mod Reach
+pub mod Feeding
 pub mod Steps
 pub mod Sending
 pub mod Carrying

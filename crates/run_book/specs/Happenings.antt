@@ -8,7 +8,7 @@ use Rattle.vv_core.specs.Vectors.{at}
 use Rattle.dc_talk.specs.declared.sent.Sent.{Sent}
 use Rattle.dc_talk.specs.Sents.{with_hops}
 use Rattle.dc_talk.specs.declared.ask.Ask.{Ask}
-use Rattle.dc_talk.specs.declared.ask.Ask.TheVariants.{Send, Deliver, Relay, Report, Learn, Prune, Stop, Start}
+use Rattle.dc_talk.specs.declared.ask.Ask.TheVariants.{Fetch, Send, Deliver, Relay, Report, Learn, Prune, Stop, Start}
 use Rattle.dc_talk.specs.declared.say.Say.{Say}
 use Rattle.dc_talk.specs.declared.say.Say.TheVariants.{Trimmed, Records, Vector}
 use Rattle.dc_talk.specs.declared.calls.Connection.{Connection}
@@ -84,7 +84,7 @@ pub record WasSent (trails : ℕ → List Entry) (item : Sent) : Type 0 where
   pub has : In item list
 
 -- what the operator and the workers ask: what they deliver was sent, what they teach was reported, and they ask for
--- no session
+-- no session, but they may fetch
 abbrev pub CarrierAsks : (ℕ → List Entry) → Ask → Type 0
 CarrierAsks trails (Deliver item hops) = WasSent trails (with_hops item hops)
 CarrierAsks trails (Learn from news) = HasAnswer (trails from) (Vector news)
@@ -92,6 +92,7 @@ CarrierAsks trails (Send after most) = Unit {0}
 CarrierAsks trails (Relay origin after most) = Unit {0}
 CarrierAsks trails Report = Unit {0}
 CarrierAsks trails Prune = Unit {0}
+CarrierAsks trails (Fetch object vector) = Unit {0}
 CarrierAsks trails Stop = Unit {0}
 CarrierAsks trails Start = Unit {0}
 CarrierAsks trails _ = ⊥

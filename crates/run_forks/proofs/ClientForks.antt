@@ -25,12 +25,14 @@ use Rattle.dc_talk.specs.Clients.{Client}
 use Rattle.dc_talk.specs.Calls.{outcome_of}
 use Rattle.dc_talk.specs.Rule.{hello_of, refresh_of, fetch_of, next_commit}
 use Rattle.script_core.specs.declared.object_call.ObjectCall.{ObjectCall}
+use Rattle.script_core.specs.declared.taps.TapState.{TapState}
 use Rattle.script_core.specs.declared.steps.Share.{Share}
 use Rattle.script_core.specs.declared.steps.AskFault.{AskFault}
 use Rattle.script_core.specs.declared.steps.AskFault.TheVariants.{LoseAsk, LoseReply, Twice}
 use Rattle.script_core.specs.declared.steps.ClientStep.{ClientStep}
-use Rattle.script_core.specs.declared.steps.ClientStep.TheVariants.{Connect, Begin, Change, Read, Grant, Give, Take, Rights, Commit, Abort, Push, Flush, Refresh, Again, Arm}
+use Rattle.script_core.specs.declared.steps.ClientStep.TheVariants.{Connect, Begin, Change, Read, Grant, Give, Take, Rights, Commit, Abort, Push, Flush, Refresh, Again, Arm, Look}
 use Rattle.script_core.specs.Deeds.{Progress, fate_of, copies, took, told, Asks, OrTells, calls, calls_on, after_fetch, CallDeeds, change_call, read_call, cell_to, cell_read, cell_inc, share_cells, last_number, behind, FollowsRead, ReadsCell, CellsDeeds, AddsOwned, TakingDeeds, TellsRights, RightsDeeds, Pushes, OverNext, goes_on, PushesOn, FlushEnds, pushed, FlushDeeds, flush_ends, flush_goes, again_line, push_line, hello_line, refresh_line, AgainDeeds, RefreshDeeds, StepDeeds}
+use Rattle.script_core.specs.Taps.{seen_through, looks, LooksSo}
 use Rattle.run_forks.specs.Forks.{AreRivals, AreOneOrFork}
 use Rattle.run_forks.proofs.Forks.{Same, fork_head, fork_as, with_as, with_then, with_cons, with_same, one_or_fork, both_are, fates, by_fate, by_unheard}
 
@@ -197,23 +199,24 @@ again_fork client centre number tx ds es one two =
     (λ same. inl (ap (λ say. told (again_line client centre number (Unheard say))) same, tt)))
 
 -- each step
-step_same : (p : Progress) (step : ClientStep) (ds es : List Deed) → StepDeeds p step ds → StepDeeds p step es → Same ds es
-step_same p (Connect centre) ds es one two = asks_fork p.armed centre (hello_of p.client) (λ fate. told (hello_line p.client.client centre fate)) ds es one two
-step_same p Begin ds es one two = both_are ds es (calls p.client BeginCall) one two
-step_same p (Change o change) ds es one two = call_fork p (change_call o change) (outcome_of p.client (ChangeCall o change)) ds es one two
-step_same p (Read o) ds es one two = call_fork p (read_call o) (outcome_of p.client (ReadCall o)) ds es one two
-step_same p (Grant share amount) ds es one two = both_are ds es (calls_on p.client (cell_inc step.Grant share (cell_to share share.holder) amount)) one two
-step_same p (Give share to amount) ds es one two = taking_fork p step.Give share to amount ds es one two
-step_same p (Take share amount) ds es one two = taking_fork p step.Take share 0 amount ds es one two
-step_same p (Rights share) ds es one two = rights_fork p share ds es one two
-step_same p Commit ds es one two = both_are ds es (calls p.client CommitCall) one two
-step_same p Abort ds es one two = both_are ds es (calls p.client AbortCall) one two
-step_same p Push ds es one two = over_fork p.client (line.PushNone p.client.client) (Pushes p) ds es (λ link tx first later. push_fork p link tx ds es first later) one two
-step_same p Flush ds es one two = flush_fork p ds es one two
-step_same p Refresh ds es one two = tells_fork p.client.link (line.RefreshUnconnected p.client.client) (RefreshDeeds p p.client.draft) ds es (λ link first later. refresh_fork p p.client.draft link ds es first later) one two
-step_same p (Again centre number) ds es one two = tells_fork (commit_sent number p.notes) (line.AgainNone p.client.client centre number) (AgainDeeds p.client.client centre number) ds es (λ tx first later. again_fork p.client.client centre number tx ds es first later) one two
-step_same p (Arm fault) ds es one two = both_are ds es [] one two
+step_same : (taps : ℕ → TapState) (client : ℕ) (p : Progress) (step : ClientStep) (ds es : List Deed) → StepDeeds p step ds → StepDeeds p step es → LooksSo taps client step ds → LooksSo taps client step es → Same ds es
+step_same taps client p (Connect centre) ds es one two look other = asks_fork p.armed centre (hello_of p.client) (λ fate. told (hello_line p.client.client centre fate)) ds es one two
+step_same taps client p Begin ds es one two look other = both_are ds es (calls p.client BeginCall) one two
+step_same taps client p (Change o change) ds es one two look other = call_fork p (change_call o change) (outcome_of p.client (ChangeCall o change)) ds es one two
+step_same taps client p (Read o) ds es one two look other = call_fork p (read_call o) (outcome_of p.client (ReadCall o)) ds es one two
+step_same taps client p (Grant share amount) ds es one two look other = both_are ds es (calls_on p.client (cell_inc step.Grant share (cell_to share share.holder) amount)) one two
+step_same taps client p (Give share to amount) ds es one two look other = taking_fork p step.Give share to amount ds es one two
+step_same taps client p (Take share amount) ds es one two look other = taking_fork p step.Take share 0 amount ds es one two
+step_same taps client p (Rights share) ds es one two look other = rights_fork p share ds es one two
+step_same taps client p Commit ds es one two look other = both_are ds es (calls p.client CommitCall) one two
+step_same taps client p Abort ds es one two look other = both_are ds es (calls p.client AbortCall) one two
+step_same taps client p Push ds es one two look other = over_fork p.client (line.PushNone p.client.client) (Pushes p) ds es (λ link tx first later. push_fork p link tx ds es first later) one two
+step_same taps client p Flush ds es one two look other = flush_fork p ds es one two
+step_same taps client p Refresh ds es one two look other = tells_fork p.client.link (line.RefreshUnconnected p.client.client) (RefreshDeeds p p.client.draft) ds es (λ link first later. refresh_fork p p.client.draft link ds es first later) one two
+step_same taps client p (Again centre number) ds es one two look other = tells_fork (commit_sent number p.notes) (line.AgainNone p.client.client centre number) (AgainDeeds p.client.client centre number) ds es (λ tx first later. again_fork p.client.client centre number tx ds es first later) one two
+step_same taps client p (Arm fault) ds es one two look other = both_are ds es [] one two
+step_same taps client p (Look centre object) ds es one two look other = both_are ds es (looks client centre object (seen_through (taps centre) object)) look other
 
--- the deeds of a client's step are the same, or part at an answer
-pub step_fork : (p : Progress) (step : ClientStep) (ds es : List Deed) → StepDeeds p step ds → StepDeeds p step es → AreOneOrFork ds es
-step_fork p step ds es one two = one_or_fork ds es (Unit {0}) (step_same p step ds es one two)
+-- the deeds of a client's step, which sees what taps show, are the same, or part at an answer
+pub step_fork : (taps : ℕ → TapState) (client : ℕ) (p : Progress) (step : ClientStep) (ds es : List Deed) → StepDeeds p step ds → StepDeeds p step es → LooksSo taps client step ds → LooksSo taps client step es → AreOneOrFork ds es
+step_fork taps client p step ds es one two look other = one_or_fork ds es (Unit {0}) (step_same taps client p step ds es one two look other)

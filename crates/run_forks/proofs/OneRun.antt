@@ -24,7 +24,7 @@ use Rattle.script_core.specs.Mail.{due_in_round, due_at_close}
 use Rattle.run_book.specs.Setups.{Setup, settings_among}
 use Rattle.run_book.specs.Happenings.{Happened, entry_in, trail_in, happening, GoesToOneOf}
 use Rattle.run_book.specs.Moves.{Does, client_does, operator_does, worker_does, closes, Move, actor_of}
-use Rattle.run_book.specs.Played.{Stage, DoesSo, stage_after, IsAt, Plays, no_moves, next_move}
+use Rattle.run_book.specs.Played.{Stage, DoesSo, TapsSo, stage_after, IsAt, Plays, no_moves, next_move}
 use Rattle.run_book.proofs.Pairing.{exchanges}
 use Rattle.run_forks.specs.Forks.{IsFork, AreOneOrFork}
 use Rattle.run_forks.specs.Answered.{AreAnswered}
@@ -35,14 +35,14 @@ use Rattle.run_forks.proofs.WorkerForks.{sender_fork, receiver_fork, reporter_fo
 -- ---- one move
 
 -- the deeds of one move at one stage are the same, or part at an answer
-move_fork : (n : ℕ) (stage : Stage) (number : ℕ) (does : Does) (ds es : List Deed) → DoesSo n stage number does ds → DoesSo n stage number does es → AreOneOrFork ds es
-move_fork n stage number (client_does client step) ds es one two = step_fork (stage.come client) step ds es one two
-move_fork n stage number (operator_does step) ds es one two = order_fork n step ds es one two
-move_fork n stage number (worker_does i Sender) ds es one two = sender_fork n i ds es one two
-move_fork n stage number (worker_does i Receiver) ds es one two = receiver_fork n i (λ from. due_in_round (stage.posts from i)) ds es one two
-move_fork n stage number (worker_does i Reporter) ds es one two = reporter_fork n i ds es one two
-move_fork n stage number (worker_does i Pruner) ds es one two = pruner_fork i number ds es one two
-move_fork n stage number (closes i) ds es one two = receiver_fork n i (λ from. due_at_close (stage.posts from i)) ds es one two
+move_fork : (n : ℕ) (stage : Stage) (number : ℕ) (does : Does) (ds es : List Deed) → DoesSo n stage number does ds → DoesSo n stage number does es → TapsSo stage.taps does ds → TapsSo stage.taps does es → AreOneOrFork ds es
+move_fork n stage number (client_does client step) ds es one two tap other = step_fork stage.taps client (stage.come client) step ds es one two tap other
+move_fork n stage number (operator_does step) ds es one two tap other = order_fork stage.taps n step ds es one two tap other
+move_fork n stage number (worker_does i Sender) ds es one two tap other = sender_fork n i ds es one two
+move_fork n stage number (worker_does i Receiver) ds es one two tap other = receiver_fork n i (λ from. due_in_round (stage.posts from i)) ds es one two
+move_fork n stage number (worker_does i Reporter) ds es one two tap other = reporter_fork n i ds es one two
+move_fork n stage number (worker_does i Pruner) ds es one two tap other = pruner_fork i number ds es one two
+move_fork n stage number (closes i) ds es one two tap other = receiver_fork n i (λ from. due_at_close (stage.posts from i)) ds es one two
 
 -- the deeds of notes
 abbrev deeds_in : List Note → List Deed
@@ -112,8 +112,8 @@ module _ (n k : ℕ) (setup : Setup) where
   -- behind the same, the same moves leave the same
   one_behind : (clients : ℕ) (stage : Stage) (moves : List Move) (done later after : List Happened) → Plays n clients stage moves later → Plays n clients stage moves after → AreAnswered n k setup (done ++ later) → AreAnswered n k setup (done ++ after) → later ≡ after
   one_behind clients stage [] done later after no_moves no_moves one two = refl
-  one_behind clients stage (move ∷ moves) done later after (next_move mine rest is at does on) (next_move yours behind was too again more) one two =
-      go (move_fork n stage move.step move.does (deeds_in mine) (deeds_in yours) does again) (λ notes. one_behind clients (stage_after move.does mine stage) moves now rest behind on (follows notes) here (there notes))
+  one_behind clients stage (move ∷ moves) done later after (next_move mine rest is at does tap on) (next_move yours behind was too again other more) one two =
+      go (move_fork n stage move.step move.does (deeds_in mine) (deeds_in yours) does again tap other) (λ notes. one_behind clients (stage_after move.does mine stage) moves now rest behind on (follows notes) here (there notes))
     where
       actor : ℕ
       actor = actor_of clients move.does

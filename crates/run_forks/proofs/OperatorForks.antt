@@ -15,13 +15,16 @@ use Rattle.dc_talk.specs.declared.log.Deed.TheVariants.{Asked}
 use Rattle.dc_talk.specs.declared.line.Line.{Line}
 use Rattle.dc_talk.specs.declared.line.ShipEnd.{ShipEnd}
 use Rattle.dc_talk.specs.declared.line.ShipEnd.TheVariants.{Absent}
+use Rattle.script_core.specs.declared.taps.TapState.{TapState}
 use Rattle.script_core.specs.declared.steps.OperatorStep.{OperatorStep}
-use Rattle.script_core.specs.declared.steps.OperatorStep.TheVariants.{Down, Up, ShipOne, Ship, Relay, Tell, Prune, Link, Settle}
+use Rattle.script_core.specs.declared.steps.OperatorStep.TheVariants.{Down, Up, ShipOne, Ship, Relay, Tell, Prune, Link, Settle, Feed}
 use Rattle.script_core.specs.Deeds.{told}
 use Rattle.script_core.specs.Carrying.{Route, route, detour, is_there, delivery_end, send_end, stopped_end, ship_line, relay_line, tell_line, Delivers, AfterSend, Sends, AfterReport, Supplies, own_need, origin_need, Ships, Relays, AfterTold, Tells, routes, detours, InTurn, no_turn, next_turn, Passes, is_news, Settles, last_pass, one_pass}
 use Rattle.script_core.specs.Orders.{Orders, base_line, OperatorDeeds}
+use Rattle.script_core.specs.Taps.{FeedsSo}
 use Rattle.run_forks.specs.Forks.{IsFork, AreOneOrFork}
 use Rattle.run_forks.proofs.Forks.{OneWith, Same, fork_as, fork_front, with_as, with_then, one_or_fork, both_are, by_unheard}
+use Rattle.run_forks.proofs.FeedForks.{feed_fork}
 
 -- nothing of both, and both end the same
 pub nothing : {E : Type 0} (ds es : List Deed) (end again last : E) → (ds ≡ []) × (end ≡ last) → (es ≡ []) × (again ≡ last) → OneWith ds es (end ≡ again)
@@ -146,27 +149,28 @@ pub orders_fork : (centre : ℕ) (ask : Ask) (ds es : List Deed) → Orders cent
 orders_fork centre ask ds es one two = begun centre ask one.0 two.0 ds es [] [] (Unit {0}) one.1 two.1 (λ same. inl (refl, tt))
 
 -- each step
-order_same : (n : ℕ) (step : OperatorStep) (ds es : List Deed) → OperatorDeeds n step ds → OperatorDeeds n step es → Same ds es
-order_same n (Down centre) ds es one two = orders_fork centre Stop ds es one two
-order_same n (Up centre) ds es one two = orders_fork centre Start ds es one two
-order_same n (ShipOne from to seq) ds es one two =
+order_same : (taps : ℕ → TapState) (n : ℕ) (step : OperatorStep) (ds es : List Deed) → OperatorDeeds n step ds → OperatorDeeds n step es → FeedsSo taps step ds → FeedsSo taps step es → Same ds es
+order_same taps n (Down centre) ds es one two feed other = orders_fork centre Stop ds es one two
+order_same taps n (Up centre) ds es one two feed other = orders_fork centre Start ds es one two
+order_same taps n (ShipOne from to seq) ds es one two feed other =
     with_line ds es one.asks two.asks one.end two.end (ship_line (route from to)) one.whole two.whole
     (sends_fork (route from to) (Some (Absent seq)) (Send (seq - 1) 1) one.asks two.asks one.end two.end one.sends two.sends)
-order_same n (Ship from to) ds es one two =
+order_same taps n (Ship from to) ds es one two feed other =
     with_line ds es one.asks two.asks one.end two.end (ship_line (route from to)) one.whole two.whole
     (supplies_fork (route from to) (own_need (route from to)) one.asks two.asks one.end two.end one.ships two.ships)
-order_same n (Relay from origin to) ds es one two =
+order_same taps n (Relay from origin to) ds es one two feed other =
     with_line ds es one.asks two.asks one.end two.end (relay_line (detour from origin to)) one.whole two.whole
     (supplies_fork (route from to) (origin_need (detour from origin to)) one.asks two.asks one.end two.end one.relays two.relays)
-order_same n (Tell from to) ds es one two =
+order_same taps n (Tell from to) ds es one two feed other =
     with_line ds es one.asks two.asks one.line two.line (λ line. line) one.whole two.whole
     (tells_fork (route from to) one.asks two.asks one.line two.line one.tells two.tells)
-order_same n (Prune centre) ds es one two =
+order_same taps n (Prune centre) ds es one two feed other =
     begun centre PruneAsk one.answer two.answer ds es (told (base_line centre one.answer)) (told (base_line centre two.answer)) (Unit {0}) one.whole two.whole
     (λ same. inl (ap (λ say. told (base_line centre say)) same, tt))
-order_same n (Link from to fault) ds es one two = both_are ds es [] one two
-order_same n Settle ds es one two = settles_fork n ds es one two
+order_same taps n (Link from to fault) ds es one two feed other = both_are ds es [] one two
+order_same taps n Settle ds es one two feed other = settles_fork n ds es one two
+order_same taps n (Feed centre) ds es one two feed other = feed_fork centre (taps centre).objects ds es feed other
 
--- the deeds of an operator's step are the same, or part at an answer
-pub order_fork : (n : ℕ) (step : OperatorStep) (ds es : List Deed) → OperatorDeeds n step ds → OperatorDeeds n step es → AreOneOrFork ds es
-order_fork n step ds es one two = one_or_fork ds es (Unit {0}) (order_same n step ds es one two)
+-- the deeds of an operator's step, which feeds the objects of taps, are the same, or part at an answer
+pub order_fork : (taps : ℕ → TapState) (n : ℕ) (step : OperatorStep) (ds es : List Deed) → OperatorDeeds n step ds → OperatorDeeds n step es → FeedsSo taps step ds → FeedsSo taps step es → AreOneOrFork ds es
+order_fork taps n step ds es one two feed other = one_or_fork ds es (Unit {0}) (order_same taps n step ds es one two feed other)

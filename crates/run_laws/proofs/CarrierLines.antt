@@ -1,6 +1,8 @@
 -- The operator and the workers tell no values that were read.
 use Rattle.std.proofs.Common.{◌≡◌, ℕ, Bool, true, false, cond, List, [], ◌∷◌, ◌++◌, Option, None, refl, sym, subst}
-use Rattle.std.specs.Prelude.{MatchBool}
+use Rattle.std.specs.Prelude.{MatchBool, All}
+use Rattle.std.specs.List.{cons_option}
+use Rattle.std.proofs.lemmas.List.Elements.{All-head, All-tail}
 use Rattle.dc_talk.specs.declared.sent.Sent.{Sent}
 use Rattle.dc_talk.specs.declared.ask.Ask.{Ask}
 use Rattle.dc_talk.specs.declared.ask.Ask.TheVariants.{Stop, Start, Report, Learn, Prune as PruneAsk}
@@ -15,12 +17,13 @@ use Rattle.dc_talk.specs.declared.line.ShipEnd.{ShipEnd}
 use Rattle.dc_talk.specs.declared.line.Line.{Line}
 use Rattle.dc_talk.specs.declared.line.Line.TheVariants as line
 use Rattle.script_core.specs.declared.steps.OperatorStep.{OperatorStep}
-use Rattle.script_core.specs.declared.steps.OperatorStep.TheVariants.{Down, Up, ShipOne, Ship, Relay, Tell, Prune, Link, Settle}
+use Rattle.script_core.specs.declared.steps.OperatorStep.TheVariants.{Down, Up, ShipOne, Ship, Relay, Tell, Prune, Link, Settle, Feed}
 use Rattle.script_core.specs.Deeds.{told}
 use Rattle.script_core.specs.Carrying.{Route, route, detour, detours, routes, ship_line, relay_line, tell_line, is_there, delivery_end, Delivers, AfterSend, Sends, AfterReport, Supplies, own_need, origin_need, Ships, Relays, AfterTold, Tells, InTurn, no_turn, next_turn, Passes, Settles, last_pass, one_pass}
 use Rattle.script_core.specs.Orders.{Orders, base_line, OperatorDeeds}
 use Rattle.script_core.specs.Rounds.{AfterNeeded, Brings, Mails, SenderDeeds, ReceiverDeeds, ReporterDeeds, PrunerDeeds, is_prune_round, others}
-use Rattle.run_laws.specs.ReadLines.{TellsReads}
+use Rattle.run_book.proofs.Happenings.Feeding.{feed_each}
+use Rattle.run_laws.specs.ReadLines.{value_told, value_due, TellsReads}
 use Rattle.run_laws.proofs.ClientLines.{both_told, mapped_told}
 
 module _ (c : ℕ) where
@@ -106,6 +109,14 @@ module _ (c : ℕ) where
   base_told centre DownSay = refl
   base_told centre _ = refl
 
+  -- deeds each of which tells what it reads
+  each_told : (deeds : List Deed) → All (λ deed. value_told deed ≡ value_due c deed) deeds → TellsReads c deeds
+  each_told [] all = refl
+  each_told (deed ∷ deeds) all =
+      let here : value_told deed ≡ value_due c deed = All-head (λ deed. value_told deed ≡ value_due c deed) deed deeds all in
+      let rest : TellsReads c deeds = each_told deeds (All-tail (λ deed. value_told deed ≡ value_due c deed) deed deeds all) in
+      λ i. cons_option (here i) (rest i)
+
   pub order_told : (n : ℕ) (step : OperatorStep) (deeds : List Deed) → OperatorDeeds n step deeds → TellsReads c deeds
   order_told n (Down centre) deeds are = ask_told centre Stop are.0 [] deeds are.1 refl
   order_told n (Up centre) deeds are = ask_told centre Start are.0 [] deeds are.1 refl
@@ -116,6 +127,7 @@ module _ (c : ℕ) where
   order_told n (Prune centre) deeds are = ask_told centre PruneAsk are.answer (told (base_line centre are.answer)) deeds are.whole (base_told centre are.answer)
   order_told n (Link from to fault) deeds are = none_told deeds are
   order_told n Settle deeds are = settles_told n deeds are
+  order_told n (Feed centre) deeds are = each_told deeds (feed_each (λ deed. value_told deed ≡ value_due c deed) centre (λ say. refl) (λ vector object say. refl) (λ fed. refl) are.0 deeds are.1)
 
   -- ---- the rounds of workers
 

@@ -29,6 +29,7 @@ use Rattle.dc_talk.specs.declared.line.StepWord.{StepWord}
 use Rattle.dc_talk.specs.declared.line.StepWord.TheVariants as step
 use Rattle.dc_talk.specs.declared.line.Line.{Line}
 use Rattle.dc_talk.specs.declared.line.Line.TheVariants as line
+use Rattle.dc_talk.specs.declared.seen.Seen.{Seen}
 use Rattle.dc_talk.specs.Logs.{commit_sent}
 use Rattle.dc_talk.specs.Clients.{Client}
 use Rattle.dc_talk.specs.Calls.{outcome_of}
@@ -38,8 +39,9 @@ use Rattle.script_core.specs.declared.steps.Share.{Share}
 use Rattle.script_core.specs.declared.steps.AskFault.{AskFault}
 use Rattle.script_core.specs.declared.steps.AskFault.TheVariants.{LoseAsk, LoseReply, Twice}
 use Rattle.script_core.specs.declared.steps.ClientStep.{ClientStep}
-use Rattle.script_core.specs.declared.steps.ClientStep.TheVariants.{Connect, Begin, Change, Read, Grant, Give, Take, Rights, Commit, Abort, Push, Flush, Refresh, Again, Arm}
+use Rattle.script_core.specs.declared.steps.ClientStep.TheVariants.{Connect, Begin, Change, Read, Grant, Give, Take, Rights, Commit, Abort, Push, Flush, Refresh, Again, Arm, Look}
 use Rattle.script_core.specs.Deeds.{Progress, StepDeeds, Asks, OrTells, OverNext, Pushes, PushesOn, FetchDeeds, CallDeeds, FlushDeeds, flush_ends, flush_goes, RefreshDeeds, AgainDeeds, CellsDeeds, AddsOwned, TakingDeeds, TellsRights, RightsDeeds, after_fetch, calls, calls_on, call_line, cell_inc, cell_line, cell_read, cell_to, change_call, is_of_rights, read_call, rights_got, share_cells, word_of, copies, fate_of, fetch_line, goes_on, hello_line, again_line, push_line, push_end, refresh_line, miss_of, pushed, told, took}
+use Rattle.script_core.specs.Taps.{looks}
 use Rattle.run_book.proofs.CellReads.{cells_hold}
 use Rattle.run_steps.specs.Calls.{IsCallOf, IsCellRead, adds_to}
 use Rattle.run_steps.proofs.EachDeed.{step_each}
@@ -310,7 +312,7 @@ adds_named share to amount call outcome is = subst (λ call. ReadsNoOther (Did c
 
 -- a step that makes no other calls than such
 cells_alone : (p : Progress) (does : ClientStep) (deeds : List Deed) → TellNone deeds → ((call : Call) (outcome : Outcome) → IsCallOf does call → ReadsNoOther (Did call outcome)) → StepDeeds p does deeds → ReadsCellsAlone deeds
-cells_alone p does deeds silent calls are = record { silent = silent; cells = step_each ReadsNoOther (λ i ask fate. tt) (λ line. tt) p does deeds calls are }
+cells_alone p does deeds silent calls are = record { silent = silent; cells = step_each ReadsNoOther (λ i ask fate. tt) (λ line plain. tt) p does deeds calls (λ centre object seen is. tt) are }
 
 -- ---- a flush
 
@@ -325,6 +327,11 @@ flush_told c p deeds (flush_goes first later parts on rest) =
     subst (TellsReads c) (sym parts) (both_told c first later (push_on_told c p first on) (flush_told c (pushed p first) later rest))
 
 -- ---- a step
+
+-- the line of a look has no value that was read
+look_told : (c client centre : ℕ) (object : ObjectId) (seen : Option Seen) → TellsReads c (looks client centre object seen)
+look_told c client centre object None = refl
+look_told c client centre object (Some seen) = plain_told c (line.Look client centre object seen) refl
 
 -- a client's step tells the values that it reads, and no others, or reads cells and tells none
 pub step_told : (p : Progress) (step : ClientStep) (deeds : List Deed) → StepDeeds p step deeds → TellsPart p.client.client deeds
@@ -346,3 +353,4 @@ step_told p Flush deeds flush = inl (flush_told p.client.client p deeds flush)
 step_told p Refresh deeds refresh = inl (over_told p.client.client p.client.link (line.RefreshUnconnected p.client.client) (RefreshDeeds p p.client.draft) deeds refl (λ link refresh. refreshes_told p.client.client p p.client.draft deeds link refresh) refresh)
 step_told p (Again centre number) deeds again = inl (over_told p.client.client (commit_sent number p.notes) (line.AgainNone p.client.client centre number) (AgainDeeds p.client.client centre number) deeds refl (λ tx again. late_told p.client.client p.client.client centre number tx deeds again) again)
 step_told p (Arm fault) deeds are = inl (subst (TellsReads p.client.client) (sym are) refl)
+step_told p (Look centre object) deeds are = inl (subst (TellsReads p.client.client) (sym are.1) (look_told p.client.client p.client.client centre object are.0))

@@ -6,3 +6,7 @@ pub mod ReadPlaces
 pub mod CarrierLines
 pub mod RunLines
 pub mod BookLines
+pub mod LookSteps
+pub mod Looking
+pub mod SectionLooks
+pub mod TurnLooks

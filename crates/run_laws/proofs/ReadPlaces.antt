@@ -27,7 +27,7 @@ use Rattle.dc_talk.specs.Clients.{Client}
 use Rattle.dc_talk.specs.Calls.{outcome_of}
 use Rattle.dc_talk.specs.Rule.{after, fetch_of}
 use Rattle.script_core.specs.declared.steps.ClientStep.{ClientStep}
-use Rattle.script_core.specs.declared.steps.ClientStep.TheVariants.{Connect, Begin, Change, Read, Grant, Give, Take, Rights, Commit, Abort, Push, Flush, Refresh, Again, Arm}
+use Rattle.script_core.specs.declared.steps.ClientStep.TheVariants.{Connect, Begin, Change, Read, Grant, Give, Take, Rights, Commit, Abort, Push, Flush, Refresh, Again, Arm, Look}
 use Rattle.script_core.specs.Deeds.{Progress, StepDeeds, Asks, CallDeeds, FetchDeeds, after_fetch, call_line, calls_on, copies, fate_of, fetch_line, read_call, told, took}
 use Rattle.run_steps.specs.Calls.{IsCallOf, adds_to}
 use Rattle.run_steps.proofs.EachDeed.{step_each}
@@ -136,7 +136,7 @@ plain_behind p does deeds plain are = ⊎_elim tells cells (step_told p does dee
     c = p.client.client
 
     tells : TellsReads c deeds → AreBehind deeds
-    tells same = none_behind deeds (same ∙ gives_none (value_due c) deeds (step_each (λ deed. value_due c deed ≡ None) (λ i ask fate. refl) (λ line. refl) p does deeds plain are))
+    tells same = none_behind deeds (same ∙ gives_none (value_due c) deeds (step_each (λ deed. value_due c deed ≡ None) (λ i ask fate. refl) (λ line none. refl) p does deeds plain (λ centre object seen is. refl) are))
 
     cells : ReadsCellsAlone deeds → AreBehind deeds
     cells alone = none_behind deeds alone.silent
@@ -162,3 +162,4 @@ step_behind p Flush deeds are = plain_behind p Flush deeds (λ call outcome is. 
 step_behind p Refresh deeds are = plain_behind p Refresh deeds (λ call outcome is. absurd is) are
 step_behind p (Again centre number) deeds are = plain_behind p (Again centre number) deeds (λ call outcome is. absurd is) are
 step_behind p (Arm fault) deeds are = plain_behind p (Arm fault) deeds (λ call outcome is. absurd is) are
+step_behind p (Look centre object) deeds are = plain_behind p (Look centre object) deeds (λ call outcome is. absurd is) are

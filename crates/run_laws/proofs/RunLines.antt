@@ -92,7 +92,7 @@ does_told n clients number stage (closes i) deeds has is = inl (receiver_told (w
 -- all that happened by moves of sections that are counted from 1
 plays_tale : (n clients : ℕ) (stage : Stage) (moves : List Move) (all : List Happened) → HasClients stage → ((one : Move) → In one moves → 1 ≤ one.section) → Plays n clients stage moves all → (a : ℕ) → IsTale a (notes_by a all)
 plays_tale n clients stage [] all has low no_moves a = none_tale a
-plays_tale n clients stage (one ∷ moves) all has low (next_move mine later whole at does rest) a =
+plays_tale n clients stage (one ∷ moves) all has low (next_move mine later whole at does taps rest) a =
     let actor = actor_of clients one.does in
     let own : IsTale actor mine = step_tale actor (actor - 1) one.section one.step mine refl (low one (inl refl)) at (does_told n clients one.step stage one.does (deeds_of mine) has does) in
     let here : IsTale a (notes_by a (happening actor mine)) = ⊎_elim

@@ -1,2 +1,3 @@
 pub mod OneBook
 pub mod ReadLines
+pub mod Looks

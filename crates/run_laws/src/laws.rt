@@ -8,6 +8,7 @@ ghost use Rattle.run_sections.specs.OneThread.{IsRunOf};
 ghost use Rattle.run_book.specs.Setups.{setup_of};
 ghost use Rattle.run_laws.specs.OneBook.{AreOne};
 ghost use Rattle.run_laws.specs.ReadLines.{TellsValues};
+ghost use Rattle.run_laws.specs.Looks.{ShowsTaps};
 
 use run_book::Book;
 
@@ -38,4 +39,12 @@ pub fn law_one_script()
 pub fn law_value_lines(book: &Book)
     ensures turns { (script : Script) → IsRunOf script book.now → TellsValues book.now (setup_of script) }
     ensures sections { (script : Script) → IsSectionRunOf script book.now → TellsValues book.now (setup_of script) }
+{}
+
+/// Each line of a look is of the client in whose log it stands, and shows what the tap of its centre has of the object
+/// where the section of the line begins: what the last feed in an earlier section found, and where none did the opening.
+/// So it is of a run on one thread (`turns`) and of one section by section (`sections`).
+pub fn law_looks(book: &Book)
+    ensures turns { (script : Script) → IsInRange script → IsRunOf script book.now → ShowsTaps script book.now }
+    ensures sections { (script : Script) → IsInRange script → IsSectionRunOf script book.now → ShowsTaps script book.now }
 {}

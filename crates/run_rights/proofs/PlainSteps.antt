@@ -2,6 +2,7 @@
 use Rattle.std.proofs.Common.{◌≡◌, ℕ, ◌⊎◌, inl, inr, ⊎_elim, false, List, [], ◌++◌, Option, Some, None, refl, sym, subst}
 use Rattle.std.specs.Prelude.{All}
 use Rattle.std.proofs.lemmas.List.Elements.{All-nil, All-cons, All-append}
+use Rattle.ids_core.specs.declared.object.ObjectId.{ObjectId}
 use Rattle.tx_core.specs.declared.tx.Tx.{Tx}
 use Rattle.tx_core.specs.declared.tx.Update.{Update}
 use Rattle.dc_talk.specs.declared.ask.Ask.{Ask}
@@ -19,6 +20,7 @@ use Rattle.dc_talk.specs.declared.line.Line.{Line}
 use Rattle.dc_talk.specs.declared.line.Line.TheVariants as line
 use Rattle.dc_talk.specs.declared.line.StepWord.{StepWord}
 use Rattle.dc_talk.specs.declared.line.StepWord.TheVariants as step
+use Rattle.dc_talk.specs.declared.seen.Seen.{Seen}
 use Rattle.dc_talk.specs.Logs.{commit_sent}
 use Rattle.dc_talk.specs.Clients.{Client}
 use Rattle.dc_talk.specs.Calls.{outcome_of}
@@ -27,9 +29,10 @@ use Rattle.script_core.specs.declared.object_call.ObjectCall.{ObjectCall}
 use Rattle.script_core.specs.declared.steps.AskFault.{AskFault}
 use Rattle.script_core.specs.declared.steps.AskFault.TheVariants.{LoseAsk, LoseReply, Twice}
 use Rattle.script_core.specs.declared.steps.ClientStep.{ClientStep}
-use Rattle.script_core.specs.declared.steps.ClientStep.TheVariants.{Connect, Begin, Change, Read, Grant, Give, Take, Rights, Commit, Abort, Push, Flush, Refresh, Again, Arm}
+use Rattle.script_core.specs.declared.steps.ClientStep.TheVariants.{Connect, Begin, Change, Read, Grant, Give, Take, Rights, Commit, Abort, Push, Flush, Refresh, Again, Arm, Look}
 use Rattle.script_core.specs.declared.steps.Share.{Share}
 use Rattle.script_core.specs.Deeds.{Progress, StepDeeds, Asks, OrTells, OverNext, Pushes, PushesOn, CallDeeds, FlushDeeds, flush_ends, flush_goes, RefreshDeeds, AgainDeeds, TakingDeeds, calls, calls_on, call_line, cell_inc, cell_to, change_call, read_call, copies, fate_of, goes_on, hello_line, push_line, pushed, refresh_line, again_line, told, took}
+use Rattle.script_core.specs.Taps.{looks}
 use Rattle.script_core.specs.Steps.{IsOwn, IsShare, IsShareOf, IsStep}
 use Rattle.run_rights.proofs.ObjectCalls.{object_each, on_each, told_each}
 use Rattle.run_rights.proofs.RightsLines.{IsPlainOr, TellsNone, plain_again, plain_call, plain_hello, plain_push, plain_refresh}
@@ -112,6 +115,11 @@ again_none client centre number tx deeds are = subst TellNone (sym are.1)
 
 -- ---- steps
 
+-- a look
+look_none : (client centre : ℕ) (object : ObjectId) (seen : Option Seen) → TellNone (looks client centre object seen)
+look_none client centre object None = All-nil TellsNone
+look_none client centre object (Some seen) = plain_told (Some (line.Look client centre object seen)) refl
+
 -- a share of the client was read, and a line tells its rights
 pub record TellsOwn (clients client : ℕ) (p : Progress) (deeds : List Deed) : Type 0 where
   pub share : Share
@@ -154,3 +162,4 @@ module _ (n clients client : ℕ) (p : Progress) (deeds : List Deed) where
   step_tells Refresh is own refresh = inl (over_none p.client.link (line.RefreshUnconnected p.client.client) (RefreshDeeds p p.client.draft) deeds refl (λ link refresh. refresh_none p p.client.draft deeds link refresh) refresh)
   step_tells (Again centre number) is own again = inl (over_none (commit_sent number p.notes) (line.AgainNone p.client.client centre number) (AgainDeeds p.client.client centre number) deeds refl (λ tx again. again_none p.client.client centre number tx deeds again) again)
   step_tells (Arm fault) is own are = inl (subst TellNone (sym are) (All-nil TellsNone))
+  step_tells (Look centre object) is own are = inl (subst TellNone (sym are.1) (look_none p.client.client centre object are.0))

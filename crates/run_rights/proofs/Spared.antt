@@ -57,4 +57,4 @@ module _ (cells : List ObjectId) where
 
 -- each deed of the step changes none of them
 pub spared : (cells : List ObjectId) (p : Progress) (step : ClientStep) (deeds : List Deed) → Spares cells step → StepDeeds p step deeds → All (ChangesNone cells) deeds
-spared cells p step deeds spares are = step_each (ChangesNone cells) (λ i ask fate o cell change is. absurd (cc)) (λ line o cell change is. absurd (cc)) p step deeds (call_spared cells step spares) are
+spared cells p step deeds spares are = step_each (ChangesNone cells) (λ i ask fate o cell change is. absurd (cc)) (λ line plain o cell change is. absurd (cc)) p step deeds (call_spared cells step spares) (λ centre object seen look o cell change is. absurd (cc)) are

@@ -40,7 +40,7 @@ asks_more trails others more ask.Stop h = tt
 asks_more trails others more ask.Start h = tt
 asks_more trails others more (ask.Hello client need) h = absurd h
 asks_more trails others more (ask.Refresh client here) h = absurd h
-asks_more trails others more (ask.Fetch o here) h = absurd h
+asks_more trails others more (ask.Fetch o here) h = tt
 asks_more trails others more (ask.Commit tx) h = absurd h
 
 -- and so with what it may do
@@ -100,7 +100,7 @@ module _ (script : Script) (notes : ℕ → List Note) (trails : ℕ → List En
     carries_allowed (Asked i ask.Start fate) is = tt
     carries_allowed (Asked i (ask.Hello client need) fate) is = absurd is
     carries_allowed (Asked i (ask.Refresh client here) fate) is = absurd is
-    carries_allowed (Asked i (ask.Fetch o here) fate) is = absurd is
+    carries_allowed (Asked i (ask.Fetch o here) fate) is = tt
     carries_allowed (Asked i (ask.Commit tx) fate) is = absurd is
     carries_allowed (Did call outcome) is = absurd is
     carries_allowed (Told line) is = tt

@@ -1,6 +1,6 @@
 -- A script without a phase that was played section by section: its steps happened one after another.
 use Rattle.std.proofs.Common.{◌≡◌, ◌≢◌, ◌≤◌, ◌<◌, ℕ, zero, suc, ◌+◌, ◌*◌, inl, inr, ⊎_elim, List, [], ◌∷◌, ◌++◌, map, length, Option, Some, None, false, refl, sym, ap, ◌∙◌, subst, arith}
-use Rattle.std.specs.Prelude.{All, cond, flat_map}
+use Rattle.std.specs.Prelude.{All, cond, flat_map, ◌==◌}
 use Rattle.std.specs.List.{filter_map, cons_option}
 use Rattle.std.proofs.lemmas.Bool.{cases_eq, cases_lt, eq-eqb, ne_eqb, false≢true}
 use Rattle.std.proofs.lemmas.List.{append-nil}
@@ -12,12 +12,16 @@ use Rattle.list_core.proofs.Members.{In_either, In_from_map}
 use Rattle.list_core.proofs.Passing.{In_filter_map, In_from_filter_map}
 use Rattle.dc_talk.specs.declared.ask.Ask.{Ask}
 use Rattle.dc_talk.specs.declared.say.Say.{Say}
+use Rattle.dc_talk.specs.declared.log.Deed.{Deed}
 use Rattle.dc_talk.specs.declared.log.Note.{Note}
 use Rattle.dc_talk.specs.Entries.{Entry}
 use Rattle.dc_talk.specs.Logs.{Logged, entry_for}
 use Rattle.script_core.specs.declared.script.Script.{Script}
+use Rattle.script_core.specs.declared.taps.TapState.{TapState}
 use Rattle.script_core.specs.declared.steps.ClientStep.{ClientStep}
+use Rattle.script_core.specs.declared.steps.ClientStep.TheVariants.{Look}
 use Rattle.script_core.specs.declared.steps.OperatorStep.{OperatorStep}
+use Rattle.script_core.specs.declared.steps.OperatorStep.TheVariants.{Feed}
 use Rattle.script_core.specs.declared.steps.Step.{Step}
 use Rattle.script_core.specs.declared.steps.Step.TheVariants.{Client, Operator}
 use Rattle.script_core.specs.declared.steps.Section.{Section}
@@ -27,16 +31,19 @@ use Rattle.script_core.specs.Deeds.{Progress, StepDeeds, stepped}
 use Rattle.script_core.specs.Rounds.{worker_of}
 use Rattle.script_core.specs.Rows.{section_of, IsSection}
 use Rattle.script_core.specs.Scripts.{header_of, IsInRange}
-use Rattle.script_core.specs.Steps.{IsCount, IsStepOf}
+use Rattle.script_core.specs.Steps.{IsCount, IsStep, IsOperatorStep, IsStepOf}
+use Rattle.script_core.specs.Feeds.{FeedDeeds, show_in}
+use Rattle.script_core.specs.Taps.{fed_tap, feed_in, FeedsSo, taps_fed, seen_through, looks, LooksSo}
 use Rattle.run_book.specs.declared.book.Book.{Book}
 use Rattle.run_book.specs.Parts.{trail_of, idle_log, notes_of, exchanged, entries_by}
 use Rattle.run_book.specs.Happenings.{Happened, note_by, notes_by, entry_in, trail_in, happening}
 use Rattle.run_book.specs.Moves.{Does, client_does, operator_does, actor_of, client_steps, moves_from}
-use Rattle.run_book.specs.Played.{Stage, DoesSo, stage_after, IsAt, Plays, no_moves, next_move, first_stage}
+use Rattle.run_book.specs.Played.{Stage, DoesSo, TapsSo, stage_after, IsAt, Plays, no_moves, next_move, first_stage}
 use Rattle.run_book.specs.Scripted.{HasSteps}
 use Rattle.run_book.proofs.Pairing.{entry_by}
 use Rattle.run_book.proofs.Happenings.Entries.{made_by, own_note, note_made, own_then, other_then, paired_in}
 use Rattle.run_sections.specs.Orders.{deeds_of, InOrder, none_left, one_first, ClientGoes, OperatorGoes}
+use Rattle.run_sections.specs.Taps.{OneLooks}
 use Rattle.run_sections.specs.Sections.{actors_of, Between, first_between, Left, PlaysSection}
 use Rattle.run_sections.specs.Runs.{PlaysSections, no_sections, next_section, IsSectionRunOf, HasNoPhase}
 use Rattle.run_sections.proofs.Actors.{by_actor}
@@ -122,9 +129,29 @@ module _ (script : Script) (number : ℕ) (left : Left) (actor : ℕ) (mine : Li
 
 -- ---- a section of one step
 
--- each client has come as far
-abbrev HaveComeAs : Script → Stage → Between → Type 0
-HaveComeAs script stage between = (client : ℕ) → IsCount script.clients client → stage.come client ≡ between.come client
+-- each client has come as far, and each centre's tap shows the same
+record StandsAs (script : Script) (stage : Stage) (between : Between) : Type 0 where
+  come : (client : ℕ) → IsCount script.clients client → stage.come client ≡ between.come client
+  taps : (i : ℕ) → IsCount script.n i → stage.taps i ≡ between.taps i
+
+-- taps that show the same at each of n centres
+abbrev pub AreAs : ℕ → (ℕ → TapState) → (ℕ → TapState) → Type 0
+AreAs n taps others = (i : ℕ) → IsCount n i → taps i ≡ others i
+
+-- a look through the one is a look through the other
+looks_as : (n client : ℕ) (taps others : ℕ → TapState) (step : ClientStep) (deeds : List Deed) → IsStep n step → AreAs n taps others → LooksSo taps client step deeds → LooksSo others client step deeds
+looks_as n client taps others (Look centre object) deeds is same look = subst (λ (tap : TapState). deeds ≡ looks client centre object (seen_through tap object)) (same centre is.0) look
+looks_as n client taps others _ deeds is same look = tt
+
+-- so is a feed
+feeds_as : (n : ℕ) (taps others : ℕ → TapState) (step : OperatorStep) (deeds : List Deed) → IsOperatorStep n step → AreAs n taps others → FeedsSo taps step deeds → FeedsSo others step deeds
+feeds_as n taps others (Feed centre) deeds is same feed = subst (λ (tap : TapState). FeedDeeds centre tap.objects deeds) (same centre is) feed
+feeds_as n taps others _ deeds is same feed = tt
+
+-- and behind it they show the same
+pub fed_as : (fed : Option ℕ) (deeds : List Deed) (taps others : ℕ → TapState) (i : ℕ) → taps i ≡ others i → taps_fed fed deeds taps i ≡ taps_fed fed deeds others i
+fed_as None deeds taps others i same = same
+fed_as (Some centre) deeds taps others i same = ap (λ (tap : TapState). cond (i == centre) (fed_tap (show_in deeds) tap) tap) same
 
 -- one actor took the step of a section, and nothing else was done
 record IsStepped (script : Script) (number : ℕ) (does : Does) (old : Between) (left : Left) (new : Between) : Type 0 where
@@ -133,8 +160,9 @@ record IsStepped (script : Script) (number : ℕ) (does : Does) (old : Between) 
   pub actor : IsCount (actors_of script) (actor_of script.clients does)
   pub notes : (a : ℕ) → IsCount (actors_of script) a → left.notes a ≡ notes_by a (happening (actor_of script.clients does) mine)
   pub entries : (i : ℕ) → IsCount script.n i → left.entries i ≡ trail_in i (happening (actor_of script.clients does) mine)
-  pub did : (stage : Stage) → HaveComeAs script stage old → DoesSo script.n stage 1 does (deeds_of mine)
-  pub come : (stage : Stage) → HaveComeAs script stage old → HaveComeAs script (stage_after does mine stage) new
+  pub did : (stage : Stage) → StandsAs script stage old → DoesSo script.n stage 1 does (deeds_of mine)
+  pub tapped : (stage : Stage) → StandsAs script stage old → TapsSo stage.taps does (deeds_of mine)
+  pub then_is : (stage : Stage) → StandsAs script stage old → StandsAs script (stage_after does mine stage) new
 
 module _ (script : Script) (number : ℕ) (step : Step) (old : Between) (left : Left) (new : Between) (plays : PlaysSection script number (section_of step) old left new) where
   -- no worker did anything
@@ -148,19 +176,20 @@ module _ (script : Script) (number : ℕ) (step : Step) (old : Between) (left : 
 other_steps : (client c : ℕ) (does : ClientStep) → c ≢ client → client_steps client (section_of (Client c does)) ≡ []
 other_steps client c does differs = ap (λ test. cons_option (when test does) []) (ne_eqb c client differs)
 
-own_steps : (c : ℕ) (does : ClientStep) → client_steps c (section_of (Client c does)) ≡ does ∷ []
+pub own_steps : (c : ℕ) (does : ClientStep) → client_steps c (section_of (Client c does)) ≡ does ∷ []
 own_steps c does = ap (λ test. cons_option (when test does) []) (eq-eqb c c refl)
 
 -- a client took it
-client_stepped : (script : Script) (number c : ℕ) (does : ClientStep) (old : Between) (left : Left) (new : Between) → IsCount script.clients c → PlaysSection script number (section_of (Client c does)) old left new → IsStepped script number (client_does c does) old left new
-client_stepped script number c does old left new client plays = record {
+client_stepped : (script : Script) (number c : ℕ) (does : ClientStep) (old : Between) (left : Left) (new : Between) → IsCount script.clients c → IsStep script.n does → PlaysSection script number (section_of (Client c does)) old left new → IsStepped script number (client_does c does) old left new
+client_stepped script number c does old left new client is plays = record {
   mine = mine;
   at = one.at;
   actor = actor;
   notes = alone_notes script number left (c + 1) mine refl others;
   entries = alone_trails script number left (c + 1) mine refl others (λ i entry centre there. plays.callers i entry centre there) (λ i a centre there. plays.paired i a centre there) actor;
-  did = λ stage come. subst (λ (p : Progress). StepDeeds p does (deeds_of mine)) (sym (come c client)) one.does.0;
-  come = later;
+  did = λ stage stands. subst (λ (p : Progress). StepDeeds p does (deeds_of mine)) (sym (stands.come c client)) one.does.0;
+  tapped = λ stage stands. looks_as script.n c old.taps stage.taps does (deeds_of mine) is (λ i there. sym (stands.taps i there)) looked;
+  then_is = λ stage stands. record { come = later stage stands.come; taps = λ i there. stands.taps i there ∙ sym (plays.taps.behind i there) };
 }
   where
     mine : List Note
@@ -172,6 +201,9 @@ client_stepped script number c does old left new client plays = record {
     one : IsOne ClientGoes number (old.come c) does mine (new.come c)
     one = one_done ClientGoes number (old.come c) (new.come c) (client_steps c (section_of (Client c does))) does mine (own_steps c does) (plays.clients c client)
 
+    looked : LooksSo old.taps c does (deeds_of mine)
+    looked = subst (λ steps. OneLooks old.taps c steps (deeds_of mine)) (own_steps c does) (plays.taps.looks c client refl)
+
     idle : (other : ℕ) → IsCount script.clients other → c ≢ other → (left.notes (other + 1) ≡ []) × (new.come other ≡ old.come other)
     idle other range differs = none_done ClientGoes number (old.come other) (new.come other) (client_steps other (section_of (Client c does))) (left.notes (other + 1)) (other_steps other c does differs) (plays.clients other range)
 
@@ -182,7 +214,7 @@ client_stepped script number c does old left new client plays = record {
         (λ i role centre differs. worker_none script number (Client c does) old left new plays i role centre)
         a range
 
-    later : (stage : Stage) → HaveComeAs script stage old → HaveComeAs script (stage_after (client_does c does) mine stage) new
+    later : (stage : Stage) → ((client : ℕ) → IsCount script.clients client → stage.come client ≡ old.come client) → (other : ℕ) → IsCount script.clients other → (stage_after (client_does c does) mine stage).come other ≡ new.come other
     later stage come other there = ⊎_elim
         (λ (same : other ≡ c). subst (λ o. (stage_after (client_does c does) mine stage).come o ≡ new.come o) (sym same)
         (ap (λ test. cond test (stepped (stage.come c) does mine) (stage.come c)) (eq-eqb c c refl)
@@ -193,15 +225,19 @@ client_stepped script number c does old left new client plays = record {
         (cases_eq other c)
 
 -- the operator took it
-operator_stepped : (script : Script) (number : ℕ) (does : OperatorStep) (old : Between) (left : Left) (new : Between) → PlaysSection script number (section_of (Operator does)) old left new → IsStepped script number (operator_does does) old left new
-operator_stepped script number does old left new plays = record {
+operator_stepped : (script : Script) (number : ℕ) (does : OperatorStep) (old : Between) (left : Left) (new : Between) → IsOperatorStep script.n does → PlaysSection script number (section_of (Operator does)) old left new → IsStepped script number (operator_does does) old left new
+operator_stepped script number does old left new is plays = record {
   mine = mine;
   at = one.at;
   actor = actor;
   notes = alone_notes script number left 1 mine refl others;
   entries = alone_trails script number left 1 mine refl others (λ i entry centre there. plays.callers i entry centre there) (λ i a centre there. plays.paired i a centre there) actor;
-  did = λ stage come. one.does;
-  come = λ stage come other there. come other there ∙ sym (idle other there).1;
+  did = λ stage stands. one.does;
+  tapped = λ stage stands. feeds_as script.n old.taps stage.taps does (deeds_of mine) is (λ i there. sym (stands.taps i there)) (plays.taps.feeds refl);
+  then_is = λ stage stands. record {
+    come = λ other there. stands.come other there ∙ sym (idle other there).1;
+    taps = λ i there. fed_as (feed_in does) (deeds_of mine) stage.taps old.taps i (stands.taps i there) ∙ sym (plays.taps.behind i there);
+  };
 }
   where
     mine : List Note
@@ -228,7 +264,7 @@ operator_stepped script number does old left new plays = record {
 -- what happened in sections, one step after another
 record IsUnrolled (script : Script) (number : ℕ) (here : Between) (sections : List Section) (lefts : List Left) : Type 0 where
   pub all : List Happened
-  pub plays : (stage : Stage) → HaveComeAs script stage here → Plays script.n script.clients stage (moves_from script number sections) all
+  pub plays : (stage : Stage) → StandsAs script stage here → Plays script.n script.clients stage (moves_from script number sections) all
   pub notes : (a : ℕ) → IsCount (actors_of script) a → flat_map (λ (left : Left). left.notes a) lefts ≡ notes_by a all
   pub entries : (i : ℕ) → IsCount script.n i → flat_map (λ (left : Left). left.entries i) lefts ≡ trail_in i all
   pub actors : (h : Happened) → In h all → IsCount (actors_of script) h.actor
@@ -241,13 +277,13 @@ step_does (Operator step) = operator_does step
 module _ (script : Script) where
   -- a step was taken
   was_stepped : (number : ℕ) (step : Step) (old : Between) (left : Left) (new : Between) → IsStepOf (header_of script) step → PlaysSection script number (section_of step) old left new → IsStepped script number (step_does step) old left new
-  was_stepped number (Client c does) old left new is plays = client_stepped script number c does old left new is.0 plays
-  was_stepped number (Operator does) old left new is plays = operator_stepped script number does old left new plays
+  was_stepped number (Client c does) old left new is plays = client_stepped script number c does old left new is.0 is.1 plays
+  was_stepped number (Operator does) old left new is plays = operator_stepped script number does old left new is plays
 
   -- the moves of a section of one step, and of those behind it
-  plays_step : (number : ℕ) (step : Step) (old : Between) (left : Left) (new : Between) (rest : List Section) (later : List Happened) → (one : IsStepped script number (step_does step) old left new) → ((stage : Stage) → HaveComeAs script stage new → Plays script.n script.clients stage (moves_from script (number + 1) rest) later) → (stage : Stage) → HaveComeAs script stage old → Plays script.n script.clients stage (moves_from script number (section_of step ∷ rest)) (happening (actor_of script.clients (step_does step)) one.mine ++ later)
-  plays_step number (Client c does) old left new rest later one goes_on stage come = next_move one.mine later refl one.at (one.did stage come) (goes_on (stage_after (client_does c does) one.mine stage) (one.come stage come))
-  plays_step number (Operator does) old left new rest later one goes_on stage come = next_move one.mine later refl one.at (one.did stage come) (goes_on (stage_after (operator_does does) one.mine stage) (one.come stage come))
+  plays_step : (number : ℕ) (step : Step) (old : Between) (left : Left) (new : Between) (rest : List Section) (later : List Happened) → (one : IsStepped script number (step_does step) old left new) → ((stage : Stage) → StandsAs script stage new → Plays script.n script.clients stage (moves_from script (number + 1) rest) later) → (stage : Stage) → StandsAs script stage old → Plays script.n script.clients stage (moves_from script number (section_of step ∷ rest)) (happening (actor_of script.clients (step_does step)) one.mine ++ later)
+  plays_step number (Client c does) old left new rest later one goes_on stage stands = next_move one.mine later refl one.at (one.did stage stands) (one.tapped stage stands) (goes_on (stage_after (client_does c does) one.mine stage) (one.then_is stage stands))
+  plays_step number (Operator does) old left new rest later one goes_on stage stands = next_move one.mine later refl one.at (one.did stage stands) (one.tapped stage stands) (goes_on (stage_after (operator_does does) one.mine stage) (one.then_is stage stands))
 
   -- one step, and what happened behind it
   step_first : (number : ℕ) (step : Step) (old : Between) (left : Left) (new : Between) (rest : List Section) (lefts : List Left) → IsStepped script number (step_does step) old left new → IsUnrolled script (number + 1) new rest lefts → IsUnrolled script number old (section_of step ∷ rest) (left ∷ lefts)
@@ -269,7 +305,7 @@ module _ (script : Script) where
   unrolled : (number : ℕ) (here last : Between) (sections : List Section) (lefts : List Left) → All (IsSection (header_of script)) sections → All (λ (section : Section). section.phase ≡ false) sections → PlaysSections script number here sections lefts last → IsUnrolled script number here sections lefts
   unrolled number here last [] lefts sound lines no_sections = record {
     all = [];
-    plays = λ stage come. no_moves;
+    plays = λ stage stands. no_moves;
     notes = λ a range. refl;
     entries = λ i centre. refl;
     actors = λ h there. absurd there;
@@ -331,7 +367,7 @@ module _ (script : Script) (b : Book) (range : IsInRange script) (lines : HasNoP
   pub has_steps : HasSteps script b
   has_steps = record {
     all = u.all;
-    plays = u.plays (first_stage script) (λ client there. refl);
+    plays = u.plays (first_stage script) (record { come = λ client there. refl; taps = λ i there. refl });
     notes = noted;
     trails = entered;
   }

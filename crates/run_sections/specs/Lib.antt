@@ -1,4 +1,5 @@
 pub mod Orders
+pub mod Taps
 pub mod Sections
 pub mod Runs
 pub mod OneThread

@@ -1,12 +1,13 @@
 -- What a section of a script leaves where its actors act at once. No order is said between two actors, nor between two
 -- centres.
-use Rattle.std.specs.Prelude.{◌≡◌, ◌≢◌, ℕ, ◌+◌, ◌*◌, ◌==◌, ◌&&◌, true, cond, replicate, List, [], ◌∷◌, ◌++◌}
+use Rattle.std.specs.Prelude.{◌≡◌, ◌≢◌, ℕ, ◌+◌, ◌*◌, ◌==◌, ◌&&◌, true, false, cond, replicate, List, [], ◌∷◌, ◌++◌}
 use Rattle.std.specs.List.{range_with_len}
 use Rattle.list_core.specs.Members.{In}
 use Rattle.dc_talk.specs.declared.sent.Sent.{Sent}
 use Rattle.dc_talk.specs.declared.log.Note.{Note}
 use Rattle.dc_talk.specs.Entries.{Entry}
 use Rattle.script_core.specs.declared.script.Script.{Script}
+use Rattle.script_core.specs.declared.taps.TapState.{TapState}
 use Rattle.script_core.specs.declared.steps.OperatorStep.{OperatorStep}
 use Rattle.script_core.specs.declared.steps.OperatorStep.TheVariants.{Link}
 use Rattle.script_core.specs.declared.steps.Section.{Section}
@@ -15,21 +16,25 @@ use Rattle.script_core.specs.Steps.{IsCount}
 use Rattle.script_core.specs.Deeds.{Progress}
 use Rattle.script_core.specs.Links.{Inlet, clean_inlet, inlet_set}
 use Rattle.script_core.specs.Rounds.{worker_of, mailed}
+use Rattle.script_core.specs.Taps.{first_tap}
 use Rattle.run_book.specs.Parts.{exchanged, entries_by}
 use Rattle.run_book.specs.Moves.{client_steps, operator_steps}
 use Rattle.run_book.specs.Played.{new_progress}
 use Rattle.run_sections.specs.Orders.{deeds_of, InOrder, ClientGoes, OperatorGoes, SenderGoes, ReporterGoes, PrunerGoes, Intake, intake, Receipt, takes_some, takes_rest, ReceiverGoes}
+use Rattle.run_sections.specs.Taps.{OneLooks, OneFeeds, taps_behind}
 
 -- ---- between two sections
 
--- how far each client has come, and the end of each link between two centres; nothing lies on a link then
+-- how far each client has come, the end of each link between two centres, and what each centre's tap shows; nothing
+-- lies on a link then
 pub record Between : Type 0 where
   pub come : ℕ → Progress
   pub inlets : ℕ → ℕ → Inlet Sent
+  pub taps : ℕ → TapState
 
 -- before the first section of a script
 abbrev pub first_between : Script → Between
-first_between script = record { come = λ client. new_progress script.n client script.cache; inlets = λ from to. clean_inlet }
+first_between script = record { come = λ client. new_progress script.n client script.cache; inlets = λ from to. clean_inlet; taps = first_tap script.n script.taps }
 
 -- the end of a link as steps of the operator set it, one after another
 abbrev pub linked : List OperatorStep → ℕ → ℕ → Inlet Sent → Inlet Sent
@@ -69,6 +74,13 @@ pub record Receives (script : Script) (number : ℕ) (section : Section) (old : 
   pub all : (from : ℕ) → IsCount script.n from → from ≢ j → section.phase ≡ true → (last from).taken ≡ mail_left script left from j
   pub inlets : (from : ℕ) → IsCount script.n from → from ≢ j → new.inlets from j ≡ (last from).inlet
 
+-- in a section that is no phase a look sees what its tap shows, and a feed asks for the objects of its tap, which shows
+-- behind it what was found; a phase leaves the taps
+pub record PlaysTaps (script : Script) (section : Section) (old : Between) (left : Left) (new : Between) : Type 0 where
+  pub looks : (client : ℕ) → IsCount script.clients client → section.phase ≡ false → OneLooks old.taps client (client_steps client section) (deeds_of (left.notes (client + 1)))
+  pub feeds : section.phase ≡ false → OneFeeds old.taps (operator_steps section) (deeds_of (left.notes 1))
+  pub behind : (i : ℕ) → IsCount script.n i → new.taps i ≡ cond section.phase (old.taps i) (taps_behind (operator_steps section) (deeds_of (left.notes 1)) old.taps i)
+
 -- each actor does what is its part of the section of a number, one thing after another; and at each centre the entries
 -- of each actor are what it exchanged there, in its order, with no others
 pub record PlaysSection (script : Script) (number : ℕ) (section : Section) (old : Between) (left : Left) (new : Between) : Type 0 where
@@ -78,5 +90,6 @@ pub record PlaysSection (script : Script) (number : ℕ) (section : Section) (ol
   pub receivers : (j : ℕ) → IsCount script.n j → Receives script number section old left new j
   pub reporters : (i : ℕ) → IsCount script.n i → InOrder (ReporterGoes script.n i) number 1 tt (rounds_in script section) (left.notes (worker_of script.clients i Reporter)) tt
   pub pruners : (i : ℕ) → IsCount script.n i → InOrder (PrunerGoes i) number 1 tt (rounds_in script section) (left.notes (worker_of script.clients i Pruner)) tt
+  pub taps : PlaysTaps script section old left new
   pub callers : (i : ℕ) (entry : Entry) → IsCount script.n i → In entry (left.entries i) → IsCount (actors_of script) entry.caller
   pub paired : (i a : ℕ) → IsCount script.n i → IsCount (actors_of script) a → entries_by a (left.entries i) ≡ exchanged i (left.notes a)

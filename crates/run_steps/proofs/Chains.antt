@@ -75,7 +75,7 @@ module _ (script : Script) (a : ℕ) (low : 2 ≤ a) (high : a ≤ script.client
   -- all moves
   chained : (stage : Stage) (moves : List Move) (all : List Happened) → ((client : ℕ) → (stage.come client).client.client ≡ client) → ((m : Move) → In m moves → IsTheirs script m.does) → Plays script.n clients stage moves all → IsChain (notes_by a all)
   chained _ _ _ who theirs no_moves = no_steps
-  chained _ _ _ who theirs (next_move {stage = stage} {move = move} {moves = moves} {all = all} mine later whole at does plays) =
+  chained _ _ _ who theirs (next_move {stage = stage} {move = move} {moves = moves} {all = all} mine later whole at does taps plays) =
       subst IsChain (sym (ap (notes_by a) whole ∙ filter_map-append (note_by a) (happening (actor_of clients move.does) mine) later))
       (moved stage move.step move.does mine later who (theirs move (inl refl)) does
       (chained _ moves later (come_who move.does mine stage.come who) (λ m i. theirs m (inr i)) plays))

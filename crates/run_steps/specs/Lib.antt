@@ -1,3 +1,4 @@
 pub mod Logs
 pub mod Calls
+pub mod Looks
 pub mod Quiet

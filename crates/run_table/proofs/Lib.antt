@@ -5,3 +5,6 @@ pub mod Lines
 pub mod Allowing
 pub mod Reading
 pub mod Framing
+pub mod Taps
+pub mod Looks
+pub mod Objects

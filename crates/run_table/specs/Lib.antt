@@ -1,4 +1,5 @@
 pub mod Framing
 pub mod Dealing
 pub mod Works
+pub mod Taps
 pub mod Tables

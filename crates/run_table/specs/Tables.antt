@@ -17,6 +17,7 @@ use Rattle.script_core.specs.declared.script.Script.{Script}
 use Rattle.script_core.specs.declared.steps.ClientStep.{ClientStep}
 use Rattle.script_core.specs.declared.steps.OperatorStep.{OperatorStep}
 use Rattle.script_core.specs.Steps.{IsCount}
+use Rattle.script_core.specs.Taps.{FeedsSo, taps_then, LooksSo}
 use Rattle.client_stub.specs.Playing.{StubView, IsLinkBehind, Takes, Operates, beside}
 use Rattle.script_core.specs.Mail.{Post}
 use Rattle.dc_mail.specs.Posts.{post_at, new_posts}
@@ -27,6 +28,7 @@ use Rattle.run_table.specs.declared.table.Table.{Table}
 use Rattle.run_table.specs.declared.works.Work.{Work}
 use Rattle.run_table.specs.Framing.{AreFramed}
 use Rattle.run_table.specs.Works.{HasWorkedPart}
+use Rattle.run_table.specs.Taps.{no_tap, taps_of, new_taps}
 
 -- ---- at first
 
@@ -48,6 +50,7 @@ pub record IsNew (script : Script) (table : Table) : Type 0 where
   pub stubs : table.stubs.items ≡ new_stubs script.n script.cache script.clients
   pub logs : table.logs.items ≡ new_logs (1 + script.clients + 4 * script.n)
   pub posts : table.posts ≡ new_posts
+  pub taps : table.taps.items ≡ new_taps script.n script.taps
 
 -- ---- a step
 
@@ -81,23 +84,28 @@ pub record IsTurn (turn : Turn) (log : Logged) (old new : Table) : Type 0 where
   pub settings : map (λ centre. centre.settings) new.door.centres ≡ map (λ centre. centre.settings) old.door.centres
   pub histories : AreHistories new.door.centres
 
--- a client took a step through the door in its turn
+-- a client took a step through the door in its turn, and saw what the tap shows where it looked through one
 pub record HasStepped (turn : Turn) (step : ClientStep) (old new : Table) : Type 0 where
   pub stub : StubView
   pub there : slice_get old.stubs.items (turn.actor - 2) ≡ Some stub
   pub later : StubView
   pub log : Logged
   pub takes : Takes step (beside stub (shown_of (begun turn.actor old.door.centres)) (log_in turn (log_at old.logs.items turn.actor))) (beside later (shown_of new.door) log)
+  pub looks : LooksSo (taps_of old.taps.items) stub.client.client step takes.deeds
   pub stubs : new.stubs.items ≡ slice_set old.stubs.items (turn.actor - 2) later
   pub posts : new.posts ≡ old.posts
+  pub taps : new.taps.items ≡ old.taps.items
   pub turn_is : IsTurn turn log old new
 
--- the operator took a step through the door in its turn
+-- the operator took a step through the door in its turn, fed the objects of the tap where it fed one, and the taps are as
+-- that leaves them
 pub record HasOperated (turn : Turn) (step : OperatorStep) (old new : Table) : Type 0 where
   pub log : Logged
   pub operates : Operates (length old.door.centres) step (acting (shown_of (begun turn.actor old.door.centres)) (log_in turn (log_at old.logs.items turn.actor))) (acting (shown_of new.door) log)
   pub stubs : new.stubs ≡ old.stubs
   pub posts : HasPosts (length old.door.centres) (operator_does step) operates.deeds old.posts new.posts
+  pub feeds : FeedsSo (taps_of old.taps.items) step operates.deeds
+  pub taps : (centre : ℕ) → taps_of new.taps.items centre ≡ taps_then step operates.deeds (taps_of old.taps.items) centre
   pub turn_is : IsTurn turn log old new
 
 -- the turn of an actor outside of the script
@@ -111,11 +119,12 @@ pub record HasAskedOnce (actor centre : ℕ) (ask : Ask) (old new : Table) : Typ
   pub leaves : Leaves (acting (shown_of (begun actor old.door.centres)) (log_in (outside actor) (log_at old.logs.items actor))) (acting (shown_of new.door) log) (Asked centre ask (Unheard say) ∷ [])
   pub stubs : new.stubs ≡ old.stubs
   pub posts : new.posts ≡ old.posts
+  pub taps : new.taps.items ≡ old.taps.items
   pub turn_is : IsTurn (outside actor) log old new
 
--- links on which this lies, whoever came how far
+-- links on which this lies, whoever came how far, and whatever taps show
 abbrev pub stage_with : List Post → Stage
-stage_with posts = record { come = λ client. new_progress 0 client 0; posts = post_at posts }
+stage_with posts = record { come = λ client. new_progress 0 client 0; posts = post_at posts; taps = λ centre. no_tap }
 
 -- a worker made a round of a number over links, through a door: a log and what the door shows grow by deeds that are due,
 -- and the links are as they leave them, where all that they mail has frames
@@ -130,6 +139,7 @@ pub record HasMadeRound (turn : Turn) (does : Does) (old new : Table) : Type 0 w
   pub log : Logged
   pub works : HasWorked (length old.door.centres) turn.step does old.posts new.posts (acting (shown_of (begun turn.actor old.door.centres)) (log_in turn (log_at old.logs.items turn.actor))) (acting (shown_of new.door) log)
   pub stubs : new.stubs ≡ old.stubs
+  pub taps : new.taps.items ≡ old.taps.items
   pub turn_is : IsTurn turn log old new
 
 -- ---- an early end
@@ -142,29 +152,33 @@ pub record IsCutTurn (turn : Turn) (old new : Table) : Type 0 where
   pub turn_is : IsTurn turn log old new
 
 -- a client's turn came to an early end: of the clients this one alone may have changed, and its link goes to one of the
--- centres or to none
+-- centres or to none; no tap changed
 pub record HasSteppedPart (turn : Turn) (old new : Table) : Type 0 where
   pub later : StubView
   pub linked : IsLinkBehind (shown_of new.door) later.client
   pub stubs : new.stubs.items ≡ slice_set old.stubs.items (turn.actor - 2) later
   pub posts : new.posts ≡ old.posts
+  pub taps : new.taps.items ≡ old.taps.items
   pub cut : IsCutTurn turn old new
 
--- the operator's turn came to an early end: no client changed, and no link
+-- the operator's turn came to an early end: no client changed, no link, and no tap
 pub record HasOperatedPart (turn : Turn) (old new : Table) : Type 0 where
   pub stubs : new.stubs ≡ old.stubs
   pub posts : new.posts ≡ old.posts
+  pub taps : new.taps.items ≡ old.taps.items
   pub cut : IsCutTurn turn old new
 
--- a worker's turn came to an early end: no client changed, and the links as far as its work came
+-- a worker's turn came to an early end: no client changed and no tap, and the links as far as its work came
 pub record HasMadeRoundPart (turn : Turn) (centre : ℕ) (does : Work) (old new : Table) : Type 0 where
   pub cut : IsCutTurn turn old new
   pub works : HasWorkedPart (length old.door.centres) centre does old.posts new.posts (acting (shown_of (begun turn.actor old.door.centres)) (log_in turn (log_at old.logs.items turn.actor))) (acting (shown_of new.door) cut.log)
   pub stubs : new.stubs ≡ old.stubs
+  pub taps : new.taps.items ≡ old.taps.items
 
 -- an ask outside of the script came to an early end: it was not made, or the centre answered it and no log has a note of it
 pub record HasAskedOncePart (actor centre : ℕ) (ask : Ask) (old new : Table) : Type 0 where
   pub asked : HasNotAsked (shown_of (begun actor old.door.centres)) (shown_of new.door) ⊎ ((say : Say) × HasAsked (shown_of (begun actor old.door.centres)) (shown_of new.door) centre (entry_for actor (ask, say)))
   pub stubs : new.stubs ≡ old.stubs
   pub posts : new.posts ≡ old.posts
+  pub taps : new.taps.items ≡ old.taps.items
   pub turn_is : IsTurn (outside actor) (log_in (outside actor) (log_at old.logs.items actor)) old new

@@ -1,8 +1,11 @@
-//! The table of a run on one thread: centres behind a door that keeps them, clients, the logs of all actors, and the links.
-//! A step of an actor changes it as the script says. The steps of a phase are dealt to its actors.
+//! The table of a run on one thread: centres behind a door that keeps them, clients, the logs of all actors, the links, and
+//! the taps of the centres. A step of an actor changes it as the script says. The steps of a phase are dealt to its actors.
 #![tactic(auto)]
 
 mod dealing;
+mod feeding;
+mod looking;
+mod opening;
 mod table;
 mod trails;
 mod works;

@@ -10,17 +10,20 @@ ghost use Rattle.run_table.specs.Works.{work_of};
 ghost use Rattle.run_book.specs.Moves.{actor_of, operator_does};
 ghost use Rattle.dc_talk.specs.declared.log.Deed.{Deed as DeedOf};
 
+use crate::feeding::order_step;
+use crate::looking::take_step;
+use crate::opening::first_taps;
 use crate::works::{Work, make_round};
 use client_session::Session;
-use client_stub::{Stub, operate};
+use client_stub::Stub;
 use dc_door::{KeptDoor, centres_of};
 use dc_mail::Posts;
 use dc_talk::{Ask, Deed, Door, Fate, Log};
 use ids_core::NoMemory;
-use script_core::{ClientStep, OperatorStep, Script};
+use script_core::{ClientStep, OperatorStep, Script, TapState};
 use std::alloc::Global;
 
-/// The centres behind their door, the clients in order, the logs of all actors, and what lies on the links.
+/// The centres behind their door, the clients in order, the logs of all actors, what lies on the links, and the taps.
 #[derive(Drop)]
 pub struct Table {
     /// The door to the centres, which keeps them with their trails.
@@ -31,6 +34,8 @@ pub struct Table {
     pub logs: Vec<Log>,
     /// What lies on the links between the centres.
     pub posts: Posts,
+    /// The tap of each centre, in order of their numbers from 1 on.
+    pub taps: Vec<TapState>,
 }
 
 // So many clients among `n` centres at first, each with a cache for so many entries.
@@ -85,6 +90,7 @@ impl Table {
             stubs,
             logs,
             posts: Posts::new(alloc)?,
+            taps: first_taps(alloc, script.n, script.taps.as_slice())?,
         })
     }
 
@@ -110,7 +116,8 @@ impl Table {
         let log = &mut self.logs[client as usize];
         log.set(section, number);
         let stub = &mut self.stubs[(client - 1) as usize];
-        let ended = stub.step(alloc, &mut self.door, step, log);
+        let taps = self.taps.as_slice();
+        let ended = take_step(alloc, stub, &mut self.door, taps, step, log);
         self.door.histories();
         ended
     }
@@ -119,6 +126,7 @@ impl Table {
     /// memory, a part of the step may be left: in its log, and at the centres.
     pub fn order(
         &mut self,
+        alloc: Global,
         n: u8,
         section: u32,
         number: u32,
@@ -134,7 +142,7 @@ impl Table {
         self.door.set(1);
         let log = &mut self.logs[0];
         log.set(section, number);
-        match operate(&mut self.door, n, step, log) {
+        match order_step(alloc, &mut self.door, n, &mut self.taps, step, log) {
             Ok(()) => {
                 set_link(&mut self.posts, n, step);
                 self.door.histories();

@@ -12,6 +12,7 @@ mod near;
 mod places;
 mod refusal;
 mod shown;
+mod taps;
 mod values;
 mod words;
 

@@ -2,6 +2,7 @@
 use crate::before::Before;
 use crate::lines::word_at;
 use crate::shown::quoted;
+use crate::taps::odd_tap;
 use script_reader::{Form, Reading};
 use std::alloc::{AllocError, Global};
 
@@ -59,12 +60,11 @@ fn odd_header(alloc: Global, reading: &Reading, form: Form) -> Result<String, Al
 
 // Of a line that stands before the header is complete.
 fn early_line(alloc: Global, reading: &Reading, form: Form) -> Result<String, AllocError> {
-    let noun = if is_setting(form) {
-        "a setting"
-    } else if matches!(form, Form::Phase) {
-        "a phase"
-    } else {
-        "a step"
+    let noun = match form {
+        Form::Tap => "a tap",
+        Form::Phase => "a phase",
+        _ if is_setting(form) => "a setting",
+        _ => "a step",
     };
     let next = next_of_header(reading);
     format!(in alloc; "{noun} may not stand before the header is complete; expected {next}")
@@ -109,6 +109,11 @@ pub fn odd_place_of(
         ),
         _ if reading.header().is_none() => early_line(alloc, reading, form),
         _ if is_setting(form) => odd_setting(alloc, reading, form, first.as_str()),
+        Form::Tap => odd_tap(alloc, reading, words),
+        Form::Look => {
+            let second = quoted(alloc, word_at(words, 1))?;
+            odd_in_phase(alloc, before, second.as_str())
+        }
         _ => odd_in_phase(alloc, before, first.as_str()),
     }
 }

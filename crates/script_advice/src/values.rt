@@ -1,7 +1,8 @@
 // What is told of a word that has to be a number, a name or an object, and is none or not one of those that may stand
 // there.
 use crate::lines::word_at;
-use crate::shown::{push_shown, quoted, unclear, unquoted};
+use crate::shown::{push_shown, quoted, unquoted};
+use crate::taps::no_tap;
 use ids_core::{MOST_CENTRES, MOST_DELTA, MOST_NUMBER};
 use obj_bounded::MOST_BOUNDED_NAME;
 use script_core::Header;
@@ -343,7 +344,7 @@ fn no_name(
     format!(in alloc; "{word} is no {noun}; {wanted}")
 }
 
-/// Of the first word of a line of this form that is refused in its place, where there is one.
+/// Of the first word of a line of this form that is refused in its place, or of the tap that the line lacks.
 pub fn odd_value(
     alloc: Global,
     header: Option<Header>,
@@ -357,6 +358,6 @@ pub fn odd_value(
             _ if is_cell(blame) => a_cell(alloc, blame.word),
             _ => no_name(alloc, header, words, blame),
         },
-        None => unclear(alloc),
+        None => no_tap(alloc, form, words),
     }
 }

@@ -4,20 +4,27 @@ use Rattle.std.specs.Prelude.{MatchBool, cond}
 use Rattle.std.proofs.lemmas.List.{append-nil, append_assoc}
 use Rattle.list_core.specs.Members.{In}
 use Rattle.list_core.proofs.Members.{In_left, In_right}
+use Rattle.ids_core.specs.declared.object.ObjectId.{ObjectId}
+use Rattle.tx_core.specs.declared.state.State.{State}
 use Rattle.dc_talk.specs.declared.sent.Sent.{Sent}
 use Rattle.dc_talk.specs.declared.ask.Ask.{Ask}
 use Rattle.dc_talk.specs.declared.ask.Ask.TheVariants.{Hello, Refresh, Fetch, Commit, Send, Deliver, Relay, Report, Learn, Prune, Stop, Start}
 use Rattle.dc_talk.specs.declared.say.Say.{Say}
 use Rattle.dc_talk.specs.declared.say.Say.TheVariants.{Records, Vector}
+use Rattle.dc_talk.specs.declared.say.Say.TheVariants as said
 use Rattle.dc_talk.specs.declared.log.Fate.TheVariants.{Unheard}
 use Rattle.dc_talk.specs.declared.log.Deed.{Deed}
 use Rattle.dc_talk.specs.declared.log.Deed.TheVariants.{Did, Asked, Told, Spoilt}
 use Rattle.dc_talk.specs.declared.line.ShipEnd.{ShipEnd}
 use Rattle.dc_talk.specs.declared.line.Line.{Line}
+use Rattle.dc_talk.specs.declared.line.Line.TheVariants as line
 use Rattle.dc_talk.specs.Sents.{with_hops}
 use Rattle.dc_talk.specs.Logs.{exchanged_in}
 use Rattle.script_core.specs.Carrying.{Route, route, Detour, is_there, delivery_end, Delivers, AfterSend, Sends, AfterReport, Supplies, own_need, origin_need, Ships, Relays, AfterTold, Tells, InTurn, no_turn, next_turn, Passes, Settles, last_pass, one_pass}
 use Rattle.script_core.specs.Provenance.{HasAnswer, WasSent, Carries, CarriesAll}
+use Rattle.script_core.specs.declared.taps.Found.{Found}
+use Rattle.script_core.specs.declared.taps.Found.TheVariants.{Whole, Ended}
+use Rattle.script_core.specs.Feeds.{fetch_of, fetches_of, Fetches, AfterPrune, Finds, fed_of, FeedDeeds}
 
 -- ---- more deeds
 
@@ -43,11 +50,11 @@ carries_behind front before (Asked i (Send after most) fate) is = tt
 carries_behind front before (Asked i (Relay origin after most) fate) is = tt
 carries_behind front before (Asked i Report fate) is = tt
 carries_behind front before (Asked i Prune fate) is = tt
+carries_behind front before (Asked i (Fetch object here) fate) is = tt
 carries_behind front before (Asked i Stop fate) is = tt
 carries_behind front before (Asked i Start fate) is = tt
 carries_behind front before (Asked i (Hello client need) fate) is = absurd is
 carries_behind front before (Asked i (Refresh client here) fate) is = absurd is
-carries_behind front before (Asked i (Fetch object here) fate) is = absurd is
 carries_behind front before (Asked i (Commit tx) fate) is = absurd is
 carries_behind front before (Did call outcome) is = absurd is
 carries_behind front before (Told line) is = tt
@@ -148,3 +155,29 @@ passes_carry n deeds is = subst (CarriesAll []) (sym is.whole) (carries_both is.
 pub settles_carry : (n : ℕ) (deeds : List Deed) → Settles n deeds → CarriesAll [] deeds
 settles_carry n deeds (last_pass passed none) = passes_carry n deeds passed
 settles_carry n deeds (one_pass first later whole passed some rest) = subst (CarriesAll []) (sym whole) (carries_both first later (passes_carry n first passed) (settles_carry n later rest))
+
+-- ---- feeds
+
+-- fetches carry nothing
+fetches_carry : (before : List Deed) (centre : ℕ) (vector : List ℕ) (objects : List ObjectId) (states : List State) → CarriesAll before (fetches_of centre vector objects states)
+fetches_carry before centre vector [] states = tt
+fetches_carry before centre vector (object ∷ objects) [] = tt
+fetches_carry before centre vector (object ∷ objects) (state ∷ states) = (tt, fetches_carry (before ++ fetch_of centre vector object (said.Object state) ∷ []) centre vector objects states)
+
+fetched_carries : (before : List Deed) (centre : ℕ) (vector : List ℕ) (objects : List ObjectId) (found : Found) (deeds : List Deed) → Fetches centre vector objects found deeds → CarriesAll before deeds
+fetched_carries before centre vector objects (Whole show) deeds is = subst (CarriesAll before) (sym is.1.deeds_are) (fetches_carry before centre vector objects show.states)
+fetched_carries before centre vector objects (Ended fed) deeds is =
+    let first : CarriesAll before is.first = subst (CarriesAll before) (sym is.all_before.deeds_are) (fetches_carry before centre vector is.before is.states) in
+    subst (CarriesAll before) (sym is.deeds_are) (carries_then before is.first (fetch_of centre vector is.object is.answer ∷ []) first (tt, tt))
+
+-- what follows the prune
+after_prune_carries : (before : List Deed) (centre : ℕ) (objects : List ObjectId) (found : Found) (answer : Say) (deeds : List Deed) → AfterPrune centre objects found answer deeds → CarriesAll before deeds
+after_prune_carries before centre objects found (said.Base base folded trimmed) deeds is = fetched_carries before centre base objects found deeds is
+after_prune_carries before centre objects found answer deeds is = subst (CarriesAll before) (sym is.0) tt
+
+finds_carry : (centre : ℕ) (objects : List ObjectId) (found : Found) (deeds : List Deed) → Finds centre objects found deeds → CarriesAll [] deeds
+finds_carry centre objects found deeds is = subst (CarriesAll []) (sym is.whole) (tt, after_prune_carries (Asked centre Prune (Unheard is.answer) ∷ []) centre objects found is.answer is.later is.follows)
+
+pub feeds_carry : (centre : ℕ) (objects : List ObjectId) (deeds : List Deed) → FeedDeeds centre objects deeds → CarriesAll [] deeds
+feeds_carry centre [] deeds is = subst (CarriesAll []) (sym is) tt
+feeds_carry centre (object ∷ objects) deeds is = subst (CarriesAll []) (sym is.whole) (carries_both is.asks (Told (line.Feed centre (fed_of is.found)) ∷ []) (finds_carry centre (object ∷ objects) is.found is.asks is.finds) (tt, tt))

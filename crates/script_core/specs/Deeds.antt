@@ -36,16 +36,18 @@ use Rattle.dc_talk.specs.declared.line.PushEnd.{PushEnd}
 use Rattle.dc_talk.specs.declared.line.PushEnd.TheVariants as ended
 use Rattle.dc_talk.specs.declared.line.Line.{Line}
 use Rattle.dc_talk.specs.declared.line.Line.TheVariants as line
+use Rattle.dc_talk.specs.declared.seen.Seen.{Seen}
 use Rattle.dc_talk.specs.Logs.{commit_sent}
 use Rattle.dc_talk.specs.Clients.{Client}
 use Rattle.dc_talk.specs.Calls.{outcome_of}
 use Rattle.dc_talk.specs.Rule.{after, takes, hello_of, refresh_of, fetch_of, next_commit}
+use Rattle.script_core.specs.Taps.{looks}
 use Rattle.script_core.specs.declared.object_call.ObjectCall.{ObjectCall}
 use Rattle.script_core.specs.declared.steps.Share.{Share}
 use Rattle.script_core.specs.declared.steps.AskFault.{AskFault}
 use Rattle.script_core.specs.declared.steps.AskFault.TheVariants.{LoseAsk, LoseReply, Twice}
 use Rattle.script_core.specs.declared.steps.ClientStep.{ClientStep}
-use Rattle.script_core.specs.declared.steps.ClientStep.TheVariants.{Connect, Begin, Change, Read, Grant, Give, Take, Rights, Commit, Abort, Push, Flush, Refresh, Again, Arm}
+use Rattle.script_core.specs.declared.steps.ClientStep.TheVariants.{Connect, Begin, Change, Read, Grant, Give, Take, Rights, Commit, Abort, Push, Flush, Refresh, Again, Arm, Look}
 
 -- ---- the lines of steps, by what became of an ask; none where an answer is to an ask of another kind
 
@@ -400,6 +402,7 @@ StepDeeds p Flush deeds = FlushDeeds p deeds
 StepDeeds p Refresh deeds = OrTells p.client.link (line.RefreshUnconnected p.client.client) (RefreshDeeds p p.client.draft) deeds
 StepDeeds p (Again centre number) deeds = OrTells (commit_sent number p.notes) (line.AgainNone p.client.client centre number) (AgainDeeds p.client.client centre number) deeds
 StepDeeds p (Arm fault) deeds = deeds ≡ []
+StepDeeds p (Look centre object) deeds = (seen : Option Seen) × (deeds ≡ looks p.client.client centre object seen)
 
 -- a client after a step with these notes
 abbrev pub stepped : Progress → ClientStep → List Note → Progress

@@ -5,6 +5,8 @@ pub mod Steps
 pub mod StepLists
 pub mod Rows
 pub mod Scripts
+pub mod Feeds
+pub mod Taps
 pub mod Deeds
 pub mod Carrying
 pub mod Orders

@@ -1,5 +1,6 @@
 -- What a step of the operator leaves in its log.
 use Rattle.std.specs.Prelude.{◌≡◌, ℕ, List, [], ◌∷◌, Option, Some, None}
+use Rattle.ids_core.specs.declared.object.ObjectId.{ObjectId}
 use Rattle.dc_talk.specs.declared.ask.Ask.{Ask}
 use Rattle.dc_talk.specs.declared.ask.Ask.TheVariants.{Prune as PruneAsk, Stop, Start}
 use Rattle.dc_talk.specs.declared.say.Say.{Say}
@@ -10,8 +11,9 @@ use Rattle.dc_talk.specs.declared.log.Deed.TheVariants.{Asked}
 use Rattle.dc_talk.specs.declared.line.Line.{Line}
 use Rattle.dc_talk.specs.declared.line.Line.TheVariants as line
 use Rattle.script_core.specs.declared.steps.OperatorStep.{OperatorStep}
-use Rattle.script_core.specs.declared.steps.OperatorStep.TheVariants.{Down, Up, ShipOne, Ship, Relay, Tell, Prune, Link, Settle}
+use Rattle.script_core.specs.declared.steps.OperatorStep.TheVariants.{Down, Up, ShipOne, Ship, Relay, Tell, Prune, Link, Settle, Feed}
 use Rattle.script_core.specs.Deeds.{told}
+use Rattle.script_core.specs.Feeds.{FeedDeeds}
 use Rattle.script_core.specs.Carrying.{route, detour, ShipsOne, ShipsAll, RelaysAll, TellsOne, Settles}
 
 -- an ask of the operator, whose answer no session hears
@@ -40,3 +42,4 @@ OperatorDeeds n (Tell from to) deeds = TellsOne (route from to) deeds
 OperatorDeeds n (Prune centre) deeds = PrunesOne centre deeds
 OperatorDeeds n (Link from to fault) deeds = deeds ≡ []
 OperatorDeeds n Settle deeds = Settles n deeds
+OperatorDeeds n (Feed centre) deeds = (objects : List ObjectId) × FeedDeeds centre objects deeds

@@ -3,7 +3,7 @@ use Rattle.std.specs.Prelude.{◌≡◌, ℕ, List, [], ◌∷◌, ◌++◌, Som
 use Rattle.list_core.specs.Members.{In}
 use Rattle.dc_talk.specs.declared.sent.Sent.{Sent}
 use Rattle.dc_talk.specs.declared.ask.Ask.{Ask}
-use Rattle.dc_talk.specs.declared.ask.Ask.TheVariants.{Send, Deliver, Relay, Report, Learn, Prune, Stop, Start}
+use Rattle.dc_talk.specs.declared.ask.Ask.TheVariants.{Send, Deliver, Relay, Report, Learn, Prune, Fetch, Stop, Start}
 use Rattle.dc_talk.specs.declared.say.Say.{Say}
 use Rattle.dc_talk.specs.declared.say.Say.TheVariants.{Records, Vector}
 use Rattle.dc_talk.specs.declared.log.Deed.{Deed}
@@ -26,7 +26,7 @@ pub record WasSent (deeds : List Deed) (item : Sent) : Type 0 where
   pub among : In item list
 
 -- what a deed carries, one of the deeds before it brought: a record that is delivered was sent, and a vector that
--- is taught was reported by the centre that it is said to be of; there are no calls, and no asks of a client
+-- is taught was reported by the centre that it is said to be of; there are no calls, and of a client's asks fetches alone
 abbrev pub Carries : List Deed → Deed → Type 0
 Carries before (Asked i (Deliver item hops) fate) = WasSent before (with_hops item hops)
 Carries before (Asked i (Learn from vector) fate) = HasAnswer before from Report (Vector vector)
@@ -34,6 +34,7 @@ Carries before (Asked i (Send after most) fate) = Unit {0}
 Carries before (Asked i (Relay origin after most) fate) = Unit {0}
 Carries before (Asked i Report fate) = Unit {0}
 Carries before (Asked i Prune fate) = Unit {0}
+Carries before (Asked i (Fetch object vector) fate) = Unit {0}
 Carries before (Asked i Stop fate) = Unit {0}
 Carries before (Asked i Start fate) = Unit {0}
 Carries before (Told line) = Unit {0}

@@ -18,10 +18,10 @@ use Rattle.dc_talk.specs.declared.links.LinkFault.TheVariants.{Clean, Drop, Twic
 use Rattle.script_core.specs.declared.rounds.TheConstants.{MOST_EVERY}
 use Rattle.script_core.specs.declared.script.Header.{Header}
 use Rattle.script_core.specs.declared.steps.ClientStep.{ClientStep}
-use Rattle.script_core.specs.declared.steps.ClientStep.TheVariants.{Connect, Begin, Change, Read, Grant, Give, Take, Rights, Commit, Abort, Push, Flush, Refresh, Again, Arm}
+use Rattle.script_core.specs.declared.steps.ClientStep.TheVariants.{Connect, Begin, Change, Read, Grant, Give, Take, Rights, Commit, Abort, Push, Flush, Refresh, Again, Arm, Look}
 use Rattle.script_core.specs.declared.steps.Share.{Share}
 use Rattle.script_core.specs.declared.steps.OperatorStep.{OperatorStep}
-use Rattle.script_core.specs.declared.steps.OperatorStep.TheVariants.{Down, Up, ShipOne, Ship, Relay, Tell, Prune, Link, Settle}
+use Rattle.script_core.specs.declared.steps.OperatorStep.TheVariants.{Down, Up, ShipOne, Ship, Relay, Tell, Prune, Link, Settle, Feed}
 use Rattle.script_core.specs.declared.steps.Step.{Step}
 use Rattle.script_core.specs.declared.steps.Step.TheVariants.{Client, Operator}
 
@@ -130,6 +130,7 @@ IsStep n Flush = Unit {0}
 IsStep n Refresh = Unit {0}
 IsStep n (Again centre number) = IsCount n centre × IsCount MOST_NUMBER number
 IsStep n (Arm fault) = Unit {0}
+IsStep n (Look centre object) = IsCount n centre × IsName object.name
 
 -- two of n centres
 pub record IsRoute (n from to : ℕ) : Type 0 where
@@ -166,6 +167,7 @@ IsOperatorStep n (Tell from to) = IsRoute n from to
 IsOperatorStep n (Prune centre) = IsCount n centre
 IsOperatorStep n (Link from to fault) = IsRoute n from to × IsFault fault
 IsOperatorStep n Settle = Unit {0}
+IsOperatorStep n (Feed centre) = IsCount n centre
 
 -- the share of a client, where there are so many
 abbrev pub IsShareOf : ℕ → ℕ → Share → Type 0

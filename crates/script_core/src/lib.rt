@@ -7,6 +7,7 @@ mod rounds;
 mod script;
 mod step_list;
 mod steps;
+mod taps;
 
 pub use limits::{LineCount, MAX_LINE, MAX_LINES};
 pub use object_call::ObjectCall;
@@ -16,3 +17,4 @@ pub use script::{
 };
 pub use step_list::{Steps, StepsSeen};
 pub use steps::{AskFault, ClientStep, OperatorStep, Section, Sections, Share, Step};
+pub use taps::{Found, MOST_TAPPED, Show, TapState, Tapped, Taps};

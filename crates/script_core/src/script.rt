@@ -1,5 +1,6 @@
 // Scripts.
 use crate::steps::Sections;
+use crate::taps::Taps;
 
 /// How many objects a client's cache holds where no line says it.
 pub const DEFAULT_CACHE: u32 = 1_024;
@@ -44,5 +45,7 @@ pub struct Script {
     pub threads: u32,
     /// How many rounds a worker makes in a phase, from 0 to 1,000.
     pub rounds: u32,
+    /// The objects that taps show, at most 8, and each of a centre once.
+    pub taps: Taps,
     pub sections: Sections,
 }

@@ -58,6 +58,8 @@ pub enum ClientStep {
     Again { centre: u8, number: u64 },
     /// Arms a fault for the client's next ask, in place of one that is armed.
     Arm { fault: AskFault },
+    /// Looks at an object through the tap of this centre.
+    Look { centre: u8, object: ObjectId },
 }
 
 /// What the operator does in one step. Centres are counted from 1.
@@ -84,6 +86,8 @@ pub enum OperatorStep {
     Link { from: u8, to: u8, fault: LinkFault },
     /// Delivers, relays and tells between all centres until nothing is new to any that is running.
     Settle,
+    /// Has the tap of the centre show what its objects are at the centre's base, which is pruned for it.
+    Feed { centre: u8 },
 }
 
 /// A step of a script: one of a client, counted from 1, or one of the operator.

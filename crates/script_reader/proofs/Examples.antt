@@ -11,9 +11,10 @@ use Rattle.script_core.specs.declared.script.TheConstants.{DEFAULT_CACHE, DEFAUL
 use Rattle.script_core.specs.declared.steps.Section.{Section}
 use Rattle.script_core.specs.declared.steps.Share.{Share}
 use Rattle.script_core.specs.declared.steps.ClientStep.{ClientStep}
-use Rattle.script_core.specs.declared.steps.ClientStep.TheVariants.{Begin, Change, Read, Grant, Give, Take, Rights}
-use Rattle.script_core.specs.declared.steps.OperatorStep.TheVariants.{Down, Up, Relay, Link, Settle}
+use Rattle.script_core.specs.declared.steps.ClientStep.TheVariants.{Begin, Change, Read, Grant, Give, Take, Rights, Look}
+use Rattle.script_core.specs.declared.steps.OperatorStep.TheVariants.{Down, Up, Relay, Link, Settle, Feed}
 use Rattle.script_core.specs.declared.steps.Step.TheVariants.{Client, Operator}
+use Rattle.script_core.specs.declared.taps.Tapped.{Tapped}
 use Rattle.script_core.specs.Rows.{phase_of, section_of}
 use Rattle.script_reader.specs.declared.fault.Cause.{Cause}
 use Rattle.script_reader.specs.declared.fault.Cause.TheVariants as cause
@@ -284,11 +285,85 @@ a_gift_of_one_holder : RefusedThird (codes "c1 give b.x 2 5\n") cause.Range
 unfolding script_read words_of number_in delta_in object_named bounded_in form_among said_word row_of row_in_text row_in may_stand read_more
 a_gift_of_one_holder = refl
 
+-- ---- taps
+
+a_tap_twice : RefusedAt 4 (codes "tap 1 c.a\ntap 1 c.a\n") cause.Place
+unfolding script_read words_of number_in delta_in object_named form_among said_word row_of row_in_text row_in may_stand read_more
+a_tap_twice = refl
+
+a_ninth_tap : RefusedAt 11 (codes "tap 1 c.a\ntap 2 c.a\ntap 1 r.a\ntap 2 r.a\ntap 1 s.a\ntap 2 s.a\ntap 1 m.a\ntap 2 m.a\ntap 1 c.b\n") cause.Place
+unfolding script_read words_of number_in delta_in object_named form_among said_word row_of row_in_text row_in may_stand read_more
+a_ninth_tap = refl
+
+a_tap_of_no_centre : RefusedAt 3 (codes "tap 3 c.a\n") cause.Range
+unfolding script_read words_of number_in delta_in object_named form_among said_word row_of row_in_text row_in may_stand read_more
+a_tap_of_no_centre = refl
+
+a_tap_of_no_object : RefusedAt 3 (codes "tap 1 c.A\n") cause.Name
+unfolding script_read words_of number_in delta_in object_named form_among said_word row_of row_in_text row_in may_stand read_more
+a_tap_of_no_object = refl
+
+a_tap_of_no_object_at_all : RefusedAt 3 (codes "tap 1\n") cause.Count
+unfolding script_read words_of number_in delta_in object_named form_among said_word row_of row_in_text row_in may_stand read_more
+a_tap_of_no_object_at_all = refl
+
+a_tap_behind_a_step : RefusedAt 4 (codes "c1 begin\ntap 1 c.a\n") cause.Place
+unfolding script_read words_of number_in delta_in object_named form_among said_word row_of row_in_text row_in may_stand read_more
+a_tap_behind_a_step = refl
+
+a_tap_behind_a_phase : RefusedAt 5 (codes "phase\nend\ntap 1 c.a\n") cause.Place
+unfolding script_read words_of number_in delta_in object_named form_among said_word row_of row_in_text row_in may_stand read_more
+a_tap_behind_a_phase = refl
+
+a_tap_in_a_phase : RefusedAt 4 (codes "phase\ntap 1 c.a\nend\n") cause.Place
+unfolding script_read words_of number_in delta_in object_named form_among said_word row_of row_in_text row_in may_stand read_more
+a_tap_in_a_phase = refl
+
+a_feed_of_no_tap : RefusedAt 4 (codes "tap 1 c.a\nfeed 2\n") cause.Range
+unfolding script_read words_of number_in delta_in object_named form_among said_word row_of row_in_text row_in may_stand read_more
+a_feed_of_no_tap = refl
+
+a_feed_of_no_tap_in_a_phase : RefusedAt 5 (codes "tap 1 c.a\nphase\nfeed 2\nend\n") cause.Range
+unfolding script_read words_of number_in delta_in object_named form_among said_word row_of row_in_text row_in may_stand read_more
+a_feed_of_no_tap_in_a_phase = refl
+
+a_feed_in_a_phase : RefusedAt 5 (codes "tap 1 c.a\nphase\nfeed 1\nend\n") cause.Place
+unfolding script_read words_of number_in delta_in object_named form_among said_word row_of row_in_text row_in may_stand read_more
+a_feed_in_a_phase = refl
+
+a_look_at_another_object : RefusedAt 4 (codes "tap 1 c.a\nc1 tap 1 c.b\n") cause.Range
+unfolding script_read words_of number_in delta_in object_named form_among said_word row_of row_in_text row_in may_stand read_more
+a_look_at_another_object = refl
+
+a_look_through_another_tap : RefusedAt 4 (codes "tap 1 c.a\nc1 tap 2 c.a\n") cause.Range
+unfolding script_read words_of number_in delta_in object_named form_among said_word row_of row_in_text row_in may_stand read_more
+a_look_through_another_tap = refl
+
+a_look_at_no_object : RefusedAt 4 (codes "tap 1 c.a\nc1 tap 2 a\n") cause.Name
+unfolding script_read words_of number_in delta_in object_named form_among said_word row_of row_in_text row_in may_stand read_more
+a_look_at_no_object = refl
+
+a_look_in_a_phase : RefusedAt 5 (codes "tap 1 c.a\nphase\nc1 tap 1 c.a\nend\n") cause.Place
+unfolding script_read words_of number_in delta_in object_named form_among said_word row_of row_in_text row_in may_stand read_more
+a_look_in_a_phase = refl
+
+a_feed_before_the_clients : script_read (codes "centres 2 k 1\nfeed 1\n") ≡ Err (Refused 2 cause.Place)
+unfolding script_read words_of number_in delta_in object_named form_among said_word row_of row_in_text row_in may_stand read_more
+a_feed_before_the_clients = refl
+
+a_look_before_the_clients : script_read (codes "centres 2 k 1\nc1 tap 1 c.a\n") ≡ Err (Refused 2 cause.Place)
+unfolding script_read words_of number_in delta_in object_named form_among said_word row_of row_in_text row_in may_stand read_more
+a_look_before_the_clients = refl
+
+a_tap_before_the_clients : script_read (codes "centres 2 k 1\ntap 1 c.a\n") ≡ Err (Refused 2 cause.Place)
+unfolding script_read words_of number_in delta_in object_named form_among said_word row_of row_in_text row_in may_stand read_more
+a_tap_before_the_clients = refl
+
 -- ---- scripts that are taken
 
 -- the script with these sections, of two centres, with one client and no settings
 abbrev plain_script : List Section → Script
-plain_script sections = record { n = 2; k = 1; clients = 1; cache = DEFAULT_CACHE; limit = MOST_RECORDS; threads = DEFAULT_THREADS; rounds = DEFAULT_ROUNDS; sections = sections }
+plain_script sections = record { n = 2; k = 1; clients = 1; cache = DEFAULT_CACHE; limit = MOST_RECORDS; threads = DEFAULT_THREADS; rounds = DEFAULT_ROUNDS; taps = []; sections = sections }
 
 -- these lines behind the header of such a script are these sections
 abbrev Reads : List ℕ → List Section → Type 0
@@ -333,3 +408,11 @@ the_longest_name = refl
 a_read_of_a_cell : Reads (codes "c1 read c.bc_x_1_1\nc1 inc c.bcx 5\n") (does 1 (Read (counter_of (codes "bc_x_1_1"))) ∷ does 1 (Change (counter_of (codes "bcx")) (Inc (pos 5))) ∷ [])
 unfolding script_read words_of number_in delta_in object_named bounded_in form_among said_word row_of row_in_text row_in may_stand read_more
 a_read_of_a_cell = refl
+
+-- an object that the tap of a centre shows
+abbrev tap_of : ℕ → List ℕ → Tapped
+tap_of centre name = record { centre = centre; object = counter_of name }
+
+steps_on_taps : script_read (codes "centres 2 k 1\nclients 1\ntap 1 c.a\ntap 2 c.a\nrounds 5\ntap 1 c.b\nfeed 2\nc1 tap 1 c.b\n") ≡ Ok (record (plain_script (section_of (Operator (Feed 2)) ∷ does 1 (Look 1 (counter_of (codes "b"))) ∷ [])) { rounds = 5; taps = tap_of 1 (codes "a") ∷ tap_of 2 (codes "a") ∷ tap_of 1 (codes "b") ∷ [] })
+unfolding script_read words_of number_in delta_in object_named form_among said_word row_of row_in_text row_in may_stand read_more
+steps_on_taps = refl

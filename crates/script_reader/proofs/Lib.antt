@@ -16,4 +16,5 @@ pub mod Onward
 pub mod CutOff
 pub mod SaidRanges
 pub mod RowRanges
+pub mod Tapping
 pub mod ScriptRanges

@@ -26,6 +26,7 @@ use Rattle.script_reader.specs.Forms.{agrees, fits, forms, found, form_among, fo
 use Rattle.script_reader.specs.Said.{unsaid, said_words}
 use Rattle.script_reader.specs.Shares.{is_cell}
 use Rattle.script_reader.specs.Rows.{row_of, is_of_its_kind, kind_checked, row_said, row_spelled, row_in_words, row_in_text, row_in}
+use Rattle.script_reader.proofs.Tapping.{IsTapOf}
 use Rattle.script_reader.proofs.SaidRanges.{IsSaid, IsCounted, IsOther, IsThird, HasOwn, HasOther, count_of, unsaid_in_range, words_in_range, counted_in_range, route_said, detour_said, own_said, gift_said}
 
 -- what a line sets is in its range
@@ -36,12 +37,14 @@ SetsInRange (row.Cache objects) = IsCount MOST_CACHED objects
 SetsInRange (row.Limit most) = IsCount MOST_RECORDS most
 SetsInRange (row.Threads most) = IsCount MOST_THREADS most
 SetsInRange (row.Rounds rounds) = rounds ≤ MOST_ROUNDS
+SetsInRange (row.Tap tapped) = Unit {0}
 SetsInRange (row.Does step) = Unit {0}
 SetsInRange row.Phase = Unit {0}
 SetsInRange row.End = Unit {0}
 
--- its step is one of a script with this header
+-- its step, or its object on a tap, is one of a script with this header
 abbrev pub DoesInRange : Header → Row → Type 0
+DoesInRange h (row.Tap tapped) = IsTapOf h tapped
 DoesInRange h (row.Does step) = IsStepOf h step
 DoesInRange h _ = Unit {0}
 
@@ -99,6 +102,7 @@ does_in_range h form.Cache said is counted together kind = tt
 does_in_range h form.Limit said is counted together kind = tt
 does_in_range h form.Threads said is counted together kind = tt
 does_in_range h form.Rounds said is counted together kind = tt
+does_in_range h form.Tap said is counted together kind = (is.centre, is.object)
 does_in_range h form.Connect said is counted together kind = (is.client, is.centre, tt)
 does_in_range h form.Begin said is counted together kind = (is.client, tt, tt)
 does_in_range h form.Inc said is counted together kind = (is.client, (same_sort-true _ _ kind, is.summand.named, is.delta, spares_cells said.summand (same_sort-true _ _ kind) is.summand.spares), tt)
@@ -121,6 +125,7 @@ does_in_range h form.Again said is counted together kind = (is.client, (is.centr
 does_in_range h form.LoseAsk said is counted together kind = (is.client, tt, tt)
 does_in_range h form.LoseReply said is counted together kind = (is.client, tt, tt)
 does_in_range h form.AskTwice said is counted together kind = (is.client, tt, tt)
+does_in_range h form.Look said is counted together kind = (is.client, (is.centre, is.object), tt)
 does_in_range h form.Down said is counted together kind = is.centre
 does_in_range h form.Up said is counted together kind = is.centre
 does_in_range h form.ShipOne said is counted together kind = (is_route h said is together, counted)
@@ -128,6 +133,7 @@ does_in_range h form.Ship said is counted together kind = is_route h said is tog
 does_in_range h form.Relay said is counted together kind = is_detour h said is together
 does_in_range h form.Tell said is counted together kind = is_route h said is together
 does_in_range h form.Prune said is counted together kind = is.centre
+does_in_range h form.Feed said is counted together kind = is.centre
 does_in_range h form.LinkDrop said is counted together kind = (is_route h said is together, counted)
 does_in_range h form.LinkTwice said is counted together kind = (is_route h said is together, counted)
 does_in_range h form.LinkHold said is counted together kind = (is_route h said is together, counted)

@@ -1,15 +1,18 @@
 -- A script that is read is in range.
 use Rattle.std.proofs.Common.{◌≡◌, ◌≤◌, ◌<◌, ◌+◌, ℕ, Bool, true, false, List, [], ◌∷◌, ◌++◌, length, refl, ap, sym, ◌∙◌, subst, inl, inr, arith}
-use Rattle.std.specs.Prelude.{cond, ◌&&◌, is_some, All, Option, Some, None, Result, Ok, Err, IfSome}
+use Rattle.std.specs.Prelude.{cond, ◌==◌, ◌&&◌, not, nat_lt, is_some, is_none, All, Option, Some, None, Result, Ok, Err, IfSome}
 use Rattle.std.specs.Option.{unwrap_or}
-use Rattle.std.proofs.lemmas.Bool.{and_parts}
+use Rattle.std.proofs.lemmas.Bool.{and_parts, eqb-true}
 use Rattle.std.proofs.lemmas.List.{length_push}
-use Rattle.std.proofs.lemmas.List.Elements.{All-nil, All-push}
+use Rattle.std.proofs.lemmas.List.Elements.{All-nil, All-push, All-cons, All-head, All-tail}
 use Rattle.list_core.proofs.Choices.{is_none_true}
 use Rattle.ids_core.specs.declared.limits.TheConstants.{MOST_CENTRES, MOST_CLIENTS, MOST_CACHED, MOST_RECORDS}
 use Rattle.script_core.specs.Steps.{IsCount, IsHeader, IsStepOf}
 use Rattle.script_core.specs.Rows.{IsInPhase, IsSection, may_do_in_phase, phase_of, section_of}
 use Rattle.script_core.specs.Scripts.{IsInRange}
+use Rattle.script_core.specs.Taps.{IsOnTap}
+use Rattle.script_core.specs.declared.taps.Tapped.{Tapped}
+use Rattle.script_core.specs.declared.taps.TheConstants.{MOST_TAPPED}
 use Rattle.script_core.specs.Lines.{lines_of}
 use Rattle.script_core.specs.declared.limits.TheConstants.{MAX_LINES}
 use Rattle.script_core.specs.declared.script.TheConstants.{MOST_THREADS, MOST_ROUNDS}
@@ -26,10 +29,12 @@ use Rattle.script_reader.specs.declared.reading.Reading.{Reading}
 use Rattle.script_reader.specs.declared.row.Row.{Row}
 use Rattle.script_reader.specs.declared.row.Row.TheVariants as row
 use Rattle.script_reader.specs.Rows.{row_in}
-use Rattle.script_reader.specs.Readings.{nothing_read, header_said, header_in, may_do, may_stand, step_read, phase_read, read_more}
+use Rattle.script_reader.specs.Readings.{nothing_read, header_said, header_in, is_tapped, may_do, may_stand, step_read, phase_read, read_more}
 use Rattle.script_reader.specs.Lines.{taken, line_taken}
 use Rattle.script_reader.specs.Scripts.{script_with, ended, ended_in, lines_read, script_read}
+use Rattle.script_reader.specs.Taps.{shows}
 use Rattle.script_reader.proofs.Onward.{line_in_time}
+use Rattle.script_reader.proofs.Tapping.{AreTapsOf, IsTapOf, in_phase_on, step_on, tap_more, taps_headed}
 use Rattle.script_reader.proofs.RowRanges.{IsRowInRange, row_in_range}
 
 -- a group in range
@@ -67,10 +72,16 @@ record IsPlaced (header : Option Header) (number : ℕ) (sections : List Section
   few : length sections < number
   few_open : IfSome phase (λ steps. length steps < number)
 
+-- the taps are those of a script with this header, and the steps of the sections are on them
+record IsTapped (header : Option Header) (taps : List Tapped) (sections : List Section) : Type 0 where
+  taps_fit : AreTapsOf header taps
+  steps_on : All (λ section. All (IsOnTap taps) section.steps) sections
+
 -- what was read of the lines before the one of this number is in range
 record IsRead (number : ℕ) (reading : Reading) : Type 0 where
   set : IsSet reading
   placed : IsPlaced (header_in reading) number reading.sections reading.phase
+  tapped : IsTapped (header_in reading) reading.taps reading.sections
   time : number ≤ MAX_LINES + 1
 
 -- the header that was read is in range
@@ -138,16 +149,49 @@ placed_end : (header : Option Header) (number : ℕ) (sections : List Section) (
 placed_end None number sections steps time is = absurd is.phase_fits
 placed_end (Some h) number sections steps time is = placed_section (Some h) number sections (Some steps) (phase_of steps) refl (inr (record { phase = refl; steps = is.phase_fits; few = let few = is.few_open in omega arith })) is
 
+-- one section more, whose steps are on the taps
+tapped_more : (header : Option Header) (taps : List Tapped) (sections : List Section) (section : Section) → IsTapped header taps sections → All (IsOnTap taps) section.steps → IsTapped header taps (sections ++ section ∷ [])
+tapped_more header taps sections section is on = record { taps_fit = is.taps_fit; steps_on = All-push (λ one. All (IsOnTap taps) one.steps) sections section is.steps_on on }
+
+-- the steps of a phase are on all taps
+all_on : (h : Header) (taps : List Tapped) (steps : List Step) → AreInPhase h steps → All (IsOnTap taps) steps
+all_on h taps [] are = All-nil (IsOnTap taps)
+all_on h taps (step ∷ steps) are = All-cons (IsOnTap taps) step steps (in_phase_on taps step (All-head (λ one. IsStepOf h one × IsInPhase one) step steps are).1) (all_on h taps steps (All-tail (λ one. IsStepOf h one × IsInPhase one) step steps are))
+
+phase_on : (header : Option Header) (taps : List Tapped) (steps : List Step) → IsOpen header (Some steps) → All (IsOnTap taps) steps
+phase_on None taps steps are = absurd are
+phase_on (Some h) taps steps are = all_on h taps steps are
+
+-- without sections no step is on a tap
+none_on : (taps : List Tapped) (sections : List Section) → length sections ≡ 0 → All (λ section. All (IsOnTap taps) section.steps) sections
+none_on taps [] none = All-nil (λ section. All (IsOnTap taps) section.steps)
+none_on taps (section ∷ sections) none = absurd (omega arith)
+
+-- one more object on a tap
+tap_taken : (header : Option Header) (taps : List Tapped) (sections : List Section) (phase_none : Bool) (tapped : Tapped) → IsTapped header taps sections → IfSome header (λ h. IsTapOf h tapped)
+    → (is_some header && (length sections == 0 && (phase_none && true))) && (nat_lt (length taps) MOST_TAPPED && not (shows taps tapped.centre tapped.object)) ≡ true
+    → IsTapped header (taps ++ tapped ∷ []) sections
+tap_taken header taps sections phase_none tapped is fits may =
+    let parts = and_parts _ _ may in
+    let set = and_parts _ _ parts.0 in
+    let new = and_parts _ _ parts.1 in
+    record {
+      taps_fit = tap_more header taps tapped set.0 is.taps_fit fits new.0 new.1;
+      steps_on = none_on (taps ++ tapped ∷ []) sections (eqb-true _ _ (and_parts _ _ set.1).0);
+    }
+
 -- a step is taken
-step_taken : (number : ℕ) (reading : Reading) (step : Step) (phase : Option (List Step)) → reading.phase ≡ phase → IsRead number reading → number ≤ MAX_LINES → IfSome (header_in reading) (λ h. IsStepOf h step) → is_some (header_in reading) && may_do phase step ≡ true → IsRead (number + 1) (step_read reading phase step)
-step_taken number reading step None here is time fits may = record {
+step_taken : (number : ℕ) (reading : Reading) (step : Step) (phase : Option (List Step)) → reading.phase ≡ phase → IsRead number reading → number ≤ MAX_LINES → IfSome (header_in reading) (λ h. IsStepOf h step) → is_some (header_in reading) && may_do phase step ≡ true → IsOnTap reading.taps step → IsRead (number + 1) (step_read reading phase step)
+step_taken number reading step None here is time fits may on = record {
   set = record { centres = is.set.centres; clients = is.set.clients; cache = is.set.cache; limit = is.set.limit; threads = is.set.threads; rounds = is.set.rounds };
   placed = subst (IsPlaced (header_in reading) (number + 1) (reading.sections ++ section_of step ∷ [])) (sym here) (placed_section (header_in reading) number reading.sections reading.phase (section_of step) (and_parts _ _ may).0 (line_fits (header_in reading) step fits) is.placed);
+  tapped = tapped_more (header_in reading) reading.taps reading.sections (section_of step) is.tapped (All-cons (IsOnTap reading.taps) step [] on (All-nil (IsOnTap reading.taps)));
   time = omega arith;
 }
-step_taken number reading step (Some steps) here is time fits may = record {
+step_taken number reading step (Some steps) here is time fits may on = record {
   set = record { centres = is.set.centres; clients = is.set.clients; cache = is.set.cache; limit = is.set.limit; threads = is.set.threads; rounds = is.set.rounds };
   placed = placed_step (header_in reading) number reading.sections steps step fits (and_parts _ _ may).1 (subst (IsPlaced (header_in reading) number reading.sections) here is.placed);
+  tapped = is.tapped;
   time = omega arith;
 }
 
@@ -157,35 +201,45 @@ end_taken number reading None here is time some = absurd (cc)
 end_taken number reading (Some steps) here is time some = record {
   set = record { centres = is.set.centres; clients = is.set.clients; cache = is.set.cache; limit = is.set.limit; threads = is.set.threads; rounds = is.set.rounds };
   placed = placed_end (header_in reading) number reading.sections steps time (subst (IsPlaced (header_in reading) number reading.sections) here is.placed);
+  tapped = tapped_more (header_in reading) reading.taps reading.sections (phase_of steps) is.tapped (phase_on (header_in reading) reading.taps steps (subst (λ phase. IsOpen (header_in reading) phase) here is.placed.phase_fits));
   time = omega arith;
 }
 
-row_taken : (number : ℕ) (reading : Reading) (line : Row) → IsRead number reading → number ≤ MAX_LINES → IsRowInRange (header_in reading) line → may_stand reading line ≡ true → IsRead (number + 1) (read_more reading line)
+row_taken : (number : ℕ) (reading : Reading) (line : Row) → IsRead number reading → number ≤ MAX_LINES → IsRowInRange (header_in reading) line → is_tapped reading line ≡ true → may_stand reading line ≡ true → IsRead (number + 1) (read_more reading line)
 unfolding may_stand read_more
-row_taken number reading (row.Centres n k) is time within may = record {
+row_taken number reading (row.Centres n k) is time within on may = record {
   set = record { centres = within.sets; clients = is.set.clients; cache = is.set.cache; limit = is.set.limit; threads = is.set.threads; rounds = is.set.rounds };
   placed = placed_headed (header_in reading) (header_said (Some (record { n = n; k = k })) reading.clients) number reading.sections reading.phase (ap (λ g. header_said g reading.clients) (is_none_true reading.centres may)) is.placed;
+  tapped = record { taps_fit = taps_headed (header_in reading) (header_said (Some (record { n = n; k = k })) reading.clients) reading.taps (ap (λ g. header_said g reading.clients) (is_none_true reading.centres may)) is.tapped.taps_fit; steps_on = is.tapped.steps_on };
   time = omega arith;
 }
-row_taken number reading (row.Clients clients) is time within may = record {
+row_taken number reading (row.Clients clients) is time within on may = record {
   set = record { centres = is.set.centres; clients = within.sets; cache = is.set.cache; limit = is.set.limit; threads = is.set.threads; rounds = is.set.rounds };
   placed = placed_headed (header_in reading) (header_said reading.centres (Some clients)) number reading.sections reading.phase (ap (header_said reading.centres) (is_none_true reading.clients (and_parts _ _ may).1) ∙ no_clients reading.centres) is.placed;
+  tapped = record { taps_fit = taps_headed (header_in reading) (header_said reading.centres (Some clients)) reading.taps (ap (header_said reading.centres) (is_none_true reading.clients (and_parts _ _ may).1) ∙ no_clients reading.centres) is.tapped.taps_fit; steps_on = is.tapped.steps_on };
   time = omega arith;
 }
-row_taken number reading (row.Cache objects) is time within may = record { set = record { centres = is.set.centres; clients = is.set.clients; cache = within.sets; limit = is.set.limit; threads = is.set.threads; rounds = is.set.rounds }; placed = placed_on (header_in reading) number reading.sections reading.phase is.placed; time = omega arith }
-row_taken number reading (row.Limit most) is time within may = record { set = record { centres = is.set.centres; clients = is.set.clients; cache = is.set.cache; limit = within.sets; threads = is.set.threads; rounds = is.set.rounds }; placed = placed_on (header_in reading) number reading.sections reading.phase is.placed; time = omega arith }
-row_taken number reading (row.Threads most) is time within may = record { set = record { centres = is.set.centres; clients = is.set.clients; cache = is.set.cache; limit = is.set.limit; threads = within.sets; rounds = is.set.rounds }; placed = placed_on (header_in reading) number reading.sections reading.phase is.placed; time = omega arith }
-row_taken number reading (row.Rounds rounds) is time within may = record { set = record { centres = is.set.centres; clients = is.set.clients; cache = is.set.cache; limit = is.set.limit; threads = is.set.threads; rounds = within.sets }; placed = placed_on (header_in reading) number reading.sections reading.phase is.placed; time = omega arith }
-row_taken number reading (row.Does step) is time within may = step_taken number reading step reading.phase refl is time within.does may
-row_taken number reading row.Phase is time within may = record {
+row_taken number reading (row.Cache objects) is time within on may = record { set = record { centres = is.set.centres; clients = is.set.clients; cache = within.sets; limit = is.set.limit; threads = is.set.threads; rounds = is.set.rounds }; placed = placed_on (header_in reading) number reading.sections reading.phase is.placed; tapped = is.tapped; time = omega arith }
+row_taken number reading (row.Limit most) is time within on may = record { set = record { centres = is.set.centres; clients = is.set.clients; cache = is.set.cache; limit = within.sets; threads = is.set.threads; rounds = is.set.rounds }; placed = placed_on (header_in reading) number reading.sections reading.phase is.placed; tapped = is.tapped; time = omega arith }
+row_taken number reading (row.Threads most) is time within on may = record { set = record { centres = is.set.centres; clients = is.set.clients; cache = is.set.cache; limit = is.set.limit; threads = within.sets; rounds = is.set.rounds }; placed = placed_on (header_in reading) number reading.sections reading.phase is.placed; tapped = is.tapped; time = omega arith }
+row_taken number reading (row.Rounds rounds) is time within on may = record { set = record { centres = is.set.centres; clients = is.set.clients; cache = is.set.cache; limit = is.set.limit; threads = is.set.threads; rounds = within.sets }; placed = placed_on (header_in reading) number reading.sections reading.phase is.placed; tapped = is.tapped; time = omega arith }
+row_taken number reading (row.Tap tapped) is time within on may = record {
+  set = record { centres = is.set.centres; clients = is.set.clients; cache = is.set.cache; limit = is.set.limit; threads = is.set.threads; rounds = is.set.rounds };
+  placed = placed_on (header_in reading) number reading.sections reading.phase is.placed;
+  tapped = tap_taken (header_in reading) reading.taps reading.sections (is_none reading.phase) tapped is.tapped within.does may;
+  time = omega arith;
+}
+row_taken number reading (row.Does step) is time within on may = step_taken number reading step reading.phase refl is time within.does may (step_on (header_in reading) reading.taps step (and_parts _ _ may).0 on)
+row_taken number reading row.Phase is time within on may = record {
   set = record { centres = is.set.centres; clients = is.set.clients; cache = is.set.cache; limit = is.set.limit; threads = is.set.threads; rounds = is.set.rounds };
   placed = placed_phase (header_in reading) number reading.sections reading.phase (and_parts _ _ may).0 is.placed;
+  tapped = is.tapped;
   time = omega arith;
 }
-row_taken number reading row.End is time within may = end_taken number reading reading.phase refl is time may
+row_taken number reading row.End is time within on may = end_taken number reading reading.phase refl is time may
 
 skipped_taken : (number : ℕ) (reading : Reading) → IsRead number reading → number ≤ MAX_LINES → IsRead (number + 1) reading
-skipped_taken number reading is time = record { set = is.set; placed = placed_on (header_in reading) number reading.sections reading.phase is.placed; time = omega arith }
+skipped_taken number reading is time = record { set = is.set; placed = placed_on (header_in reading) number reading.sections reading.phase is.placed; tapped = is.tapped; time = omega arith }
 
 -- one line more
 line_read : (number : ℕ) (reading more : Reading) (line : List ℕ) → IsRead number reading → line_taken reading number line ≡ Ok more → IsRead (number + 1) more
@@ -194,14 +248,15 @@ line_read number reading more line is e = go (row_in (header_in reading) number 
     time : number ≤ MAX_LINES
     time = line_in_time reading more number line e
 
-    row_read : (one : Row) → row_in (header_in reading) number line ≡ Ok (Some one) → (may : Bool) → may_stand reading one ≡ may → cond may (Ok (read_more reading one)) (Err cause.Place) ≡ Ok more → IsRead (number + 1) more
-    row_read one r false m bad = absurd (cc)
-    row_read one r true m ok = subst (IsRead (number + 1)) (let this : read_more reading one ≡ more = cc in this) (row_taken number reading one is time (row_in_range (header_in reading) number line one (read_header number reading is) r) m)
+    row_read : (one : Row) → row_in (header_in reading) number line ≡ Ok (Some one) → (on : Bool) → is_tapped reading one ≡ on → (may : Bool) → may_stand reading one ≡ may → cond on (cond may (Ok (read_more reading one)) (Err cause.Place)) (Err cause.Range) ≡ Ok more → IsRead (number + 1) more
+    row_read one r false o may m bad = absurd (cc)
+    row_read one r true o false m bad = absurd (cc)
+    row_read one r true o true m ok = subst (IsRead (number + 1)) (let this : read_more reading one ≡ more = cc in this) (row_taken number reading one is time (row_in_range (header_in reading) number line one (read_header number reading is) r) o m)
 
     go : (r : Result (Option Row) Cause) → row_in (header_in reading) number line ≡ r → taken reading r ≡ Ok more → IsRead (number + 1) more
     go (Err why) r bad = absurd (cc)
     go (Ok None) r ok = subst (IsRead (number + 1)) (let this : reading ≡ more = cc in this) (skipped_taken number reading is time)
-    go (Ok (Some one)) r ok = row_read one r (may_stand reading one) refl ok
+    go (Ok (Some one)) r ok = row_read one r (is_tapped reading one) refl (may_stand reading one) refl ok
 
 -- what is set, or what stands where nothing is
 set_or : (P : ℕ → Type 0) (set : Option ℕ) (other : ℕ) → P other → IfSome set P → P (unwrap_or set other)
@@ -219,6 +274,8 @@ ended_in_range (Some header) None number reading script h p is e = subst IsInRan
   few = let few = is.placed.few in let time = is.time in omega arith;
   threads = set_or (IsCount MOST_THREADS) reading.threads 4 (omega arith, omega arith) is.set.threads;
   rounds = set_or (λ rounds. rounds ≤ MOST_ROUNDS) reading.rounds 32 (omega arith) is.set.rounds;
+  taps = subst (λ o. AreTapsOf o reading.taps) h is.tapped.taps_fit;
+  tapped = is.tapped.steps_on;
 })
 
 -- what follows a line
@@ -237,4 +294,4 @@ lines_in_range number reading (line ∷ lines) script is e = further number line
 -- a script that is read is in range
 pub script_in_range : (bytes : List ℕ) (script : Script) → Ok script ≡ script_read bytes → IsInRange script
 unfolding script_read
-script_in_range bytes script is = lines_in_range 1 nothing_read (lines_of bytes) script (record { set = record { centres = tt; clients = tt; cache = tt; limit = tt; threads = tt; rounds = tt }; placed = record { sections_fit = refl; phase_fits = tt; few = omega arith; few_open = tt }; time = omega arith }) (sym is)
+script_in_range bytes script is = lines_in_range 1 nothing_read (lines_of bytes) script (record { set = record { centres = tt; clients = tt; cache = tt; limit = tt; threads = tt; rounds = tt }; placed = record { sections_fit = refl; phase_fits = tt; few = omega arith; few_open = tt }; tapped = record { taps_fit = refl; steps_on = All-nil (λ section. All (IsOnTap []) section.steps) }; time = omega arith }) (sym is)

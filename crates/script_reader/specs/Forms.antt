@@ -23,6 +23,7 @@ word_text word.Cache = codes "cache"
 word_text word.Limit = codes "limit"
 word_text word.Threads = codes "threads"
 word_text word.Rounds = codes "rounds"
+word_text word.Tap = codes "tap"
 word_text word.Connect = codes "connect"
 word_text word.Begin = codes "begin"
 word_text word.Inc = codes "inc"
@@ -52,6 +53,7 @@ word_text word.Ship = codes "ship"
 word_text word.Relay = codes "relay"
 word_text word.Tell = codes "tell"
 word_text word.Prune = codes "prune"
+word_text word.Feed = codes "feed"
 word_text word.Link = codes "link"
 word_text word.Hold = codes "hold"
 word_text word.Cut = codes "cut"
@@ -69,6 +71,7 @@ parts_of form.Cache = Fixed word.Cache ∷ Count 1 MOST_CACHED ∷ []
 parts_of form.Limit = Fixed word.Limit ∷ Count 1 MOST_COUNTED ∷ []
 parts_of form.Threads = Fixed word.Threads ∷ Count 1 MOST_THREADS ∷ []
 parts_of form.Rounds = Fixed word.Rounds ∷ Count 0 MOST_ROUNDS ∷ []
+parts_of form.Tap = Fixed word.Tap ∷ Centre ∷ Object ∷ []
 parts_of form.Connect = Client ∷ Fixed word.Connect ∷ Centre ∷ []
 parts_of form.Begin = Client ∷ Fixed word.Begin ∷ []
 parts_of form.Inc = Client ∷ Fixed word.Inc ∷ Summand ∷ Delta ∷ []
@@ -91,6 +94,7 @@ parts_of form.Again = Client ∷ Fixed word.Again ∷ Centre ∷ Commit ∷ []
 parts_of form.LoseAsk = Client ∷ Fixed word.Lose ∷ Fixed word.Ask ∷ []
 parts_of form.LoseReply = Client ∷ Fixed word.Lose ∷ Fixed word.Reply ∷ []
 parts_of form.AskTwice = Client ∷ Fixed word.Twice ∷ []
+parts_of form.Look = Client ∷ Fixed word.Tap ∷ Centre ∷ Object ∷ []
 parts_of form.Down = Fixed word.Down ∷ Centre ∷ []
 parts_of form.Up = Fixed word.Up ∷ Centre ∷ []
 parts_of form.ShipOne = Fixed word.Ship ∷ Centre ∷ Other ∷ Count 1 MOST_COUNTED ∷ []
@@ -98,6 +102,7 @@ parts_of form.Ship = Fixed word.Ship ∷ Centre ∷ Other ∷ []
 parts_of form.Relay = Fixed word.Relay ∷ Centre ∷ Other ∷ Third ∷ []
 parts_of form.Tell = Fixed word.Tell ∷ Centre ∷ Other ∷ []
 parts_of form.Prune = Fixed word.Prune ∷ Centre ∷ []
+parts_of form.Feed = Fixed word.Feed ∷ Centre ∷ []
 parts_of form.LinkDrop = Fixed word.Link ∷ Centre ∷ Other ∷ Fixed word.Drop ∷ Count 1 MOST_COUNTED ∷ []
 parts_of form.LinkTwice = Fixed word.Link ∷ Centre ∷ Other ∷ Fixed word.Twice ∷ Count 1 MOST_COUNTED ∷ []
 parts_of form.LinkHold = Fixed word.Link ∷ Centre ∷ Other ∷ Fixed word.Hold ∷ Count 1 MOST_COUNTED ∷ []
@@ -110,7 +115,7 @@ parts_of form.End = Fixed word.End ∷ []
 
 -- all forms
 abbrev pub forms : List Form
-forms = form.Centres ∷ form.Clients ∷ form.Cache ∷ form.Limit ∷ form.Threads ∷ form.Rounds ∷ form.Connect ∷ form.Begin ∷ form.Inc ∷ form.Set ∷ form.Add ∷ form.Del ∷ form.Put ∷ form.Drop ∷ form.Read ∷ form.Grant ∷ form.Give ∷ form.Take ∷ form.Rights ∷ form.Commit ∷ form.Abort ∷ form.Push ∷ form.Flush ∷ form.Refresh ∷ form.Again ∷ form.LoseAsk ∷ form.LoseReply ∷ form.AskTwice ∷ form.Down ∷ form.Up ∷ form.ShipOne ∷ form.Ship ∷ form.Relay ∷ form.Tell ∷ form.Prune ∷ form.LinkDrop ∷ form.LinkTwice ∷ form.LinkHold ∷ form.LinkCut ∷ form.LinkBend ∷ form.LinkClean ∷ form.Settle ∷ form.Phase ∷ form.End ∷ []
+forms = form.Centres ∷ form.Clients ∷ form.Cache ∷ form.Limit ∷ form.Threads ∷ form.Rounds ∷ form.Tap ∷ form.Connect ∷ form.Begin ∷ form.Inc ∷ form.Set ∷ form.Add ∷ form.Del ∷ form.Put ∷ form.Drop ∷ form.Read ∷ form.Grant ∷ form.Give ∷ form.Take ∷ form.Rights ∷ form.Commit ∷ form.Abort ∷ form.Push ∷ form.Flush ∷ form.Refresh ∷ form.Again ∷ form.LoseAsk ∷ form.LoseReply ∷ form.AskTwice ∷ form.Look ∷ form.Down ∷ form.Up ∷ form.ShipOne ∷ form.Ship ∷ form.Relay ∷ form.Tell ∷ form.Prune ∷ form.Feed ∷ form.LinkDrop ∷ form.LinkTwice ∷ form.LinkHold ∷ form.LinkCut ∷ form.LinkBend ∷ form.LinkClean ∷ form.Settle ∷ form.Phase ∷ form.End ∷ []
 
 -- a `c` and digits
 abbrev pub is_client_word : List ℕ → Bool

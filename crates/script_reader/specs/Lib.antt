@@ -9,6 +9,7 @@ pub mod Leads
 pub mod Said
 pub mod Saying
 pub mod Rows
+pub mod Taps
 pub mod Steps
 pub mod Readings
 pub mod Lines

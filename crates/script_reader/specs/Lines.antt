@@ -5,11 +5,11 @@ use Rattle.script_reader.specs.declared.fault.Cause.TheVariants as cause
 use Rattle.script_reader.specs.declared.row.Row.{Row}
 use Rattle.script_reader.specs.declared.reading.Reading.{Reading}
 use Rattle.script_reader.specs.Rows.{row_in}
-use Rattle.script_reader.specs.Readings.{header_in, may_stand, read_more}
+use Rattle.script_reader.specs.Readings.{header_in, is_tapped, may_stand, read_more}
 
 -- how far the lines come with this one behind them; a skipped one changes nothing
 abbrev pub taken : Reading → Result (Option Row) Cause → Result Reading Cause
-taken reading (Ok (Some line)) = if may_stand reading line then Ok (read_more reading line) else Err cause.Place
+taken reading (Ok (Some line)) = if is_tapped reading line then (if may_stand reading line then Ok (read_more reading line) else Err cause.Place) else Err cause.Range
 taken reading (Ok None) = Ok reading
 taken reading (Err why) = Err why
 

@@ -1,16 +1,19 @@
 -- How far lines came, and what may stand behind them.
-use Rattle.std.specs.Prelude.{◌==◌, ◌&&◌, ◌++◌, ℕ, Bool, true, List, [], ◌∷◌, length, is_some, is_none, Option, Some, None}
+use Rattle.std.specs.Prelude.{◌==◌, ◌&&◌, ◌||◌, ◌++◌, ℕ, Bool, true, not, nat_lt, List, [], ◌∷◌, length, is_some, is_none, Option, Some, None}
 use Rattle.script_core.specs.declared.script.Header.{Header}
 use Rattle.script_core.specs.Rows.{section_of, phase_of, may_do_in_phase}
 use Rattle.script_core.specs.declared.steps.Step.{Step}
+use Rattle.script_core.specs.declared.taps.Tapped.{Tapped}
+use Rattle.script_core.specs.declared.taps.TheConstants.{MOST_TAPPED}
 use Rattle.script_reader.specs.declared.row.Row.{Row}
 use Rattle.script_reader.specs.declared.row.Row.TheVariants as row
 use Rattle.script_reader.specs.declared.reading.Group.{Group}
 use Rattle.script_reader.specs.declared.reading.Reading.{Reading}
+use Rattle.script_reader.specs.Taps.{is_on_tap, shows}
 
 -- no line was read
 abbrev pub nothing_read : Reading
-nothing_read = record { centres = None; clients = None; cache = None; limit = None; threads = None; rounds = None; sections = []; phase = None }
+nothing_read = record { centres = None; clients = None; cache = None; limit = None; threads = None; rounds = None; taps = []; sections = []; phase = None }
 
 -- what the two header lines say
 abbrev pub header_said : Option Group → Option ℕ → Option Header
@@ -25,6 +28,16 @@ header_in reading = header_said reading.centres reading.clients
 abbrev pub may_set : Reading → Option ℕ → Bool
 may_set reading set = is_some (header_in reading) && (length reading.sections == 0 && (is_none reading.phase && is_none set))
 
+-- a tap may show one more object: where a setting may stand, where taps show few, and where the tap of its centre does
+-- not show it yet
+abbrev pub may_tap : Reading → Tapped → Bool
+may_tap reading tapped = may_set reading None && (nat_lt (length reading.taps) MOST_TAPPED && not (shows reading.taps tapped.centre tapped.object))
+
+-- the tap is there that a line feeds or looks through, where it does; before a header no line has one
+abbrev pub is_tapped : Reading → Row → Bool
+is_tapped reading (row.Does step) = is_on_tap reading.taps step || is_none (header_in reading)
+is_tapped reading line = true
+
 -- a step may stand in a phase with these steps so far, or outside of all phases
 abbrev pub may_do : Option (List Step) → Step → Bool
 may_do None step = true
@@ -38,6 +51,7 @@ may_stand reading (row.Cache objects) = may_set reading reading.cache
 may_stand reading (row.Limit most) = may_set reading reading.limit
 may_stand reading (row.Threads most) = may_set reading reading.threads
 may_stand reading (row.Rounds rounds) = may_set reading reading.rounds
+may_stand reading (row.Tap tapped) = may_tap reading tapped
 may_stand reading (row.Does step) = is_some (header_in reading) && may_do reading.phase step
 may_stand reading row.Phase = is_some (header_in reading) && is_none reading.phase
 may_stand reading row.End = is_some reading.phase
@@ -60,6 +74,7 @@ read_more reading (row.Cache objects) = record reading { cache = Some objects }
 read_more reading (row.Limit most) = record reading { limit = Some most }
 read_more reading (row.Threads most) = record reading { threads = Some most }
 read_more reading (row.Rounds rounds) = record reading { rounds = Some rounds }
+read_more reading (row.Tap tapped) = record reading { taps = reading.taps ++ tapped ∷ [] }
 read_more reading (row.Does step) = step_read reading reading.phase step
 read_more reading row.Phase = record reading { phase = Some [] }
 read_more reading row.End = phase_read reading reading.phase

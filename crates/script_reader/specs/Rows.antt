@@ -10,9 +10,9 @@ use Rattle.script_core.specs.declared.limits.TheConstants.{MAX_LINE, MAX_LINES}
 use Rattle.script_core.specs.declared.script.Header.{Header}
 use Rattle.script_core.specs.declared.steps.AskFault.TheVariants as fault
 use Rattle.script_core.specs.declared.steps.ClientStep.{ClientStep}
-use Rattle.script_core.specs.declared.steps.ClientStep.TheVariants.{Connect, Begin, Change, Read, Grant, Give, Take, Rights, Commit, Abort, Push, Flush, Refresh, Again, Arm}
+use Rattle.script_core.specs.declared.steps.ClientStep.TheVariants.{Connect, Begin, Change, Read, Grant, Give, Take, Rights, Commit, Abort, Push, Flush, Refresh, Again, Arm, Look}
 use Rattle.script_core.specs.declared.steps.OperatorStep.{OperatorStep}
-use Rattle.script_core.specs.declared.steps.OperatorStep.TheVariants.{Down, Up, ShipOne, Ship, Relay, Tell, Prune, Link, Settle}
+use Rattle.script_core.specs.declared.steps.OperatorStep.TheVariants.{Down, Up, ShipOne, Ship, Relay, Tell, Prune, Link, Settle, Feed}
 use Rattle.script_core.specs.declared.steps.Step.TheVariants.{Client, Operator}
 use Rattle.script_reader.specs.declared.fault.Cause.{Cause}
 use Rattle.script_reader.specs.declared.fault.Cause.TheVariants as cause
@@ -53,6 +53,7 @@ row_of form.Cache said = row.Cache said.count
 row_of form.Limit said = row.Limit said.count
 row_of form.Threads said = row.Threads said.count
 row_of form.Rounds said = row.Rounds said.count
+row_of form.Tap said = row.Tap (record { centre = said.centre; object = said.object })
 row_of form.Connect said = client_row said (Connect said.centre)
 row_of form.Begin said = client_row said Begin
 row_of form.Inc said = inc_row said
@@ -75,6 +76,7 @@ row_of form.Again said = client_row said (Again said.centre said.number)
 row_of form.LoseAsk said = client_row said (Arm fault.LoseAsk)
 row_of form.LoseReply said = client_row said (Arm fault.LoseReply)
 row_of form.AskTwice said = client_row said (Arm fault.Twice)
+row_of form.Look said = client_row said (Look said.centre said.object)
 row_of form.Down said = operator_row (Down said.centre)
 row_of form.Up said = operator_row (Up said.centre)
 row_of form.ShipOne said = operator_row (ShipOne said.centre said.other said.count)
@@ -82,6 +84,7 @@ row_of form.Ship said = operator_row (Ship said.centre said.other)
 row_of form.Relay said = operator_row (Relay said.centre said.other said.third)
 row_of form.Tell said = operator_row (Tell said.centre said.other)
 row_of form.Prune said = operator_row (Prune said.centre)
+row_of form.Feed said = operator_row (Feed said.centre)
 row_of form.LinkDrop said = link_row said (link.Drop said.count)
 row_of form.LinkTwice said = link_row said (link.Twice said.count)
 row_of form.LinkHold said = link_row said (link.Hold said.count)

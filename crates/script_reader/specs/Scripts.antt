@@ -24,6 +24,7 @@ script_with header reading = record {
   limit = unwrap_or reading.limit MOST_RECORDS;
   threads = unwrap_or reading.threads DEFAULT_THREADS;
   rounds = unwrap_or reading.rounds DEFAULT_ROUNDS;
+  taps = reading.taps;
   sections = reading.sections;
 }
 

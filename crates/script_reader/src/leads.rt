@@ -21,6 +21,7 @@ pub fn forms_from(letter: u8) -> &'static [Form]
         b'c' => &[Form::Centres, Form::Clients, Form::Cache],
         b'd' => &[Form::Down],
         b'e' => &[Form::End],
+        b'f' => &[Form::Feed],
         b'l' => &[
             Form::Limit,
             Form::LinkDrop,
@@ -33,7 +34,7 @@ pub fn forms_from(letter: u8) -> &'static [Form]
         b'p' => &[Form::Prune, Form::Phase],
         b'r' => &[Form::Rounds, Form::Relay],
         b's' => &[Form::ShipOne, Form::Ship, Form::Settle],
-        b't' => &[Form::Threads, Form::Tell],
+        b't' => &[Form::Threads, Form::Tap, Form::Tell],
         b'u' => &[Form::Up],
         _ => &[],
     }
@@ -56,7 +57,7 @@ pub fn client_forms(letter: u8) -> &'static [Form]
         b'p' => &[Form::Put, Form::Push],
         b'r' => &[Form::Read, Form::Rights, Form::Refresh],
         b's' => &[Form::Set],
-        b't' => &[Form::Take, Form::AskTwice],
+        b't' => &[Form::Take, Form::AskTwice, Form::Look],
         _ => &[],
     }
 }
@@ -88,6 +89,7 @@ pub fn form_of_verb(verb: &[u8]) -> Option<Form>
         b"refresh" => Some(Form::Refresh),
         b"again" => Some(Form::Again),
         b"twice" => Some(Form::AskTwice),
+        b"tap" => Some(Form::Look),
         _ => None,
     }
 }

@@ -16,6 +16,7 @@ mod said;
 mod scripts;
 mod shares;
 mod steps;
+mod taps;
 mod words;
 
 pub use fault::{Cause, ScriptFault};
@@ -29,4 +30,5 @@ pub use reading::{Group, LineFault, Reading};
 pub use said::{Said, said_word};
 pub use scripts::parse;
 pub use shares::holders_of;
+pub use taps::{has_tap, shows};
 pub use words::{is_blank, is_plain, without_return};

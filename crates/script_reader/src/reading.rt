@@ -4,17 +4,20 @@ ghost use Rattle.std.specs.Option.{option_map};
 ghost use Rattle.script_reader.specs.declared.fault.Cause.{Cause as CauseOf};
 ghost use Rattle.script_reader.specs.declared.reading.LineFault.TheVariants.{NoMemory as no_memory};
 ghost use Rattle.script_reader.specs.Lines.{line_taken, taken};
-ghost use Rattle.script_reader.specs.Readings.{header_in, may_do, may_set, may_stand, nothing_read, phase_read, read_more, step_read};
+ghost use Rattle.script_reader.specs.Readings.{header_in, is_tapped, may_do, may_set, may_stand, may_tap, nothing_read, phase_read, read_more, step_read};
 ghost use Rattle.script_reader.specs.Rows.{row_behind};
 ghost use Rattle.script_reader.specs.Words.{is_plain_text, texts_of, words_of};
-ghost use Rattle.script_core.specs.Rows.{may_do_in_phase, section_of};
+ghost use Rattle.script_core.specs.Rows.{may_do_in_phase, may_go_in_phase, may_order_in_phase, section_of};
 
 use crate::fault::Cause;
 use crate::row::{Row, row_in, row_in_cut};
+use crate::taps::{is_on_tap, shows};
 use crate::words::MOST_WORDS;
 use dc_talk::Change;
 use list_core::List;
-use script_core::{ClientStep, Header, OperatorStep, Section, Sections, Step, Steps};
+use script_core::{
+    ClientStep, Header, MOST_TAPPED, OperatorStep, Section, Sections, Step, Steps, Tapped, Taps,
+};
 use std::alloc::{AllocError, Global};
 
 /// How many centres there are, and how many of them make an update stable.
@@ -26,7 +29,7 @@ pub struct Group {
     pub k: u8,
 }
 
-/// What lines set, the sections of their steps, and the steps of the phase in which they end, where they end in one.
+/// What lines set, the objects that taps show, the sections of their steps, and the steps of the phase in which they end, where they end in one.
 #[derive(Drop)]
 pub struct Reading {
     pub centres: Option<Group>,
@@ -35,6 +38,7 @@ pub struct Reading {
     pub limit: Option<u32>,
     pub threads: Option<u32>,
     pub rounds: Option<u32>,
+    pub taps: Taps,
     pub sections: Sections,
     pub phase: Option<List<Step>>,
 }
@@ -68,6 +72,7 @@ impl Reading {
             limit: None,
             threads: None,
             rounds: None,
+            taps: List::new(alloc),
             sections: Sections::new(alloc),
             phase: None,
         }
@@ -98,6 +103,25 @@ impl Reading {
             && (self.sections.is_empty() && (self.phase.is_none() && set.is_none()))
     }
 
+    // Whether a tap may show one more object.
+    fn may_tap(&self, tapped: &Tapped) -> bool
+        ensures { result ≡ may_tap self.now tapped.now }
+    {
+        self.may_set(None)
+            && (self.taps.len() < MOST_TAPPED as usize
+                && !shows(self.taps.as_slice(), tapped.centre, &tapped.object))
+    }
+
+    // Whether the tap is there that a line feeds or looks through, where it does.
+    fn is_tapped(&self, row: &Row) -> bool
+        ensures { result ≡ is_tapped self.now row.now }
+    {
+        match row {
+            Row::Does(step) => is_on_tap(self.taps.as_slice(), step) || self.header().is_none(),
+            _ => true,
+        }
+    }
+
     // Whether a line may stand here.
     #[tactic(auto, unfolding(crate::specs::Readings::may_stand))]
     fn may_stand(&self, row: &Row) -> bool
@@ -110,6 +134,7 @@ impl Reading {
             Row::Limit(_) => self.may_set(self.limit),
             Row::Threads(_) => self.may_set(self.threads),
             Row::Rounds(_) => self.may_set(self.rounds),
+            Row::Tap(tapped) => self.may_tap(tapped),
             Row::Does(step) => self.header().is_some() && self.may_do(step),
             Row::Phase => self.header().is_some() && self.phase.is_none(),
             Row::End => self.phase.is_some(),
@@ -135,6 +160,7 @@ impl Reading {
             Row::Limit(most) => self.limit = Some(*most),
             Row::Threads(most) => self.threads = Some(*most),
             Row::Rounds(rounds) => self.rounds = Some(*rounds),
+            Row::Tap(tapped) => self.taps.push(*tapped)?,
             Row::Does(step) => self.take_step(alloc, step)?,
             Row::Phase => self.phase = Some(List::new(alloc)),
             Row::End => self.end_phase()?,
@@ -209,6 +235,9 @@ impl Reading {
     {
         match found {
             Ok(true) => {
+                if !self.is_tapped(row) {
+                    return Err(LineFault::Refused(Cause::Range));
+                }
                 if !self.may_stand(row) {
                     return Err(LineFault::Refused(Cause::Place));
                 }
@@ -221,16 +250,30 @@ impl Reading {
     }
 }
 
+// Whether a step of a client may stand in a phase.
+fn may_go_in_phase(step: &ClientStep) -> bool
+    ensures { result ≡ may_go_in_phase step.now }
+{
+    !matches!(step, ClientStep::Look { .. })
+}
+
+// Whether a step of the operator may stand in a phase.
+fn may_order_in_phase(step: &OperatorStep) -> bool
+    ensures { result ≡ may_order_in_phase step.now }
+{
+    !matches!(
+        step,
+        OperatorStep::Link { .. } | OperatorStep::Settle | OperatorStep::Feed { .. }
+    )
+}
+
 // Whether a step may stand in a phase.
 fn may_do_in_phase(step: &Step) -> bool
     ensures { result ≡ may_do_in_phase step.now }
 {
     match step {
-        Step::Client { .. } => true,
-        Step::Operator { step } => !matches!(
-            step,
-            OperatorStep::Link { .. } | OperatorStep::Settle
-        ),
+        Step::Client { step, .. } => may_go_in_phase(step),
+        Step::Operator { step } => may_order_in_phase(step),
     }
 }
 

@@ -11,7 +11,7 @@ use crate::said::{Said, say_all};
 use crate::steps::{is_bare, put_bare, put_inc, put_read};
 use crate::words::{MOST_WORDS, cut_words, is_plain_text, without_return};
 use dc_talk::{Change, LinkFault};
-use script_core::{AskFault, ClientStep, Header, MAX_LINE, MAX_LINES, OperatorStep, Step};
+use script_core::{AskFault, ClientStep, Header, MAX_LINE, MAX_LINES, OperatorStep, Step, Tapped};
 
 /// What a line says.
 #[derive(Clone, Copy)]
@@ -28,6 +28,8 @@ pub enum Row {
     Threads(u32),
     /// How many rounds a worker makes in a phase.
     Rounds(u32),
+    /// An object that a tap shows.
+    Tap(Tapped),
     /// A step of a client or of the operator.
     Does(Step),
     /// A phase begins.
@@ -106,6 +108,10 @@ pub fn row_of(form: Form, said: &Said) -> Row
         Form::Limit => Row::Limit(said.count),
         Form::Threads => Row::Threads(said.count),
         Form::Rounds => Row::Rounds(said.count),
+        Form::Tap => Row::Tap(Tapped {
+            centre: said.centre,
+            object: said.object,
+        }),
         Form::Connect => client_row(
             said,
             ClientStep::Connect {
@@ -184,6 +190,13 @@ pub fn row_of(form: Form, said: &Said) -> Row
                 fault: AskFault::Twice,
             },
         ),
+        Form::Look => client_row(
+            said,
+            ClientStep::Look {
+                centre: said.centre,
+                object: said.object,
+            },
+        ),
         Form::Down => operator_row(OperatorStep::Down {
             centre: said.centre,
         }),
@@ -209,6 +222,9 @@ pub fn row_of(form: Form, said: &Said) -> Row
             to: said.other,
         }),
         Form::Prune => operator_row(OperatorStep::Prune {
+            centre: said.centre,
+        }),
+        Form::Feed => operator_row(OperatorStep::Feed {
             centre: said.centre,
         }),
         Form::LinkDrop => link_row(said, LinkFault::Drop { every }),

@@ -103,6 +103,7 @@ fn script_with(header: Header, reading: Reading) -> Script
         limit: reading.limit.map_or(u64::from(MOST_RECORDS), u64::from),
         threads: reading.threads.unwrap_or(DEFAULT_THREADS),
         rounds: reading.rounds.unwrap_or(DEFAULT_ROUNDS),
+        taps: reading.taps,
         sections: reading.sections,
     }
 }

@@ -22,9 +22,10 @@ use Rattle.dc_talk.specs.Objects.{state_at}
 use Rattle.dc_talk.specs.Trails.{applied}
 use Rattle.dc_talk.specs.Answers.{History}
 use Rattle.dc_talk.proofs.Doors.{made_one, made_then}
-use Rattle.read_tap.specs.declared.show.Show.{Show}
-use Rattle.read_tap.specs.declared.asks.Fed.{Fed}
-use Rattle.read_tap.specs.Feeds.{fetches_of, Feeds}
+use Rattle.script_core.specs.declared.taps.Show.{Show}
+use Rattle.dc_talk.specs.declared.seen.Fed.{Fed}
+use Rattle.script_core.specs.Feeds.{fetches_of}
+use Rattle.read_tap.specs.Feeds.{Feeds}
 use Rattle.read_tap.proofs.Feeding.{by_feed}
 use Rattle.show_law.specs.Subsequences.{IsSubsequence}
 use Rattle.show_law.specs.Fronts.{through, IsPrunedAt}

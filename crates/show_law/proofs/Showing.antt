@@ -13,8 +13,9 @@ use Rattle.dc_talk.specs.Records.{vector}
 use Rattle.dc_talk.specs.Objects.{state_at}
 use Rattle.dc_talk.specs.Trails.{applied, stable, horizon}
 use Rattle.dc_talk.specs.Answers.{History}
-use Rattle.read_tap.specs.declared.show.Show.{Show}
-use Rattle.read_tap.specs.Shows.{IsFront, opening}
+use Rattle.script_core.specs.declared.taps.Show.{Show}
+use Rattle.script_core.specs.Taps.{opening}
+use Rattle.read_tap.specs.Shows.{IsFront}
 use Rattle.show_law.specs.Fronts.{through, states_at}
 use Rattle.show_law.specs.Shows.{IsShowAt, IsShowOf, AreShowsFrom, AreTapShows}
 use Rattle.show_law.proofs.Staying.{stays, empty_at}

@@ -9,11 +9,12 @@ use Rattle.dc_talk.specs.declared.log.Deed.{Deed}
 use Rattle.dc_talk.specs.declared.log.Deed.TheVariants.{Asked}
 use Rattle.dc_talk.specs.Entries.{Entry}
 use Rattle.dc_talk.specs.Trails.{horizon}
-use Rattle.read_tap.specs.declared.show.Show.{Show}
-use Rattle.read_tap.specs.declared.asks.Fed.{Fed}
-use Rattle.read_tap.specs.declared.asks.Fed.TheVariants.{Shown}
-use Rattle.read_tap.specs.Shows.{opening}
-use Rattle.read_tap.specs.Feeds.{FetchesAll, Feeds}
+use Rattle.script_core.specs.declared.taps.Show.{Show}
+use Rattle.dc_talk.specs.declared.seen.Fed.{Fed}
+use Rattle.dc_talk.specs.declared.seen.Fed.TheVariants.{Shown}
+use Rattle.script_core.specs.Taps.{opening}
+use Rattle.script_core.specs.Feeds.{FetchesAll}
+use Rattle.read_tap.specs.Feeds.{Feeds}
 use Rattle.show_law.specs.Fronts.{through, IsPrunedAt, states_at}
 
 -- the prune at a place of the trail left the show's vector as the base, and the show's states are those that the objects

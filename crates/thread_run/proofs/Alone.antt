@@ -30,7 +30,7 @@ use Rattle.run_table.specs.declared.table.Table.{Table}
 use Rattle.run_table.specs.Tables.{Turn, log_at, log_in, AreHistories}
 use Rattle.run_table.proofs.Reading.{log_here, log_else}
 use Rattle.run_sections.specs.Orders.{InOrder, none_left, one_first, ClientGoes, OperatorGoes, ReceiverGoes, Intake, intake}
-use Rattle.run_sections.specs.Sections.{actors_of, Left, Receives, linked}
+use Rattle.run_sections.specs.Sections.{actors_of, Left, Receives, PlaysTaps, linked}
 use Rattle.thread_run.specs.Tables.{notes_at, between_of, IsTableOf, HasPlayed}
 
 -- ---- what is done one after another
@@ -145,7 +145,7 @@ module _ (script : Script) (number actor : ℕ) (deeds : List Deed) (old new : T
     worker_none i Reporter centre = left_none (worker_of script.clients i Reporter) (λ same. omega (arith, same, low))
     worker_none i Pruner centre = left_none (worker_of script.clients i Pruner) (λ same. omega (arith, same, low))
 
-    module _ (clients : (client : ℕ) → IsCount script.clients client → InOrder ClientGoes number 1 ((between_of script old).come client) (client_steps client (section_of step)) (left.notes (client + 1)) ((between_of script new).come client)) (operator : InOrder (OperatorGoes script.n) number 1 tt (operator_steps (section_of step)) (left.notes 1) tt) (inlets : (from to : ℕ) → IsCount script.n from → IsCount script.n to → (post_at new.posts from to).inlet ≡ linked (operator_steps (section_of step)) from to (post_at old.posts from to).inlet) where
+    module _ (clients : (client : ℕ) → IsCount script.clients client → InOrder ClientGoes number 1 ((between_of script old).come client) (client_steps client (section_of step)) (left.notes (client + 1)) ((between_of script new).come client)) (operator : InOrder (OperatorGoes script.n) number 1 tt (operator_steps (section_of step)) (left.notes 1) tt) (inlets : (from to : ℕ) → IsCount script.n from → IsCount script.n to → (post_at new.posts from to).inlet ≡ linked (operator_steps (section_of step)) from to (post_at old.posts from to).inlet) (taps : PlaysTaps script (section_of step) (between_of script old) left (between_of script new)) where
       -- nor does a receiver
       line_receives : (j : ℕ) → IsCount script.n j → Receives script number (section_of step) (between_of script old) left (between_of script new) j
       line_receives j centre =
@@ -170,6 +170,7 @@ module _ (script : Script) (number actor : ℕ) (deeds : List Deed) (old new : T
           receivers = line_receives;
           reporters = λ i centre. order_none _ number tt tt [] (left.notes (worker_of script.clients i Reporter)) refl (worker_none i Reporter centre) refl;
           pruners = λ i centre. order_none _ number tt tt [] (left.notes (worker_of script.clients i Pruner)) refl (worker_none i Pruner centre) refl;
+          taps = taps;
           callers = λ i entry centre there. alone_callers i entry there;
           paired = λ i a centre there. paired_in i a (happening actor mine);
         };

@@ -17,7 +17,7 @@ use Rattle.dc_talk.specs.declared.log.Note.{Note}
 use Rattle.mail_link.specs.Ends.{GiverView}
 use Rattle.script_core.specs.declared.script.Header.{Header}
 use Rattle.script_core.specs.declared.steps.OperatorStep.{OperatorStep}
-use Rattle.script_core.specs.declared.steps.OperatorStep.TheVariants.{Down, Up, ShipOne, Ship, Relay, Tell, Prune, Link, Settle}
+use Rattle.script_core.specs.declared.steps.OperatorStep.TheVariants.{Down, Up, ShipOne, Ship, Relay, Tell, Prune, Link, Settle, Feed}
 use Rattle.script_core.specs.declared.steps.Step.{Step}
 use Rattle.script_core.specs.declared.steps.Step.TheVariants.{Client, Operator}
 use Rattle.script_core.specs.Steps.{IsCount, IsStepOf}
@@ -84,6 +84,7 @@ sets_none (Tell i j) steps from to inlet may = refl
 sets_none (Prune centre) steps from to inlet may = refl
 sets_none (Link i j fault) steps from to inlet may = absurd (false≢true may)
 sets_none Settle steps from to inlet may = refl
+sets_none (Feed centre) steps from to inlet may = refl
 
 -- so no link is set in a phase
 pub none_set : (header : Header) (steps : List Step) (from to : ℕ) (inlet : Inlet Sent) → All (λ step. IsStepOf header step × IsInPhase step) steps → linked (filter_map operator_step steps) from to inlet ≡ inlet

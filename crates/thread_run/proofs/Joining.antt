@@ -1,10 +1,10 @@
 -- Section after section of a script, as the table shows them, and the book of all.
-use Rattle.std.proofs.Common.{◌≡◌, ◌≤◌, ◌<◌, ⊎_elim, ℕ, zero, suc, ◌+◌, ◌-◌, ◌*◌, List, [], ◌∷◌, ◌++◌, map, length, length-append, get_or, replicate, take, Some, None, refl, sym, ap, ◌∙◌, subst, arith}
+use Rattle.std.proofs.Common.{◌≡◌, ◌≤◌, ◌<◌, ⊎_elim, ℕ, zero, suc, ◌+◌, ◌-◌, ◌*◌, List, [], ◌∷◌, ◌++◌, map, length, length-append, get_or, replicate, take, cond, ◌==◌, inl, Some, None, refl, sym, ap, ◌∙◌, subst, arith}
 use Rattle.std.specs.Prelude.{slice_get, All, flat_map, Result, Ok, Err, IfOk}
 use Rattle.std.specs.Option.{option_map}
 use Rattle.std.specs.List.{range_with_len}
 use Rattle.std.proofs.lemmas.Bool.{cases_lt}
-use Rattle.std.proofs.lemmas.Option.{same_Some, slice_get-map, slice_get_past}
+use Rattle.std.proofs.lemmas.Option.{same_Some, slice_get-map, slice_get_past, get_or_from_slice_get}
 use Rattle.std.proofs.lemmas.List.{append-nil, length-map, nil_from_length, take_more, length-take-le}
 use Rattle.std.proofs.lemmas.List.Elements.{All-map}
 use Rattle.std.proofs.lemmas.List.FromFn.{length-map-range_with_len}
@@ -12,6 +12,7 @@ use Rattle.std.proofs.lemmas.Grind.{flat_map-append}
 use Rattle.list_core.specs.Members.{In}
 use Rattle.list_core.proofs.Gets.{get_within, all_get}
 use Rattle.list_core.proofs.Moments.{each_none}
+use Rattle.dc_talk.specs.declared.log.Deed.{Deed}
 use Rattle.dc_talk.specs.declared.log.Note.{Note}
 use Rattle.dc_talk.specs.declared.settings.Settings.{Settings}
 use Rattle.dc_talk.specs.Entries.{Entry}
@@ -25,12 +26,19 @@ use Rattle.dc_mail.specs.Posts.{post_at, place_of}
 use Rattle.vv_core.specs.Vectors.{centres}
 use Rattle.ids_core.specs.declared.limits.TheConstants.{MOST_CENTRES}
 use Rattle.script_core.specs.declared.script.Script.{Script}
+use Rattle.script_core.specs.declared.taps.TapState.{TapState}
+use Rattle.script_core.specs.declared.steps.ClientStep.{ClientStep}
+use Rattle.script_core.specs.declared.steps.ClientStep.TheVariants.{Look}
+use Rattle.script_core.specs.declared.steps.OperatorStep.{OperatorStep}
+use Rattle.script_core.specs.declared.steps.OperatorStep.TheVariants.{Feed}
 use Rattle.script_core.specs.declared.steps.Section.{Section}
 use Rattle.script_core.specs.Deeds.{Progress}
 use Rattle.script_core.specs.Mail.{Post, new_post}
 use Rattle.script_core.specs.Rows.{IsSection}
 use Rattle.script_core.specs.Scripts.{header_of, IsInRange}
-use Rattle.script_core.specs.Steps.{IsCount}
+use Rattle.script_core.specs.Steps.{IsCount, IsStep, IsOperatorStep}
+use Rattle.script_core.specs.Feeds.{FeedDeeds, show_in}
+use Rattle.script_core.specs.Taps.{first_tap, FeedsSo, LooksSo, fed_tap, looks, seen_through, taps_then}
 use Rattle.client_stub.specs.Playing.{StubView}
 use Rattle.run_book.specs.declared.book.Book.{Book}
 use Rattle.run_book.specs.Setups.{setup_of, settings_among}
@@ -40,19 +48,22 @@ use Rattle.run_book.specs.Moves.{client_steps, operator_steps}
 use Rattle.run_book.specs.Played.{new_progress}
 use Rattle.run_table.specs.declared.table.Table.{Table}
 use Rattle.run_table.specs.Tables.{log_at, IsNew, new_stub}
+use Rattle.run_table.specs.Taps.{no_tap, taps_of}
 use Rattle.run_table.proofs.Reading.{new_trails, new_settings, new_notes, new_actors, trails_match, logs_match}
 use Rattle.run_table.proofs.Numbered.{get_below}
 use Rattle.run_sections.specs.Apart.{AreApart, StandsAt, IsBookWith, notes_then, trails_then}
-use Rattle.run_sections.specs.Orders.{InOrder, ClientGoes, intake}
+use Rattle.run_sections.specs.Orders.{deeds_of, InOrder, ClientGoes, intake}
+use Rattle.run_sections.specs.Taps.{OneLooks, OneFeeds, taps_behind}
 use Rattle.run_sections.specs.Runs.{no_sections, IsSectionRunOf}
-use Rattle.run_sections.specs.Sections.{actors_of, Between, first_between, Left, PlaysSection, linked}
+use Rattle.run_sections.specs.Sections.{actors_of, Between, first_between, Left, PlaysTaps, PlaysSection, linked}
 use Rattle.run_sections.proofs.Actors.{client_acts, carrier_acts}
 use Rattle.run_sections.proofs.Fits.{fits_apart}
-use Rattle.run_sections.proofs.Reaching.{link_there}
+use Rattle.run_sections.proofs.Reaching.{client_sound, operator_sound, link_there}
 use Rattle.run_sections.proofs.Orders.{sections_more}
 use Rattle.run_sections.proofs.Sectioning.{none_apart, none_stands, section_apart}
+use Rattle.run_steps.proofs.Who.{behind_who}
 use Rattle.thread_run.specs.Played.{AreAlike, HasRun}
-use Rattle.thread_run.specs.Tables.{notes_at, between_of, AreLinked, IsTableOf, HasPlayed}
+use Rattle.thread_run.specs.Tables.{notes_at, between_of, AreLinked, AreNumbered, IsTableOf, HasPlayed}
 use Rattle.thread_run.proofs.Taking.{centres_many, come_at}
 
 -- ---- the trails of a table
@@ -107,11 +118,54 @@ module _ (script : Script) (notes other : ℕ → List Note) (same : (a : ℕ) �
 
 -- the same between two sections
 alike_itself : (script : Script) (here : Between) → AreAlike script here here
-alike_itself script here = record { come = λ client range. refl; inlets = λ from to f t. refl }
+alike_itself script here = record { come = λ client range. refl; inlets = λ from to f t. refl; taps = λ i range. refl }
+
+-- ---- taps that show the same
+
+module _ (script : Script) (one two : ℕ → TapState) (alike : (i : ℕ) → IsCount script.n i → one i ≡ two i) where
+  -- a look sees the same
+  look_alike : (client : ℕ) (step : ClientStep) (deeds : List Deed) → IsStep script.n step → LooksSo two client step deeds → LooksSo one client step deeds
+  look_alike client (Look centre object) deeds is looked = subst (λ (tap : TapState). deeds ≡ looks client centre object (seen_through tap object)) (sym (alike centre is.0)) looked
+  look_alike client step deeds is looked = tt
+
+  -- a feed asks for the same
+  feed_alike : (step : OperatorStep) (deeds : List Deed) → IsOperatorStep script.n step → FeedsSo two step deeds → FeedsSo one step deeds
+  feed_alike (Feed centre) deeds is fed = subst (λ (tap : TapState). FeedDeeds centre tap.objects deeds) (sym (alike centre is)) fed
+  feed_alike step deeds is fed = tt
+
+  -- so does the one look of a client
+  looks_alike : (client : ℕ) (steps : List ClientStep) (deeds : List Deed) → ((step : ClientStep) → In step steps → IsStep script.n step) → OneLooks two client steps deeds → OneLooks one client steps deeds
+  looks_alike client [] deeds each looked = tt
+  looks_alike client (step ∷ []) deeds each looked = look_alike client step deeds (each step (inl refl)) looked
+  looks_alike client (step ∷ next ∷ rest) deeds each looked = tt
+
+  -- and the one feed of the operator
+  feeds_alike : (steps : List OperatorStep) (deeds : List Deed) → ((step : OperatorStep) → In step steps → IsOperatorStep script.n step) → OneFeeds two steps deeds → OneFeeds one steps deeds
+  feeds_alike [] deeds each fed = tt
+  feeds_alike (step ∷ []) deeds each fed = feed_alike step deeds (each step (inl refl)) fed
+  feeds_alike (step ∷ next ∷ rest) deeds each fed = tt
+
+  -- behind one step they show the same
+  step_alike : (step : OperatorStep) (deeds : List Deed) (i : ℕ) → IsCount script.n i → taps_then step deeds one i ≡ taps_then step deeds two i
+  step_alike (Feed centre) deeds i range = ap (λ (tap : TapState). cond (i == centre) (fed_tap (show_in deeds) tap) tap) (alike i range)
+  step_alike step deeds i range = alike i range
+
+  behind_alike : (steps : List OperatorStep) (deeds : List Deed) (i : ℕ) → IsCount script.n i → taps_behind steps deeds one i ≡ taps_behind steps deeds two i
+  behind_alike [] deeds i range = alike i range
+  behind_alike (step ∷ []) deeds i range = step_alike step deeds i range
+  behind_alike (step ∷ next ∷ rest) deeds i range = alike i range
+
+-- what a section has to do with taps is the same from there on
+taps_alike : (script : Script) (section : Section) (one two new : Between) (left : Left) → IsSection (header_of script) section → AreAlike script one two → PlaysTaps script section two left new → PlaysTaps script section one left new
+taps_alike script section one two new left sound alike plays = record {
+  looks = λ client range line. looks_alike script one.taps two.taps alike.taps client (client_steps client section) (deeds_of (left.notes (client + 1))) (client_sound script section sound client) (plays.looks client range line);
+  feeds = λ line. feeds_alike script one.taps two.taps alike.taps (operator_steps section) (deeds_of (left.notes 1)) (operator_sound script section sound) (plays.feeds line);
+  behind = λ i range. plays.behind i range ∙ sym (λ k. cond section.phase (alike.taps i range k) (behind_alike script one.taps two.taps alike.taps (operator_steps section) (deeds_of (left.notes 1)) i range k));
+}
 
 -- a section that was played from there on
-plays_alike : (script : Script) (number : ℕ) (section : Section) (one two new : Between) (left : Left) → AreAlike script one two → PlaysSection script number section two left new → PlaysSection script number section one left new
-plays_alike script number section one two new left alike plays = record {
+plays_alike : (script : Script) (number : ℕ) (section : Section) (one two new : Between) (left : Left) → IsSection (header_of script) section → AreAlike script one two → PlaysSection script number section two left new → PlaysSection script number section one left new
+plays_alike script number section one two new left sound alike plays = record {
   clients = λ client range. subst (λ p. InOrder ClientGoes number 1 p (client_steps client section) (left.notes (client + 1)) (new.come client)) (sym (alike.come client range)) (plays.clients client range);
   operator = plays.operator;
   senders = plays.senders;
@@ -127,6 +181,7 @@ plays_alike script number section one two new left alike plays = record {
       };
   reporters = plays.reporters;
   pruners = plays.pruners;
+  taps = taps_alike script section one two new left sound alike plays.taps;
   callers = plays.callers;
   paired = plays.paired;
 }
@@ -169,10 +224,22 @@ module _ (script : Script) (table : Table) (new : IsNew script table) where
       sym (come_at script table client (new_stub script.n script.cache client) there
       ∙ (λ k. record { client = new_client script.n client script.cache; armed = None; notes = no_notes (client + 1) k }))
 
+  -- its taps show what is shown at first
+  new_taps_show : (i : ℕ) → IsCount script.n i → first_tap script.n script.taps i ≡ taps_of table.taps.items i
+  new_taps_show zero range = absurd (omega (arith, range.0))
+  new_taps_show (suc place) range =
+      let next : 1 + place ≡ suc place = omega arith in
+      let there : slice_get table.taps.items place ≡ Some (first_tap script.n script.taps (suc place)) =
+      ap (λ (taps : List TapState). slice_get taps place) new.taps
+      ∙ (get_below (first_tap script.n script.taps) script.n place (omega (arith, range.1))
+      ∙ ap (λ i. Some (first_tap script.n script.taps i)) next) in
+      sym (get_or_from_slice_get table.taps.items place (first_tap script.n script.taps (suc place)) no_tap there)
+
   new_alike : AreAlike script (first_between script) (between_of script table)
   new_alike = record {
     come = new_come;
     inlets = λ from to f t. sym (ap (λ posts. (post_at posts from to).inlet) new.posts ∙ ap (λ (post : Post). post.inlet) (replicate_or (MOST_CENTRES * MOST_CENTRES) (place_of from to) new_post));
+    taps = new_taps_show;
   }
 
   -- no section was played
@@ -205,6 +272,10 @@ module _ (script : Script) (front : List Section) (table : Table) (run : HasRun 
       subst (λ (s : Client). IsLinkWithin script.n s.link) (sym (run.stands.clients client range))
       (link_there script (notes_at table) (trail_at table.door.centres) run.apart client range)
 
+  -- each client has its own number
+  pub run_numbered : AreNumbered script table
+  run_numbered client range = ap (λ (s : Client). s.client) (run.stands.clients client range) ∙ behind_who (new_client script.n client script.cache) (notes_at table (client + 1))
+
   -- one section more was played
   pub run_more : (number : ℕ) (section : Section) (new : Table) → number ≡ 1 + length front → IsSection (header_of script) section → HasPlayed script number section table new → HasRun script (front ++ section ∷ []) new
   run_more number section new is sound played =
@@ -217,7 +288,7 @@ module _ (script : Script) (front : List Section) (table : Table) (run : HasRun 
         is = played.is;
         lefts = run.lefts ++ left ∷ [];
         last = between_of script new;
-        plays = sections_more script 1 number (first_between script) run.last (between_of script new) front section run.lefts left is run.plays (plays_alike script number section run.last (between_of script table) (between_of script new) left run.alike played.plays);
+        plays = sections_more script 1 number (first_between script) run.last (between_of script new) front section run.lefts left is run.plays (plays_alike script number section run.last (between_of script table) (between_of script new) left sound run.alike played.plays);
         alike = alike_itself script (between_of script new);
         notes = λ a range. lefts_more (λ (left : Left). left.notes a) run.lefts left (notes_at table a) (notes_at new a) (run.notes a range) (played.notes a range);
         trails = λ i. lefts_more (λ (left : Left). left.entries i) run.lefts left (trail_at table.door.centres i) (trail_at new.door.centres i) (run.trails i) (played.trails i);

@@ -1,6 +1,6 @@
 -- A phase that was played with threads was played as a section.
 use Rattle.std.proofs.Common.{◌≡◌, ℕ, suc, ◌+◌, ◌-◌, ◌≤◌, ◌<◌, ◌==◌, ⊎_elim, Bool, true, false, cond, List, [], ◌++◌, length, drop, Some, None, refl, sym, ap, ◌∙◌, subst, arith}
-use Rattle.std.proofs.lemmas.Bool.{cases_lt, eq-eqb}
+use Rattle.std.proofs.lemmas.Bool.{cases_lt, eq-eqb, false≢true}
 use Rattle.std.proofs.lemmas.Option.{same_Some}
 use Rattle.std.proofs.lemmas.List.{length-map}
 use Rattle.list_core.specs.Members.{In}
@@ -23,18 +23,22 @@ use Rattle.dc_host.specs.HostDoors.{CentreHost, CentrePass}
 use Rattle.dc_host.specs.Hosts.{rows_of, new_rows, column}
 use Rattle.dc_door.specs.KeptDoors.{trail_at, settings_of}
 use Rattle.dc_host.proofs.Passes.{zip_long}
+use Rattle.script_core.specs.declared.taps.TapState.{TapState}
 use Rattle.script_core.specs.declared.rounds.Role.TheVariants.{Sender}
 use Rattle.script_core.specs.Steps.{IsCount}
 use Rattle.script_core.specs.Rounds.{worker_of}
 use Rattle.run_book.specs.Parts.{entries_by, exchanged}
 use Rattle.run_book.specs.Happenings.{GoesToOneOf}
+use Rattle.run_book.specs.Moves.{operator_steps}
 use Rattle.run_book.proofs.Happenings.WorkerRounds.{worker_carries, sender_go}
 use Rattle.run_sections.specs.Orders.{deeds_of, SenderGoes}
-use Rattle.run_sections.specs.Sections.{PlaysSection, actors_of, rounds_in}
+use Rattle.run_sections.specs.Taps.{taps_behind}
+use Rattle.run_sections.specs.Sections.{PlaysTaps, PlaysSection, actors_of, rounds_in}
 use Rattle.run_sections.proofs.Actors.{carrier_acts}
 use Rattle.run_sections.proofs.InTurn.{order_each, deed_holds}
 use Rattle.run_table.specs.declared.table.Table.{Table}
 use Rattle.run_table.specs.Tables.{AreHistories}
+use Rattle.run_table.specs.Taps.{taps_of}
 use Rattle.run_table.proofs.Framing.{mailed_framed, trail_fit}
 use Rattle.phase_actors.specs.declared.callers.Caller.{Caller}
 use Rattle.phase_actors.specs.declared.clients.Player.{Player}
@@ -152,6 +156,16 @@ module _ (scene : Scene) (old new : Table) (h : IsPhasePlayed scene old new) whe
         ap (λ (log : Logged). log.actor) (log_behind scene old new h a c.last range.0 c.is) ∙ (c.acted.same.0 ∙ c.actor);
   }
 
+  -- the taps stay
+  taps_then : PlaysTaps scene.script.now scene.section.now (between_of scene.script.now old) (left_between old new) (between_of scene.script.now new)
+  taps_then = record {
+    looks = λ client range none. absurd (false≢true (sym none ∙ h.run.begun.phase.phase));
+    feeds = λ none. absurd (false≢true (sym none ∙ h.run.begun.phase.phase));
+    behind = λ i range.
+        let fed : TapState = taps_behind (operator_steps scene.section.now) (deeds_of ((left_between old new).notes 1)) (taps_of old.taps.items) i in
+        ap (λ taps. taps_of taps i) h.taps_stay ∙ sym (ap (λ (phase : Bool). cond phase (taps_of old.taps.items i) fed) h.run.begun.phase.phase);
+  }
+
   -- ---- what the senders mailed
 
   -- their asks go to centres that there are
@@ -190,6 +204,7 @@ module _ (scene : Scene) (old new : Table) (h : IsPhasePlayed scene old new) whe
     receivers = receivers_play scene old new h mails_framed;
     reporters = reporters_play scene old new h;
     pruners = pruners_play scene old new h;
+    taps = taps_then;
     callers = callers_left;
     paired = paired_left;
   }

@@ -79,6 +79,7 @@ pub record IsPhasePlayed (scene : Scene) (old new : Table) : Type 0 where
   pub door_is : new.door.centres ≡ all_seen kept
   pub stubs_new : new.stubs.items ≡ run.later.stubs.items
   pub logs_new : new.logs.items ≡ run.later.logs.items
+  pub taps_stay : new.taps.items ≡ old.taps.items
 
 -- what stands in one table behind what stood in the other
 unfoldable pub left_between : Table → Table → Left

@@ -35,6 +35,7 @@ use Rattle.script_core.specs.Orders.{OperatorDeeds}
 use Rattle.script_core.specs.Rows.{section_of}
 use Rattle.script_core.specs.Scripts.{header_of}
 use Rattle.script_core.specs.Steps.{IsCount, IsStep, IsStepOf, IsOwn}
+use Rattle.script_core.specs.Taps.{FeedsSo, LooksSo, taps_then}
 use Rattle.dc_worker.proofs.Work.{on_turn}
 use Rattle.client_stub.specs.Playing.{StubView, IsLinkBehind}
 use Rattle.run_book.specs.Setups.{setup_of, settings_among}
@@ -45,10 +46,12 @@ use Rattle.run_book.proofs.Happenings.Entries.{deeds_marked}
 use Rattle.run_book.proofs.Happenings.Playing.{all_at}
 use Rattle.run_table.specs.declared.table.Table.{Table}
 use Rattle.run_table.specs.Tables.{log_at, log_in, HasStepped, HasOperated}
+use Rattle.run_table.specs.Taps.{taps_of}
 use Rattle.run_table.proofs.Allowing.{allows_does}
 use Rattle.run_sections.specs.Orders.{deeds_of, InOrder, ClientGoes, OperatorGoes}
-use Rattle.run_sections.specs.Sections.{actors_of, Left, linked}
-use Rattle.thread_run.specs.Tables.{notes_at, come_of, between_of, AreLinked, IsTableOf, HasPlayed}
+use Rattle.run_sections.specs.Sections.{actors_of, Left, PlaysTaps, linked}
+use Rattle.run_sections.specs.Taps.{OneLooks}
+use Rattle.thread_run.specs.Tables.{notes_at, come_of, between_of, AreLinked, AreNumbered, IsTableOf, HasPlayed}
 use Rattle.thread_run.proofs.Alone.{order_none, order_one, turn_in, notes_of_deeds, left_alone, HasDoneAlone, left_own, left_none, alone_notes, line_played}
 
 -- ---- how far clients are
@@ -77,7 +80,7 @@ stub_linked script table client stub is linked range there = behind stub.client.
 
 -- ---- a client's step
 
-module _ (script : Script) (number client : ℕ) (step : ClientStep) (old new : Table) (is : IsTableOf script old) (range : IsCount script.clients client) (h : HasStepped (turn_in number (client + 1)) step old new) where
+module _ (script : Script) (number client : ℕ) (step : ClientStep) (old new : Table) (is : IsTableOf script old) (numbered : AreNumbered script old) (range : IsCount script.clients client) (h : HasStepped (turn_in number (client + 1)) step old new) where
   -- the deeds
   abbrev done : List Deed
   done = h.takes.deeds
@@ -138,6 +141,33 @@ module _ (script : Script) (number client : ℕ) (step : ClientStep) (old new : 
       (ap (λ test. cons_option (when test step) []) (ne_eqb client other (λ same. differs (sym same))))
       none (come_same script old new other stubs notes)
 
+  -- it looks at what the taps show, where it does so
+  sees : (other : ℕ) → OneLooks (between_of script old).taps other (client_steps other (section_of (ByClient client step))) (deeds_of (theirs.notes (other + 1)))
+  sees other = ⊎_elim own none (cases_eq other client)
+    where
+      -- the client's own step
+      own : other ≡ client → OneLooks (between_of script old).taps other (client_steps other (section_of (ByClient client step))) (deeds_of (theirs.notes (other + 1)))
+      own same =
+          let mine : h.stub.client.client ≡ client = sym (ap (λ (p : Progress). p.client.client) (come_at script old client h.stub there)) ∙ numbered client range in
+          let looked : LooksSo (taps_of old.taps.items) client step (deeds_of (theirs.notes (client + 1))) =
+          subst (λ notes. LooksSo (taps_of old.taps.items) client step (deeds_of notes)) (sym (left_own script number (client + 1) done old new is acts alone))
+          (subst (LooksSo (taps_of old.taps.items) client step) (sym (deeds_marked number 1 done))
+          (subst (λ c. LooksSo (taps_of old.taps.items) c step done) mine h.looks)) in
+          subst (λ c. OneLooks (between_of script old).taps c (client_steps c (section_of (ByClient client step))) (deeds_of (theirs.notes (c + 1)))) (sym same)
+          (subst (λ steps. OneLooks (taps_of old.taps.items) client steps (deeds_of (theirs.notes (client + 1)))) (sym (ap (λ test. cons_option (when test step) []) (eq-eqb client client refl))) looked)
+
+      -- another one has none
+      none : other ≢ client → OneLooks (between_of script old).taps other (client_steps other (section_of (ByClient client step))) (deeds_of (theirs.notes (other + 1)))
+      none differs = subst (λ steps. OneLooks (taps_of old.taps.items) other steps (deeds_of (theirs.notes (other + 1)))) (sym (ap (λ test. cons_option (when test step) []) (ne_eqb client other (λ same. differs (sym same))))) tt
+
+  -- the taps stay
+  leaves_taps : PlaysTaps script (section_of (ByClient client step)) (between_of script old) theirs (between_of script new)
+  leaves_taps = record {
+    looks = λ other high line. sees other;
+    feeds = λ line. tt;
+    behind = λ i among. ap (λ taps. taps_of taps i) h.taps;
+  }
+
   allowed_own : ClientDoes ((between_of script old).come client).client (notes_at old (client + 1)) (theirs.notes (client + 1))
   allowed_own =
       subst (λ (p : Progress). ClientDoes p.client (notes_at old (client + 1)) (theirs.notes (client + 1))) (sym (come_at script old client h.stub there))
@@ -153,6 +183,7 @@ module _ (script : Script) (number client : ℕ) (step : ClientStep) (old new : 
       (cases_eq other client))
       (order_none (OperatorGoes script.n) number tt tt [] (theirs.notes 1) refl (left_none script number (client + 1) done old new is acts alone 1 (λ same. omega (arith, same, range.0))) refl)
       (λ from to f t. ap (λ posts. (post_at posts from to).inlet) h.posts)
+      leaves_taps
       (λ other high. ⊎_elim
       (λ same. subst (λ c. ClientDoes ((between_of script old).come c).client (notes_at old (c + 1)) (theirs.notes (c + 1))) (sym same) allowed_own)
       (λ differs. subst (ClientDoes ((between_of script old).come other).client (notes_at old (other + 1))) (sym (left_none script number (client + 1) done old new is acts alone (other + 1) (λ same. differs (omega (arith, same))))) tt)
@@ -201,6 +232,18 @@ module _ (script : Script) (number : ℕ) (step : OperatorStep) (old new : Table
       order_none ClientGoes number ((between_of script old).come client) ((between_of script new).come client) (client_steps client (section_of (ByOperator step))) (its.notes (client + 1)) refl none
       (come_same script old new client (ap (λ stubs. slice_get stubs.items (client - 1)) h.stubs) notes)
 
+  -- the deeds that it leaves
+  its_deeds : deeds_of (its.notes 1) ≡ ordered
+  its_deeds = ap deeds_of (left_own script number 1 ordered old new is it_acts it_alone) ∙ deeds_marked number 1 ordered
+
+  -- the taps show what it fed
+  feeds_taps : PlaysTaps script (section_of (ByOperator step)) (between_of script old) its (between_of script new)
+  feeds_taps = record {
+    looks = λ client range line. tt;
+    feeds = λ line. subst (FeedsSo (taps_of old.taps.items) step) (sym its_deeds) h.feeds;
+    behind = λ i range. h.taps i ∙ ap (λ deeds. taps_then step deeds (taps_of old.taps.items) i) (sym its_deeds);
+  }
+
   -- its step was played
   pub order_line : HasPlayed script number (section_of (ByOperator step)) old new
   order_line =
@@ -209,16 +252,17 @@ module _ (script : Script) (number : ℕ) (step : OperatorStep) (old new : Table
       line_played script number 1 ordered old new is it_acts it_alone (ByOperator step) (omega arith) client_stays
       (order_one (OperatorGoes script.n) number tt tt (step ∷ []) step (its.notes 1) (notes_of_deeds number ordered) refl (left_own script number 1 ordered old new is it_acts it_alone) (all_at number 1 ordered) such)
       (λ from to f t. ap (λ (post : Post). post.inlet) (h.posts from to (f.0, omega (arith, f.1, count)) (t.0, omega (arith, t.1, count))) ∙ order_inlet step ordered from to (post_at old.posts from to))
+      feeds_taps
       (λ client range. subst (ClientDoes ((between_of script old).come client).client (notes_at old (client + 1))) (sym (client_none client range)) tt)
 
 -- ---- whichever it was
 
 -- what a client's step leaves where it ends well: it was played as a section
-pub client_taken : {T E : Type 0} (r : Result T E) (script : Script) (number client : ℕ) (own : ClientStep) (step : Step) (old new : Table) → step ≡ ByClient client own → IsStepOf (header_of script) step → IsTableOf script old → OnOk r (HasStepped (turn_in number (client + 1)) own old new) → OnOk r (HasPlayed script number (section_of step) old new)
-client_taken r script number client own step old new is fits table =
+pub client_taken : {T E : Type 0} (r : Result T E) (script : Script) (number client : ℕ) (own : ClientStep) (step : Step) (old new : Table) → step ≡ ByClient client own → IsStepOf (header_of script) step → IsTableOf script old → AreNumbered script old → OnOk r (HasStepped (turn_in number (client + 1)) own old new) → OnOk r (HasPlayed script number (section_of step) old new)
+client_taken r script number client own step old new is fits table numbered =
     let parts : IsCount script.clients client × IsStep script.n own × IsOwn script.clients client own = subst (IsStepOf (header_of script)) is fits in
     on_turn r (HasStepped (turn_in number (client + 1)) own old new) (HasPlayed script number (section_of step) old new)
-    (λ took. subst (λ it. HasPlayed script number (section_of it) old new) (sym is) (client_line script number client own old new table parts.0 took))
+    (λ took. subst (λ it. HasPlayed script number (section_of it) old new) (sym is) (client_line script number client own old new table numbered parts.0 took))
 
 -- so with the operator's
 pub order_taken : {T E : Type 0} (r : Result T E) (script : Script) (number : ℕ) (own : OperatorStep) (step : Step) (old new : Table) → step ≡ ByOperator own → IsTableOf script old → OnOk r (HasOperated (turn_in number 1) own old new) → OnOk r (HasPlayed script number (section_of step) old new)

@@ -10,10 +10,12 @@ use Rattle.run_sections.specs.Runs.{PlaysSections}
 use Rattle.run_sections.specs.Apart.{AreApart, StandsAt}
 use Rattle.thread_run.specs.Tables.{notes_at, between_of, IsTableOf}
 
--- the clients that there are have come as far, and the links between the centres have the same ends
+-- the clients that there are have come as far, the links between the centres have the same ends, and their taps show the
+-- same
 pub record AreAlike (script : Script) (one two : Between) : Type 0 where
   pub come : (client : ℕ) → IsCount script.clients client → one.come client ≡ two.come client
   pub inlets : (from to : ℕ) → IsCount script.n from → IsCount script.n to → one.inlets from to ≡ two.inlets from to
+  pub taps : (i : ℕ) → IsCount script.n i → one.taps i ≡ two.taps i
 
 -- these sections of a script were played, one after another: what they left are the notes and the trails, which belong
 -- together

@@ -15,6 +15,7 @@ use Rattle.run_book.specs.Happenings.{ClientDoes, IsLinkWithin}
 use Rattle.run_book.specs.Played.{new_progress}
 use Rattle.run_table.specs.declared.table.Table.{Table}
 use Rattle.run_table.specs.Tables.{log_at, AreHistories}
+use Rattle.run_table.specs.Taps.{taps_of}
 use Rattle.run_sections.specs.Sections.{Between, Left, PlaysSection, actors_of}
 
 -- the notes of an actor
@@ -25,16 +26,21 @@ notes_at table a = (log_at table.logs.items a).notes
 abbrev pub come_of : List Note → StubView → Progress
 come_of notes stub = record { client = stub.client; armed = stub.armed; notes = notes }
 
--- how far each client has come, and the end of each link
+-- how far each client has come, the end of each link, and what each centre's tap shows
 abbrev pub between_of : Script → Table → Between
 between_of script table = record {
   come = λ client. unwrap_or (option_map (come_of (notes_at table (client + 1))) (slice_get table.stubs.items (client - 1))) (new_progress script.n client script.cache);
   inlets = λ from to. (post_at table.posts from to).inlet;
+  taps = taps_of table.taps.items;
 }
 
 -- each client is linked to no centre, or to one that there is
 abbrev pub AreLinked : Script → Table → Type 0
 AreLinked script table = (client : ℕ) → IsCount script.clients client → IsLinkWithin script.n ((between_of script table).come client).client.link
+
+-- each client has its own number
+abbrev pub AreNumbered : Script → Table → Type 0
+AreNumbered script table = (client : ℕ) → IsCount script.clients client → ((between_of script table).come client).client.client ≡ client
 
 -- the parts are those of a script: a centre for each of its numbers, with its settings and a history, a stub for each
 -- client, and a log for each actor

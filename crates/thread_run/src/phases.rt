@@ -22,8 +22,8 @@ use std::sync::Wait;
 use std::thread::Threads;
 
 /// Plays a phase, as the section of a number, with threads: the centres are put under locks, each actor plays its part in
-/// a thread, all are joined, the receivers make their closing rounds, and the centres come out with longer trails. An
-/// `Err` is want of memory: all parts are gone.
+/// a thread, all are joined, the receivers make their closing rounds, and the centres come out with longer trails. The
+/// taps stay as they are. An `Err` is want of memory: all parts are gone.
 pub(crate) fn play_phase<R: Threads + Wait + Sync, G: Gate>(
     rt: &R,
     alloc: Global,
@@ -44,6 +44,7 @@ pub(crate) fn play_phase<R: Threads + Wait + Sync, G: Gate>(
         stubs,
         logs,
         mut posts,
+        taps,
     } = table;
     let n = script.n;
     let actors = 1 + script.clients + 4 * u32::from(n);
@@ -82,5 +83,6 @@ pub(crate) fn play_phase<R: Threads + Wait + Sync, G: Gate>(
         stubs: parts.stubs,
         logs: parts.logs,
         posts,
+        taps,
     })
 }

@@ -6,7 +6,7 @@ ghost use Rattle.script_core.specs.Scripts.{header_of, IsInRange};
 ghost use Rattle.script_core.specs.Steps.{IsStepOf};
 ghost use Rattle.run_sections.specs.Apart.{IsBookWith};
 ghost use Rattle.run_sections.specs.Runs.{IsSectionRunOf};
-ghost use Rattle.thread_run.specs.Tables.{notes_at, IsTableOf, AreLinked, HasPlayed};
+ghost use Rattle.thread_run.specs.Tables.{notes_at, IsTableOf, AreLinked, AreNumbered, HasPlayed};
 ghost use Rattle.thread_run.specs.Played.{HasRun};
 
 use crate::phases::play_phase;
@@ -34,11 +34,12 @@ fn take_one(
     requires step { IsStepOf (header_of script.now) step.now }
     requires table { IsTableOf script.now table.old }
     requires linked { AreLinked script.now table.old }
+    requires numbered { AreNumbered script.now table.old }
     ensures { OnOk result (HasPlayed script.now number (section_of step.now) table.old table.new) }
 {
     match step {
         Step::Client { client, step } => table.step(alloc, *client, number, 1, step),
-        Step::Operator { step } => table.order(script.n, number, 1, step),
+        Step::Operator { step } => table.order(alloc, script.n, number, 1, step),
     }
 }
 
@@ -54,6 +55,7 @@ fn play_line(
     requires line { IsLine (header_of script.now) section.now }
     requires table { IsTableOf script.now table.old }
     requires linked { AreLinked script.now table.old }
+    requires numbered { AreNumbered script.now table.old }
     ensures { OnOk result (HasPlayed script.now number section.now table.old table.new) }
 {
     match section.steps.seen() {
@@ -77,6 +79,7 @@ fn play_section<R: Threads + Wait + Sync, G: Gate>(
     requires section { IsSection (header_of script.now) section.now }
     requires table { IsTableOf script.now table }
     requires linked { AreLinked script.now table }
+    requires numbered { AreNumbered script.now table }
     ensures { IfOk result (HasPlayed script.now number section.now table) }
 {
     if section.phase {

@@ -1,4 +1,5 @@
 pub mod Mail
+pub mod Taps
 pub mod Worlds
 pub mod Turns
 pub mod Rounds

@@ -14,7 +14,9 @@ use Rattle.script_core.specs.declared.script.Script.{Script}
 use Rattle.script_core.specs.declared.steps.ClientStep.{ClientStep}
 use Rattle.script_core.specs.declared.steps.OperatorStep.{OperatorStep}
 use Rattle.script_core.specs.declared.rounds.Role.TheVariants.{Sender, Receiver, Reporter, Pruner}
-use Rattle.script_core.specs.Steps.{IsCount}
+use Rattle.script_core.specs.Steps.{IsCount, IsStep, IsOperatorStep}
+use Rattle.script_core.specs.declared.taps.TapState.{TapState}
+use Rattle.script_core.specs.Taps.{LooksSo, feed_in}
 use Rattle.script_core.specs.Deeds.{Progress, StepDeeds, after_all, armed_after, stepped}
 use Rattle.script_core.specs.Mail.{due_in_round, due_at_close}
 use Rattle.dc_talk.specs.declared.sent.Sent.{Sent}
@@ -22,9 +24,9 @@ use Rattle.dc_talk.specs.declared.links.Arrival.{Arrival}
 use Rattle.client_stub.specs.Playing.{StubView}
 use Rattle.ids_core.specs.declared.limits.TheConstants.{MOST_CENTRES}
 use Rattle.dc_mail.specs.Posts.{post_at, new_posts}
-use Rattle.run_book.specs.Happenings.{Happened, happening}
+use Rattle.run_book.specs.Happenings.{Happened, notes_by, happening}
 use Rattle.run_book.specs.Moves.{Does, Move, move, client_does, operator_does, actor_of}
-use Rattle.run_book.specs.Played.{Stage, new_progress, first_stage, DoesSo, come_after, post_after, stage_after, HavePlayed}
+use Rattle.run_book.specs.Played.{Stage, new_progress, first_stage, DoesSo, TapsSo, come_after, post_after, taps_after, stage_after, HavePlayed}
 use Rattle.run_book.proofs.Happenings.Entries.{own_then, other_then, deeds_marked}
 use Rattle.run_book.proofs.Happenings.Playing.{played_none as none_played, played_more, all_at}
 use Rattle.script_core.specs.Rounds.{ReceiverDeeds, Brings, others}
@@ -35,12 +37,15 @@ use Rattle.run_book.proofs.Happenings.WorkerRounds.{others_within}
 use Rattle.run_table.specs.declared.works.Work.{Work}
 use Rattle.run_table.specs.declared.works.Work.TheVariants.{Round, Close}
 use Rattle.run_table.specs.Works.{work_of}
+use Rattle.run_table.specs.Taps.{taps_of, new_taps}
+use Rattle.run_steps.proofs.Who.{behind_who}
 use Rattle.world_core.specs.Worlds.{WorldView, IsWorld, Acts, stub_at, progress_at, notes_in, stage_of}
 use Rattle.run_table.specs.Tables.{new_stub, new_stubs, Turn, HasPosts, log_at}
 use Rattle.world_core.specs.Events.{TakesStep, TakesOrder, TakesRound, turn_of}
 use Rattle.world_core.specs.Runs.{HasPlayed, MakesMoves}
 use Rattle.run_table.proofs.Numbered.{get_below}
 use Rattle.world_core.proofs.Mail.{new_post_at}
+use Rattle.world_core.proofs.Taps.{new_tap_at, looks_as, feeds_as, taps_as}
 use Rattle.run_table.proofs.Acting.{worker_range}
 use Rattle.world_core.proofs.Worlds.{stub_named, stub_got}
 
@@ -59,14 +64,15 @@ first_progress w world stubs client stub there =
     λ i. record { client = state i; armed = armed i; notes = notes i }
 
 -- a new world has made no moves
-pub played_none : (w : WorldView) → w.script.n ≤ MOST_CENTRES → IsWorld w [] → w.posts ≡ new_posts → w.stubs ≡ new_stubs w.script.n w.script.cache w.script.clients → HasPlayed [] w
-played_none w few world posts stubs = record {
+pub played_none : (w : WorldView) → w.script.n ≤ MOST_CENTRES → IsWorld w [] → w.posts ≡ new_posts → w.taps ≡ new_taps w.script.n w.script.taps → w.stubs ≡ new_stubs w.script.n w.script.cache w.script.clients → HasPlayed [] w
+played_none w few world posts taps stubs = record {
   all = [];
   world = world;
   stage = first_stage w.script;
   played = none_played w.script;
   stubs = first_progress w world stubs;
   posts = λ from to f t. sym (ap (λ posts. post_at posts from to) posts ∙ new_post_at w.script.n from to few f t);
+  taps = λ centre range. sym (ap (λ taps. taps_of taps centre) taps ∙ new_tap_at w.script.n w.script.taps centre range);
 }
 
 -- ---- one behind the other
@@ -93,7 +99,7 @@ own_notes turn deeds old new all before world = ap (λ ns. ns ++ notes_in turn d
 
 -- ---- a client's step
 
-module _ (section number client : ℕ) (step : ClientStep) (old new : WorldView) (range : (1 ≤ client) × (client ≤ old.script.clients)) (t : TakesStep (record { actor = client + 1; section = section; step = number }) step old new) (front : List Move) (h : HasPlayed front old) where
+module _ (section number client : ℕ) (step : ClientStep) (old new : WorldView) (range : (1 ≤ client) × (client ≤ old.script.clients)) (fits : IsStep old.script.n step) (t : TakesStep (record { actor = client + 1; section = section; step = number }) step old new) (front : List Move) (h : HasPlayed front old) where
   -- the turn
   abbrev turn : Turn
   turn = record { actor = client + 1; section = section; step = number }
@@ -157,6 +163,14 @@ module _ (section number client : ℕ) (step : ClientStep) (old new : WorldView)
           ∙ (h.stubs other stub (stub_named old.stubs other stub at.0 before)
           ∙ (λ i. record { client = stub.client; armed = stub.armed; notes = log i }))
 
+  -- the client has its number
+  number_is : t.stub.client.client ≡ client
+  number_is = ap (λ (s : Client). s.client) (h.world.stubs client t.stub mine) ∙ behind_who (new_client old.script.n client old.script.cache) (notes_by (client + 1) h.all)
+
+  -- it sees what the taps of the stage show
+  looked : LooksSo h.stage.taps client step t.deeds
+  looked = subst (λ client. LooksSo h.stage.taps client step t.deeds) number_is (looks_as old.script.n (taps_of old.taps) h.stage.taps t.stub.client.client step t.deeds (λ centre range. sym (h.taps centre range)) fits t.looks)
+
   -- the moves with the client's step have been made
   client_played : HasPlayed (front ++ move section number (client_does client step) ∷ []) new
   client_played =
@@ -167,17 +181,22 @@ module _ (section number client : ℕ) (step : ClientStep) (old new : WorldView)
         world = world;
         stage = stage_after (client_does client step) notes h.stage;
         played = subst (λ script. HavePlayed script (front ++ move section number (client_does client step) ∷ []) (h.all ++ happening (client + 1) notes) (stage_after (client_does client step) notes h.stage)) (sym script)
-            (played_more old.script front h.all h.stage (move section number (client_does client step)) notes h.played (all_at section number t.deeds) (subst (StepDeeds (h.stage.come client) step) (sym (deeds_marked section number t.deeds)) such));
+            (played_more old.script front h.all h.stage (move section number (client_does client step)) notes h.played (all_at section number t.deeds) (subst (StepDeeds (h.stage.come client) step) (sym (deeds_marked section number t.deeds)) such) (subst (LooksSo h.stage.taps client step) (sym (deeds_marked section number t.deeds)) looked));
         stubs = far;
         posts = λ from to f s. h.posts from to (subst (λ (script : Script). IsCount script.n from) script f) (subst (λ (script : Script). IsCount script.n to) script s) ∙ ap (λ posts. post_at posts from to) (sym t.posts);
+        taps = λ centre range. h.taps centre (subst (λ (script : Script). IsCount script.n centre) script range) ∙ ap (λ taps. taps_of taps centre) (sym t.taps);
       }
 
-pub client_makes : (section number client : ℕ) (step : ClientStep) (old new : WorldView) → (1 ≤ client) × (client ≤ old.script.clients) → TakesStep (record { actor = client + 1; section = section; step = number }) step old new → MakesMoves (move section number (client_does client step) ∷ []) old new
-client_makes section number client step old new range t = record { script = t.acts.script; spent = t.acts.spent; goes_on = client_played section number client step old new range t }
+pub client_makes : (section number client : ℕ) (step : ClientStep) (old new : WorldView) → (1 ≤ client) × (client ≤ old.script.clients) → IsStep old.script.n step → TakesStep (record { actor = client + 1; section = section; step = number }) step old new → MakesMoves (move section number (client_does client step) ∷ []) old new
+client_makes section number client step old new range fits t = record { script = t.acts.script; spent = t.acts.spent; goes_on = client_played section number client step old new range fits t }
 
 -- ---- of an actor that is no client
 
-module _ (does : Does) (section number : ℕ) (old new : WorldView) (deeds : List Deed) (stubs : new.stubs ≡ old.stubs) (posts : HasPosts old.script.n does deeds old.posts new.posts) (acts : Acts (turn_of old.script section number does) deeds old new) (quiet : (notes : List Note) (come : ℕ → Progress) (client : ℕ) → come_after does notes come client ≡ come client) (apart : (client : ℕ) (stub : StubView) → stub_at old.stubs client ≡ Some stub → actor_of old.script.clients does ≢ client + 1) (front : List Move) (h : HasPlayed front old) (such : DoesSo old.script.n h.stage number does deeds) where
+-- what is done leaves taps that are the same as others at n centres so
+abbrev TapsAs : ℕ → Does → List Deed → Type 0
+TapsAs n does deeds = (one two : ℕ → TapState) → ((centre : ℕ) → IsCount n centre → one centre ≡ two centre) → (centre : ℕ) → IsCount n centre → taps_after does deeds one centre ≡ taps_after does deeds two centre
+
+module _ (does : Does) (section number : ℕ) (old new : WorldView) (deeds : List Deed) (stubs : new.stubs ≡ old.stubs) (posts : HasPosts old.script.n does deeds old.posts new.posts) (taps : (centre : ℕ) → taps_of new.taps centre ≡ taps_after does deeds (taps_of old.taps) centre) (acts : Acts (turn_of old.script section number does) deeds old new) (quiet : (notes : List Note) (come : ℕ → Progress) (client : ℕ) → come_after does notes come client ≡ come client) (apart : (client : ℕ) (stub : StubView) → stub_at old.stubs client ≡ Some stub → actor_of old.script.clients does ≢ client + 1) (front : List Move) (h : HasPlayed front old) (such : DoesSo old.script.n h.stage number does deeds) (fed : TapsSo h.stage.taps does deeds) (stays : TapsAs old.script.n does deeds) where
   -- the turn
   abbrev its : Turn
   its = turn_of old.script section number does
@@ -193,7 +212,7 @@ module _ (does : Does) (section number : ℕ) (old new : WorldView) (deeds : Lis
         world = world;
         stage = stage_after does (notes_in its deeds) h.stage;
         played = subst (λ script. HavePlayed script (front ++ move section number does ∷ []) (h.all ++ happening its.actor (notes_in its deeds)) (stage_after does (notes_in its deeds) h.stage)) (sym script)
-            (played_more old.script front h.all h.stage (move section number does) (notes_in its deeds) h.played (all_at section number deeds) (subst (DoesSo old.script.n h.stage number does) (sym back) such));
+            (played_more old.script front h.all h.stage (move section number does) (notes_in its deeds) h.played (all_at section number deeds) (subst (DoesSo old.script.n h.stage number does) (sym back) such) (subst (TapsSo h.stage.taps does) (sym back) fed));
         stubs = λ client stub there.
             let before : stub_at old.stubs client ≡ Some stub = subst (λ stubs. stub_at stubs client ≡ Some stub) stubs there in
             let log = other_notes its deeds old new h.all h.world world (client + 1) (apart client stub before) in
@@ -204,16 +223,22 @@ module _ (does : Does) (section number : ℕ) (old new : WorldView) (deeds : Lis
             ap (λ ds. post_after does ds from to (h.stage.posts from to)) back
             ∙ (ap (post_after does deeds from to) (h.posts from to one two)
             ∙ sym (posts from to one two));
+        taps = λ centre range.
+            ap (λ ds. taps_after does ds h.stage.taps centre) back
+            ∙ (stays h.stage.taps (taps_of old.taps) h.taps centre (subst (λ (script : Script). IsCount script.n centre) script range)
+            ∙ sym (taps centre));
       }
 
 -- ---- the operator's step
 
-pub order_makes : (section number : ℕ) (step : OperatorStep) (old new : WorldView) → TakesOrder (record { actor = 1; section = section; step = number }) step old new → MakesMoves (move section number (operator_does step) ∷ []) old new
-order_makes section number step old new t = record {
+pub order_makes : (section number : ℕ) (step : OperatorStep) (old new : WorldView) → IsOperatorStep old.script.n step → TakesOrder (record { actor = 1; section = section; step = number }) step old new → MakesMoves (move section number (operator_does step) ∷ []) old new
+order_makes section number step old new fits t = record {
   script = t.acts.script;
   spent = t.acts.spent;
-  goes_on = λ front h. other_played (operator_does step) section number old new t.deeds t.stubs t.posts t.acts (λ notes come client. refl)
-      (λ client stub there same. let low = (stub_got old.stubs client stub there).0 in omega (arith, same, low)) front h t.such;
+  goes_on = λ front h. other_played (operator_does step) section number old new t.deeds t.stubs t.posts t.taps t.acts (λ notes come client. refl)
+      (λ client stub there same. let low = (stub_got old.stubs client stub there).0 in omega (arith, same, low)) front h t.such
+      (feeds_as old.script.n (taps_of old.taps) h.stage.taps step t.deeds (λ centre range. sym (h.taps centre range)) fits t.feeds)
+      (taps_as old.script.n (feed_in step) t.deeds);
 }
 
 -- ---- a worker's round
@@ -239,15 +264,26 @@ work_quiet : (centre : ℕ) (work : Work) (notes : List Note) (come : ℕ → Pr
 work_quiet centre (Round role) notes come client = refl
 work_quiet centre Close notes come client = refl
 
+-- it feeds no tap, and looks through none
+work_feeds : (centre : ℕ) (work : Work) (taps : ℕ → TapState) (deeds : List Deed) → TapsSo taps (work_of centre work) deeds
+work_feeds centre (Round role) taps deeds = tt
+work_feeds centre Close taps deeds = tt
+
+-- and leaves the taps
+work_feeds_none : (centre : ℕ) (work : Work) (deeds : List Deed) (taps : ℕ → TapState) (other : ℕ) → taps_after (work_of centre work) deeds taps other ≡ taps other
+work_feeds_none centre (Round role) deeds taps other = refl
+work_feeds_none centre Close deeds taps other = refl
+
 pub round_makes : (section number centre : ℕ) (work : Work) (old new : WorldView) → IsCount old.script.n centre → TakesRound (turn_of old.script section number (work_of centre work)) (work_of centre work) old new → MakesMoves (move section number (work_of centre work) ∷ []) old new
 round_makes section number centre work old new range t = record {
   script = t.acts.script;
   spent = t.acts.spent;
-  goes_on = λ front h. other_played (work_of centre work) section number old new t.deeds t.stubs t.posts t.acts (work_quiet centre work)
+  goes_on = λ front h. other_played (work_of centre work) section number old new t.deeds t.stubs t.posts (λ other. ap (λ taps. taps_of taps other) t.taps ∙ sym (work_feeds_none centre work t.deeds (taps_of old.taps) other)) t.acts (work_quiet centre work)
       (λ client stub there same.
       let got = stub_got old.stubs client stub there in
       let within = slice_get_within old.stubs (client - 1) stub got.1 in
       let who = worker_range old.script.clients old.script.n centre work range in
       omega (arith, same, who.0, within, got.0, h.world.stub_count))
-      front h (does_as old.script.n number centre work (stage_of old) h.stage t.deeds range (λ from to f s. sym (h.posts from to f s)) t.such);
+      front h (does_as old.script.n number centre work (stage_of old) h.stage t.deeds range (λ from to f s. sym (h.posts from to f s)) t.such) (work_feeds centre work h.stage.taps t.deeds)
+      (λ one two same other range. work_feeds_none centre work t.deeds one other ∙ (same other range ∙ sym (work_feeds_none centre work t.deeds two other)));
 }

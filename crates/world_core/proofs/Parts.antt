@@ -21,6 +21,7 @@ ask_none script was is centre table histories = record {
   script = refl;
   stubs = refl;
   posts = refl;
+  taps = refl;
   notes = λ actor. refl;
   trail = inl refl;
   others = λ i other. refl;
@@ -51,6 +52,7 @@ module _ (script : Script) (was is : Bool) (old new : Table) where
         later = h.later;
         stubs = subst (λ k. new.stubs.items ≡ slice_set old.stubs.items k h.later) place h.stubs;
         posts = h.posts;
+        taps = h.taps;
         acts = acts_part turn (omega arith, omega (arith, within)) h.cut;
       }
 
@@ -58,7 +60,7 @@ module _ (script : Script) (was is : Bool) (old new : Table) where
   pub order_part : (section number : ℕ) → 1 ≤ length old.logs.items → HasOperatedPart (record { actor = 1; section = section; step = number }) old new → TakesOrderPart (seen_of script was old) (seen_of script is new)
   order_part section number within h =
       let turn : Turn = record { actor = 1; section = section; step = number } in
-      record { stubs = ap (λ stubs. stubs.items) h.stubs; posts = h.posts; acts = acts_part turn (omega arith, within) h.cut }
+      record { stubs = ap (λ stubs. stubs.items) h.stubs; posts = h.posts; taps = h.taps; acts = acts_part turn (omega arith, within) h.cut }
 
   -- of a worker
   pub round_part : (turn : Turn) (centre : ℕ) (does : Work) → (1 ≤ turn.actor) × (turn.actor ≤ length old.logs.items) → length old.door.centres ≡ script.n → HasMadeRoundPart turn centre does old new → TakesRoundPart turn centre does (seen_of script was old) (seen_of script is new)
@@ -67,6 +69,7 @@ module _ (script : Script) (was is : Bool) (old new : Table) where
     log = h.cut.log;
     works = subst (λ n. HasWorkedPart n centre does old.posts new.posts (acting (shown_of (begun turn.actor old.door.centres)) (log_in turn (log_at old.logs.items turn.actor))) (acting (shown_of new.door) h.cut.log)) count h.works;
     stubs = ap (λ stubs. stubs.items) h.stubs;
+    taps = h.taps;
     acts = acts_part turn range h.cut;
   }
 
@@ -76,6 +79,7 @@ module _ (script : Script) (was is : Bool) (old new : Table) where
     script = refl;
     stubs = ap (λ stubs. stubs.items) h.stubs;
     posts = h.posts;
+    taps = h.taps;
     notes = λ a. notes a (cases_eq a actor);
     trail = ⊎_elim (λ not. inl (not.seen centre)) (λ made. inr (entry_for actor (ask, made.0), made.1.seen ∙ ap (λ between. trail_at old.door.centres centre ++ (between ++ entry_for actor (ask, made.0) ∷ [])) (made.1.alone refl))) h.asked;
     others = λ i other. ⊎_elim (λ not. not.seen i) (λ made. made.1.other_seen i other) h.asked;

@@ -124,6 +124,7 @@ module _ (script : Script) (section number centre : ℕ) (work : Work) (old new 
     such = does_with script.n number centre work script spent old worked (subst (λ n. DoesSo n (stage_with old.posts) number (work_of centre work) worked) same h.works.such);
     stubs = ap (λ stubs. stubs.items) h.stubs;
     posts = posts ranges settings same;
+    taps = h.taps;
     acts = record {
       script = refl;
       spent = sym fresh;

@@ -169,7 +169,9 @@ module _ (script : Script) (client section number : ℕ) (step : ClientStep) (ol
         deeds = done;
         such = subst (λ a. StepDeeds (record { client = h.stub.client; armed = h.stub.armed; notes = (log_at old.logs.items a).notes }) step done) again h.takes.such;
         stubs = h.stubs ∙ ap (slice_set old.stubs.items (mine.actor - 2)) (λ i. record { client = h.takes.grows.client i; armed = h.takes.armed i });
+        looks = h.looks;
         posts = h.posts;
+        taps = h.taps;
         allowed = client_may;
         acts = client_acts high spent fresh;
       }
@@ -205,6 +207,8 @@ module _ (script : Script) (section number : ℕ) (step : OperatorStep) (old new
         such = such;
         stubs = ap (λ stubs. stubs.items) h.stubs;
         posts = posts;
+        feeds = h.feeds;
+        taps = h.taps;
         acts = record {
           script = refl;
           spent = sym fresh;
@@ -264,6 +268,7 @@ module _ (script : Script) (actor centre : ℕ) (ask : Ask) (old new : Table) (h
     say = h.say;
     stubs = ap (λ stubs. stubs.items) h.stubs;
     posts = h.posts;
+    taps = h.taps;
     acts = record {
       script = refl;
       spent = sym fresh;

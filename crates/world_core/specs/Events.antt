@@ -26,6 +26,7 @@ use Rattle.script_core.specs.declared.rounds.Role.{Role}
 use Rattle.script_core.specs.declared.rounds.Role.TheVariants.{Sender, Receiver, Reporter, Pruner}
 use Rattle.script_core.specs.Deeds.{StepDeeds, after_all, armed_after}
 use Rattle.script_core.specs.Orders.{OperatorDeeds}
+use Rattle.script_core.specs.Taps.{FeedsSo, taps_then, LooksSo}
 use Rattle.client_stub.specs.Playing.{StubView}
 use Rattle.run_book.specs.Moves.{Does, operator_does, worker_does, closes, actor_of, client_steps, operator_steps}
 use Rattle.run_book.specs.Played.{DoesSo}
@@ -37,6 +38,7 @@ use Rattle.world_core.specs.declared.event.Played.{Played}
 use Rattle.world_core.specs.declared.event.Played.TheVariants.{Done, NoSuch}
 use Rattle.run_table.specs.declared.works.Work.{Work}
 use Rattle.run_table.specs.Works.{work_of, HasWorkedPart}
+use Rattle.run_table.specs.Taps.{taps_of}
 use Rattle.run_table.specs.Tables.{Turn, log_at, log_in, AreHistories, HasPosts}
 use Rattle.world_core.specs.Worlds.{WorldView, IsWorld, Acts, stub_at, progress_at, notes_in, stage_of}
 
@@ -95,24 +97,29 @@ turn_of script section step does = record { actor = actor_of script.clients does
 
 -- ---- what an event leaves
 
--- a client takes a step in its turn: the client's notes are those of the step, and it is as far as they say; the
--- other clients stay
+-- a client takes a step in its turn: the client's notes are those of the step, which sees what the tap shows where it
+-- looks through one, and the client is as far as they say; the other clients stay
 pub record TakesStep (turn : Turn) (step : ClientStep) (old new : WorldView) : Type 0 where
   pub stub : StubView
   pub there : stub_at old.stubs (turn.actor - 1) ≡ Some stub
   pub deeds : List Deed
   pub such : StepDeeds (progress_at old (turn.actor - 1) stub) step deeds
   pub stubs : new.stubs ≡ slice_set old.stubs (turn.actor - 2) (record { client = after_all stub.client deeds; armed = armed_after stub.armed step deeds })
+  pub looks : LooksSo (taps_of old.taps) stub.client.client step deeds
   pub posts : new.posts ≡ old.posts
+  pub taps : new.taps ≡ old.taps
   pub allowed : ClientDoes stub.client (log_at old.logs turn.actor).notes (notes_in turn deeds)
   pub acts : Acts turn deeds old new
 
--- the operator takes a step in its turn
+-- the operator takes a step in its turn: it feeds the objects of the tap where it feeds one, and the taps are as that
+-- leaves them
 pub record TakesOrder (turn : Turn) (step : OperatorStep) (old new : WorldView) : Type 0 where
   pub deeds : List Deed
   pub such : OperatorDeeds old.script.n step deeds
   pub stubs : new.stubs ≡ old.stubs
   pub posts : HasPosts old.script.n (operator_does step) deeds old.posts new.posts
+  pub feeds : FeedsSo (taps_of old.taps) step deeds
+  pub taps : (centre : ℕ) → taps_of new.taps centre ≡ taps_then step deeds (taps_of old.taps) centre
   pub acts : Acts turn deeds old new
 
 -- a worker makes a round in its turn: its deeds are due at the stage to which the world came, and the links are as they
@@ -122,6 +129,7 @@ pub record TakesRound (turn : Turn) (does : Does) (old new : WorldView) : Type 0
   pub such : DoesSo old.script.n (stage_of old) turn.step does deeds
   pub stubs : new.stubs ≡ old.stubs
   pub posts : HasPosts old.script.n does deeds old.posts new.posts
+  pub taps : new.taps ≡ old.taps
   pub acts : Acts turn deeds old new
 
 -- an actor makes one ask whose answer no session hears, outside of the script
@@ -129,6 +137,7 @@ pub record AsksOnce (actor centre : ℕ) (ask : Ask) (old new : WorldView) : Typ
   pub say : Say
   pub stubs : new.stubs ≡ old.stubs
   pub posts : new.posts ≡ old.posts
+  pub taps : new.taps ≡ old.taps
   pub acts : Acts (record { actor = actor; section = 0; step = 0 }) (Asked centre ask (Unheard say) ∷ []) old new
 
 -- what an event does, where what it names is there, and that nothing changes where it is not
@@ -158,25 +167,28 @@ pub record ActsPart (actor : ℕ) (old new : WorldView) : Type 0 where
   pub settings : map (λ (centre : CentreTrail). centre.settings) new.centres ≡ map (λ (centre : CentreTrail). centre.settings) old.centres
   pub histories : AreHistories new.centres
 
--- that of a client: of the clients this one alone may have changed, and no link did
+-- that of a client: of the clients this one alone may have changed, and no link nor tap did
 pub record TakesStepPart (client : ℕ) (old new : WorldView) : Type 0 where
   pub later : StubView
   pub stubs : new.stubs ≡ slice_set old.stubs (client - 1) later
   pub posts : new.posts ≡ old.posts
+  pub taps : new.taps ≡ old.taps
   pub acts : ActsPart (client + 1) old new
 
--- that of the operator: no client changed, and no link
+-- that of the operator: no client changed, no link, and no tap
 pub record TakesOrderPart (old new : WorldView) : Type 0 where
   pub stubs : new.stubs ≡ old.stubs
   pub posts : new.posts ≡ old.posts
+  pub taps : new.taps ≡ old.taps
   pub acts : ActsPart 1 old new
 
--- that of a worker: no client changed, and the links as far as its work came
+-- that of a worker: no client changed and no tap, and the links as far as its work came
 pub record TakesRoundPart (turn : Turn) (centre : ℕ) (does : Work) (old new : WorldView) : Type 0 where
   pub door : DoorView
   pub log : Logged
   pub works : HasWorkedPart old.script.n centre does old.posts new.posts (acting (shown_of (begun turn.actor old.centres)) (log_in turn (log_at old.logs turn.actor))) (acting door log)
   pub stubs : new.stubs ≡ old.stubs
+  pub taps : new.taps ≡ old.taps
   pub acts : ActsPart turn.actor old new
 
 -- an ask outside of the script came to an early end: nothing changed, or the centre answered it and no log has a note of it
@@ -184,6 +196,7 @@ pub record AsksOncePart (centre : ℕ) (old new : WorldView) : Type 0 where
   pub script : new.script ≡ old.script
   pub stubs : new.stubs ≡ old.stubs
   pub posts : new.posts ≡ old.posts
+  pub taps : new.taps ≡ old.taps
   pub notes : (actor : ℕ) → (log_at new.logs actor).notes ≡ (log_at old.logs actor).notes
   pub trail : (trail_at new.centres centre ≡ trail_at old.centres centre) ⊎ ((entry : Entry) × (trail_at new.centres centre ≡ trail_at old.centres centre ++ entry ∷ []))
   pub others : (i : ℕ) → i ≢ centre → trail_at new.centres i ≡ trail_at old.centres i

@@ -11,6 +11,7 @@ use Rattle.run_book.specs.Refusals.{IsTimely}
 use Rattle.run_book.specs.Happenings.{Happened}
 use Rattle.run_book.specs.Moves.{Move}
 use Rattle.run_book.specs.Played.{Stage, HavePlayed}
+use Rattle.run_table.specs.Taps.{taps_of}
 use Rattle.world_core.specs.Worlds.{WorldView, IsWorld, stub_at, progress_at}
 
 -- a world that is not spent: the numbers of its script are in range, and something happened in it, or nothing
@@ -36,6 +37,7 @@ pub record HasPlayed (moves : List Move) (w : WorldView) : Type 0 where
   pub played : HavePlayed w.script moves all stage
   pub stubs : (client : ℕ) (stub : StubView) → stub_at w.stubs client ≡ Some stub → stage.come client ≡ progress_at w client stub
   pub posts : (from to : ℕ) → IsCount w.script.n from → IsCount w.script.n to → stage.posts from to ≡ post_at w.posts from to
+  pub taps : (centre : ℕ) → IsCount w.script.n centre → stage.taps centre ≡ taps_of w.taps centre
 
 -- these moves were made behind those that were made before
 pub record MakesMoves (moves : List Move) (old new : WorldView) : Type 0 where

@@ -14,6 +14,7 @@ use Rattle.script_core.specs.declared.script.Script.{Script}
 use Rattle.script_core.specs.Steps.{IsCount}
 use Rattle.script_core.specs.Deeds.{Progress}
 use Rattle.script_core.specs.Mail.{Post, lying}
+use Rattle.script_core.specs.declared.taps.TapState.{TapState}
 use Rattle.dc_mail.specs.Posts.{post_at}
 use Rattle.client_stub.specs.Playing.{StubView}
 use Rattle.run_book.specs.Setups.{setup_of, settings_among}
@@ -21,16 +22,18 @@ use Rattle.run_book.specs.Played.{Stage, new_progress}
 use Rattle.run_book.specs.Happenings.{Happened, notes_by, trail_in, trails_in, happening, WasSent, AreTogether}
 use Rattle.run_table.specs.declared.table.Table.{Table}
 use Rattle.run_table.specs.Tables.{Turn, log_at}
+use Rattle.run_table.specs.Taps.{taps_of}
 
 -- what a world is seen as: the script that it plays; the settings and the trail of each centre; each client with the
--- fault that is armed for it; the logs of all actors, by their numbers; what lies on the links; and whether the world is
--- spent, so that it plays no more
+-- fault that is armed for it; the logs of all actors, by their numbers; what lies on the links; the tap of each centre;
+-- and whether the world is spent, so that it plays no more
 pub record WorldView : Type 0 where
   pub script : Script
   pub centres : List CentreTrail
   pub stubs : List StubView
   pub logs : List Logged
   pub posts : List Post
+  pub taps : List TapState
   pub spent : Bool
 
 -- a client, counted from 1
@@ -77,13 +80,14 @@ pub record Acts (turn : Turn) (deeds : List Deed) (old new : WorldView) : Type 0
   pub trails : (i : ℕ) → trail_at new.centres i ≡ trail_at old.centres i ++ entries_made turn.actor i deeds
   pub goes_on : (all : List Happened) → IsWorld old all → IsWorld new (all ++ happening turn.actor (notes_in turn deeds))
 
--- how far each client of a world is, and what lies on its links
+-- how far each client of a world is, what lies on its links, and what its taps show
 abbrev pub stage_of : WorldView → Stage
 stage_of w = record {
   come = λ client. unwrap_or (option_map (progress_at w client) (stub_at w.stubs client)) (new_progress w.script.n client w.script.cache);
   posts = post_at w.posts;
+  taps = taps_of w.taps;
 }
 
 -- what the world of a table is seen as
 abbrev pub seen_of : Script → Bool → Table → WorldView
-seen_of script spent table = record { script = script; centres = table.door.centres; stubs = table.stubs.items; logs = table.logs.items; posts = table.posts; spent = spent }
+seen_of script spent table = record { script = script; centres = table.door.centres; stubs = table.stubs.items; logs = table.logs.items; posts = table.posts; taps = table.taps.items; spent = spent }

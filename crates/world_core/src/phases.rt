@@ -61,6 +61,7 @@ fn play_clients(
 
 // The operator takes its step of a turn's number, where there is one.
 fn play_operator(
+    alloc: Global,
     world: &mut World<'_>,
     number: u32,
     section: &Section,
@@ -73,7 +74,7 @@ fn play_operator(
     ensures { OnOk result (MakesMoves (one_or_none (operator_turn number section.now turn)) world.old world.new) }
 {
     match dealt.operator_step(turn) {
-        Some(step) => world.order(number, turn, &step),
+        Some(step) => world.order(alloc, number, turn, &step),
         None => Ok(()),
     }
 }
@@ -142,7 +143,7 @@ fn play_turn(
     ensures { OnOk result (MakesMoves (turn_moves world.old.script number section.now turn) world.old world.new) }
 {
     play_clients(alloc, world, number, section, dealt, turn, clients)?;
-    play_operator(world, number, section, dealt, turn)?;
+    play_operator(alloc, world, number, section, dealt, turn)?;
     play_workers(alloc, world, number, turn)
 }
 

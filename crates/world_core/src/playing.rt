@@ -33,7 +33,7 @@ impl<'a> World<'a> {
     }
 
     // The operator takes the step of a number in a section.
-    fn play_operator(&mut self, section: u32, step: u32) -> Result<Played, NoMemory>
+    fn play_operator(&mut self, alloc: Global, section: u32, step: u32) -> Result<Played, NoMemory>
         requires { self.old.spent ≡ false }
         ensures plays { IfOk result (Plays (Event.Operator section step) self.old self.new) }
         ensures script { self.new.script ≡ self.old.script }
@@ -42,7 +42,7 @@ impl<'a> World<'a> {
     {
         match operator_step_named(self.script, section, step) {
             Some(does) => {
-                self.order(section, step, &does)?;
+                self.order(alloc, section, step, &does)?;
                 Ok(Played::Done)
             }
             None => Ok(Played::NoSuch),
@@ -136,7 +136,7 @@ impl<'a> World<'a> {
                 section,
                 step,
             } => self.play_client(alloc, client, section, step),
-            Event::Operator { section, step } => self.play_operator(section, step),
+            Event::Operator { section, step } => self.play_operator(alloc, section, step),
             Event::Round {
                 section,
                 round,

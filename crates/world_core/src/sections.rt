@@ -24,7 +24,7 @@ fn take_one(alloc: Global, world: &mut World<'_>, number: u32, step: &Step) -> R
 {
     match step {
         Step::Client { client, step } => world.take(alloc, *client, number, 1, step),
-        Step::Operator { step } => world.order(number, 1, step),
+        Step::Operator { step } => world.order(alloc, number, 1, step),
     }
 }
 

@@ -3,6 +3,7 @@ ghost use Rattle.std.specs.Prelude.{◌≡◌, ◌≤◌, ◌+◌, true, false, 
 ghost use Rattle.script_core.specs.Steps.{IsStep, IsOperatorStep};
 ghost use Rattle.world_core.specs.Worlds.{IsWorld};
 ghost use Rattle.run_table.specs.Tables.{new_stubs};
+ghost use Rattle.run_table.specs.Taps.{new_taps};
 ghost use Rattle.script_core.specs.Scripts.{IsInRange};
 ghost use Rattle.dc_mail.specs.Posts.{new_posts};
 ghost use Rattle.run_table.specs.Works.{work_of};
@@ -18,8 +19,9 @@ use std::alloc::Global;
 use std::marker::Model;
 
 /// The system that a script sets up, on one thread: its centres with their trails, its clients, the logs of all
-/// actors, and what lies on the links between the centres. Contracts see what happened in it by these, and whether the world is spent: it is after want of memory in an
-/// event, which may have left a part of it, and then it plays no more and gives no book.
+/// actors, what lies on the links between the centres, and the taps of the centres. Contracts see what happened in it by
+/// these, and whether the world is spent: it is after want of memory in an event, which may have left a part of it, and then
+/// it plays no more and gives no book.
 #[derive(Drop)]
 pub struct World<'a> {
     pub(crate) script: &'a Script,
@@ -50,6 +52,7 @@ impl<'a> World<'a> {
         ensures fresh { IfOk result (λ world. world.spent ≡ false) }
         ensures empty { IfOk result (λ world. IsWorld world []) }
         ensures posts { IfOk result (λ world. world.posts ≡ new_posts) }
+        ensures taps { IfOk result (λ world. world.taps ≡ new_taps script.now.n script.now.taps) }
         ensures stubs { IfOk result (λ world. world.stubs ≡ new_stubs script.now.n script.now.cache script.now.clients) }
     {
         let table = Table::new(alloc, script)?;
@@ -88,6 +91,7 @@ impl<'a> World<'a> {
     /// part of the step.
     pub(crate) fn order(
         &mut self,
+        alloc: Global,
         section: u32,
         number: u32,
         step: &OperatorStep,
@@ -100,7 +104,8 @@ impl<'a> World<'a> {
         ensures part { OnErr result (TakesOrderPart self.old self.new) }
     {
         self.spent = true;
-        self.table.order(self.script.n, section, number, step)?;
+        let n = self.script.n;
+        self.table.order(alloc, n, section, number, step)?;
         self.spent = false;
         Ok(())
     }

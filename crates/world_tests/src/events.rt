@@ -1,4 +1,4 @@
-// Lists of events in odd orders over six scripts, each played in a world.
+// Lists of events in odd orders over seven scripts, each played in a world.
 ghost use Rattle.script_core.specs.Scripts.{IsInRange};
 
 use crate::dice::Dice;

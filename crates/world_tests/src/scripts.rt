@@ -344,5 +344,54 @@ c3 read c.a
 end
 ";
 
+// Three clients of two centres with taps, of which one is fed while its centre is stopped, and a phase.
+const LOOKS: &[u8] = b"\
+centres 2 k 1
+clients 3
+rounds 2
+tap 1 c.a
+tap 2 s.a
+tap 1 m.a
+tap 2 c.a
+c1 connect 1
+c2 connect 2
+c3 tap 1 c.a
+c1 begin
+c1 inc c.a 5
+c1 put m.a k x
+c1 commit
+c1 push
+feed 1
+c2 tap 2 c.a
+feed 1
+c3 tap 1 m.a
+c2 begin
+c2 add s.a y
+c2 commit
+c2 push
+down 2
+feed 2
+up 2
+c1 tap 1 c.a
+phase
+c1 begin
+c1 inc c.a 2
+c1 commit
+c1 push
+c2 refresh
+c3 connect 2
+end
+feed 2
+c3 tap 2 s.a
+settle
+feed 2
+c2 tap 2 s.a
+prune 1
+feed 1
+c1 tap 1 c.a
+feed 2
+c3 tap 2 c.a
+";
+
 /// The scripts.
-pub const SCRIPTS: [&[u8]; 6] = [MOVES, LOSSES, STOPS, COPIES, PHASES, TURNS];
+pub const SCRIPTS: [&[u8]; 7] = [MOVES, LOSSES, STOPS, COPIES, PHASES, TURNS, LOOKS];

@@ -1,7 +1,7 @@
 -- The asks of the operator's steps go to centres that there are, and a carrier may ask them.
 use Rattle.std.proofs.Common.{◌≡◌, ℕ, ◌-◌, inl, inr, Bool, true, false, ◌==◌, List, [], ◌∷◌, ◌++◌, map, Option, None, Some, refl, sym, subst, arith}
-use Rattle.std.specs.Prelude.{MatchBool, filter, flat_map, not, ◌&&◌}
-use Rattle.std.proofs.lemmas.List.Elements.{All-nil, All-append}
+use Rattle.std.specs.Prelude.{MatchBool, All, filter, flat_map, not, ◌&&◌}
+use Rattle.std.proofs.lemmas.List.Elements.{All-nil, All-append, All-head, All-tail}
 use Rattle.list_core.specs.Members.{In}
 use Rattle.list_core.proofs.Members.{In_from_map, In_from_flat_map, In_from_filter}
 use Rattle.list_core.proofs.Ranges.{In_from_range}
@@ -18,17 +18,18 @@ use Rattle.dc_talk.specs.declared.line.ShipEnd.{ShipEnd}
 use Rattle.dc_talk.specs.declared.line.Line.{Line}
 use Rattle.dc_talk.specs.Logs.{marked}
 use Rattle.script_core.specs.declared.steps.OperatorStep.{OperatorStep}
-use Rattle.script_core.specs.declared.steps.OperatorStep.TheVariants.{Down, Up, ShipOne, Ship, Relay, Tell, Prune, Link, Settle}
+use Rattle.script_core.specs.declared.steps.OperatorStep.TheVariants.{Down, Up, ShipOne, Ship, Relay, Tell, Prune, Link, Settle, Feed}
 use Rattle.script_core.specs.Steps.{IsCount, IsOperatorStep}
 use Rattle.script_core.specs.Deeds.{told}
 use Rattle.script_core.specs.Carrying.{Route, route, Detour, detour, detours, routes, ship_line, relay_line, is_there, delivery_end, Delivers, AfterSend, Sends, AfterReport, Supplies, own_need, origin_need, Ships, Relays, AfterTold, Tells, InTurn, no_turn, next_turn, Passes, Settles, last_pass, one_pass}
 use Rattle.script_core.specs.Orders.{base_line, OperatorDeeds}
-use Rattle.script_core.specs.Provenance.{CarriesAll}
+use Rattle.script_core.specs.Provenance.{Carries, CarriesAll}
 use Rattle.script_core.proofs.Provenance.{carries_both, sends_carry, ships_carry, relays_carry, tells_carry, settles_carry}
 use Rattle.run_book.specs.Setups.{Setup}
 use Rattle.run_book.specs.Happenings.{Happened, trails_in, happening, GoesToOneOf, CarrierDoes, AreHistories, AreTogether}
 use Rattle.run_book.proofs.Happenings.More.{operator_carries}
 use Rattle.run_book.proofs.Happenings.Reach.{AllGo, one_go, told_go}
+use Rattle.run_book.proofs.Happenings.Feeding.{feed_each}
 use Rattle.run_book.proofs.Happenings.Carrying.{deeds_do}
 
 -- ---- which centres are asked
@@ -129,6 +130,7 @@ module _ (n : ℕ) where
   order_go (Prune centre) deeds is are = ask_go centre PruneAsk are.answer (told (base_line centre are.answer)) deeds is are.whole (told_go n (base_line centre are.answer))
   order_go (Link from to fault) deeds is are = none_go deeds are
   order_go Settle deeds is are = settles_go deeds are
+  order_go (Feed centre) deeds is are = feed_each (GoesToOneOf n) centre (λ say. is) (λ vector object say. is) (λ fed. tt) are.0 deeds are.1
 
 -- ---- what is carried
 
@@ -139,6 +141,14 @@ line_carries asks line deeds whole carries = subst (CarriesAll []) (sym whole) (
     nothing : (line : Option Line) → CarriesAll [] (told line)
     nothing None = tt
     nothing (Some line) = (tt, tt)
+
+-- a deed that carries nothing, whatever was brought before it
+abbrev CarriesNothing : Deed → Type 0
+CarriesNothing deed = (before : List Deed) → Carries before deed
+
+each_carries : (deeds before : List Deed) → All CarriesNothing deeds → CarriesAll before deeds
+each_carries [] before all = tt
+each_carries (deed ∷ deeds) before all = (All-head CarriesNothing deed deeds all before, each_carries deeds (before ++ deed ∷ []) (All-tail CarriesNothing deed deeds all))
 
 -- the operator's step carries what its own asks brought
 pub order_carries : (n : ℕ) (step : OperatorStep) (deeds : List Deed) → OperatorDeeds n step deeds → CarriesAll [] deeds
@@ -151,6 +161,7 @@ order_carries n (Tell from to) deeds are = line_carries are.asks are.line deeds 
 order_carries n (Prune centre) deeds are = line_carries (Asked centre PruneAsk (Unheard are.answer) ∷ []) (base_line centre are.answer) deeds are.whole (tt, tt)
 order_carries n (Link from to fault) deeds are = subst (CarriesAll []) (sym are) tt
 order_carries n Settle deeds are = settles_carry n deeds are
+order_carries n (Feed centre) deeds are = each_carries deeds [] (feed_each CarriesNothing centre (λ say before. tt) (λ vector object say before. tt) (λ fed before. tt) are.0 deeds are.1)
 
 -- so the operator does it as a carrier, where the trails with it are histories
 pub order_does : (n k : ℕ) (setup : Setup) (all : List Happened) (step : OperatorStep) (section place : ℕ) (deeds : List Deed) → AreTogether n k setup all → AreHistories n k setup (all ++ happening 1 (map (marked section place) deeds)) → IsOperatorStep n step → OperatorDeeds n step deeds → CarrierDoes 1 (trails_in all) (map (marked section place) deeds)

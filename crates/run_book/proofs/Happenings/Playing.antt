@@ -13,7 +13,7 @@ use Rattle.run_book.specs.Setups.{Setup, setup_of}
 use Rattle.run_book.specs.Parts.{trail_of, notes_of}
 use Rattle.run_book.specs.Happenings.{Happened, notes_by, trail_in, happening, AreTogether, IsBookOf}
 use Rattle.run_book.specs.Moves.{Move, actor_of, moves_of}
-use Rattle.run_book.specs.Played.{Stage, first_stage, DoesSo, stage_after, IsAt, Plays, no_moves, next_move, HavePlayed}
+use Rattle.run_book.specs.Played.{Stage, first_stage, DoesSo, TapsSo, stage_after, IsAt, Plays, no_moves, next_move, HavePlayed}
 use Rattle.run_book.specs.Scripted.{HasSteps}
 use Rattle.run_book.proofs.Happenings.Places.{noted, entered, actor_range, reached_one}
 use Rattle.run_book.proofs.Happenings.Fits.{in_trail, in_log}
@@ -26,13 +26,13 @@ module _ (script : Script) where
   played_none = record { goes_on = λ more later plays. plays }
 
   -- one move more
-  pub played_more : (moves : List Move) (all : List Happened) (stage : Stage) (move : Move) (mine : List Note) → HavePlayed script moves all stage → All (IsAt move.section move.step) mine → DoesSo script.n stage move.step move.does (map (λ (note : Note). note.deed) mine) → HavePlayed script (moves ++ move ∷ []) (all ++ happening (actor_of script.clients move.does) mine) (stage_after move.does mine stage)
-  played_more moves all stage move mine h at deeds = record {
+  pub played_more : (moves : List Move) (all : List Happened) (stage : Stage) (move : Move) (mine : List Note) → HavePlayed script moves all stage → All (IsAt move.section move.step) mine → DoesSo script.n stage move.step move.does (map (λ (note : Note). note.deed) mine) → TapsSo stage.taps move.does (map (λ (note : Note). note.deed) mine) → HavePlayed script (moves ++ move ∷ []) (all ++ happening (actor_of script.clients move.does) mine) (stage_after move.does mine stage)
+  played_more moves all stage move mine h at deeds taps = record {
     goes_on = λ more later plays.
         let own : List Happened = happening (actor_of script.clients move.does) mine in
         subst (λ ms. Plays script.n script.clients (first_stage script) ms ((all ++ own) ++ later)) (sym (append_assoc moves (move ∷ []) more))
         (subst (Plays script.n script.clients (first_stage script) (moves ++ move ∷ more)) (sym (append_assoc all own later))
-        (h.goes_on (move ∷ more) (own ++ later) (next_move mine later refl at deeds plays)));
+        (h.goes_on (move ∷ more) (own ++ later) (next_move mine later refl at deeds taps plays)));
   }
 
   -- what these moves left was played
@@ -41,10 +41,11 @@ module _ (script : Script) where
       subst (λ ms. Plays script.n script.clients (first_stage script) ms all) (append-nil moves)
       (subst (Plays script.n script.clients (first_stage script) (moves ++ [])) (append-nil all) (h.goes_on [] [] no_moves))
 
-  -- by the same moves it came to any stage at which each client is as far, and on each link lies the same
-  pub played_as : (moves : List Move) (all : List Happened) (stage other : Stage) → ((client : ℕ) → stage.come client ≡ other.come client) → ((from to : ℕ) → stage.posts from to ≡ other.posts from to) → HavePlayed script moves all stage → HavePlayed script moves all other
-  played_as moves all stage other come posts h =
-      let same : stage ≡ other = λ i. record { come = λ client. come client i; posts = λ from to. posts from to i } in
+  -- by the same moves it came to any stage at which each client is as far, on each link lies the same, and each tap
+  -- shows the same
+  pub played_as : (moves : List Move) (all : List Happened) (stage other : Stage) → ((client : ℕ) → stage.come client ≡ other.come client) → ((from to : ℕ) → stage.posts from to ≡ other.posts from to) → ((centre : ℕ) → stage.taps centre ≡ other.taps centre) → HavePlayed script moves all stage → HavePlayed script moves all other
+  played_as moves all stage other come posts taps h =
+      let same : stage ≡ other = λ i. record { come = λ client. come client i; posts = λ from to. posts from to i; taps = λ centre. taps centre i } in
       subst (HavePlayed script moves all) same h
 
 -- notes of marked deeds are at their section and step

@@ -6,7 +6,7 @@ use Rattle.dc_talk.specs.declared.sent.Sent.{Sent}
 use Rattle.dc_talk.specs.declared.log.Deed.{Deed}
 use Rattle.dc_talk.specs.Logs.{marked}
 use Rattle.script_core.specs.declared.script.Script.{Script}
-use Rattle.script_core.specs.declared.steps.OperatorStep.TheVariants.{Down, Up, ShipOne, Ship, Relay, Tell, Prune, Link, Settle}
+use Rattle.script_core.specs.declared.steps.OperatorStep.TheVariants.{Down, Up, ShipOne, Ship, Relay, Tell, Prune, Link, Settle, Feed}
 use Rattle.script_core.specs.declared.rounds.Role.TheVariants.{Sender, Receiver, Reporter, Pruner}
 use Rattle.script_core.specs.Steps.{IsCount}
 use Rattle.script_core.specs.Mail.{Post, post_put, post_after_round, post_closed, post_set, lying}
@@ -59,6 +59,7 @@ lies_after (operator_does (Relay i origin j)) deeds posts from to item there = i
 lies_after (operator_does (Tell i j)) deeds posts from to item there = inl there
 lies_after (operator_does (Prune centre)) deeds posts from to item there = inl there
 lies_after (operator_does Settle) deeds posts from to item there = inl there
+lies_after (operator_does (Feed centre)) deeds posts from to item there = inl there
 lies_after (worker_does i Reporter) deeds posts from to item there = inl there
 lies_after (worker_does i Pruner) deeds posts from to item there = inl there
 

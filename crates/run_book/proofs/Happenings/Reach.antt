@@ -4,6 +4,7 @@ use Rattle.std.specs.Prelude.{All, int_lt}
 use Rattle.std.proofs.lemmas.List.Sums.{fold_push}
 use Rattle.std.proofs.lemmas.List.Elements.{All-nil, All-cons, All-append, All-head, All-tail}
 use Rattle.list_core.proofs.Moments.{by_steps}
+use Rattle.ids_core.specs.declared.object.ObjectId.{ObjectId}
 use Rattle.tx_core.specs.declared.tx.Tx.{Tx}
 use Rattle.tx_core.specs.declared.tx.Update.{Update}
 use Rattle.dc_talk.specs.declared.ask.Ask.{Ask}
@@ -25,6 +26,7 @@ use Rattle.dc_talk.specs.declared.line.StepWord.{StepWord}
 use Rattle.dc_talk.specs.declared.line.StepWord.TheVariants as step
 use Rattle.dc_talk.specs.declared.line.Line.{Line}
 use Rattle.dc_talk.specs.declared.line.Line.TheVariants as line
+use Rattle.dc_talk.specs.declared.seen.Seen.{Seen}
 use Rattle.dc_talk.specs.Logs.{commit_sent}
 use Rattle.dc_talk.specs.Clients.{Client, new_client}
 use Rattle.dc_talk.specs.Calls.{outcome_of, did}
@@ -34,8 +36,9 @@ use Rattle.script_core.specs.declared.steps.Share.{Share}
 use Rattle.script_core.specs.declared.steps.AskFault.{AskFault}
 use Rattle.script_core.specs.declared.steps.AskFault.TheVariants.{LoseAsk, LoseReply, Twice}
 use Rattle.script_core.specs.declared.steps.ClientStep.{ClientStep}
-use Rattle.script_core.specs.declared.steps.ClientStep.TheVariants.{Connect, Begin, Change, Read, Grant, Give, Take, Rights, Commit, Abort, Push, Flush, Refresh, Again, Arm}
+use Rattle.script_core.specs.declared.steps.ClientStep.TheVariants.{Connect, Begin, Change, Read, Grant, Give, Take, Rights, Commit, Abort, Push, Flush, Refresh, Again, Arm, Look}
 use Rattle.script_core.specs.Steps.{IsStep}
+use Rattle.script_core.specs.Taps.{looks}
 use Rattle.script_core.specs.Deeds.{Progress, StepDeeds, Asks, OrTells, OverNext, Pushes, PushesOn, FetchDeeds, CallDeeds, FlushDeeds, flush_ends, flush_goes, RefreshDeeds, AgainDeeds, CellsDeeds, AddsOwned, TakingDeeds, TellsRights, RightsDeeds, after_all, after_fetch, calls, calls_on, call_line, cell_inc, cell_read, cell_to, change_call, counter_of_share, line_on, read_call, rights_got, share_cells, copies, fate_of, fetch_line, goes_on, hello_line, push_line, pushed, refresh_line, again_line, told, took}
 use Rattle.run_book.specs.Setups.{Setup}
 use Rattle.run_book.specs.Happenings.{Happened, notes_by, GoesToOneOf, IsLinkWithin, AreTogether}
@@ -202,6 +205,11 @@ module _ (n : ℕ) where
   again_go : (client centre number : ℕ) (tx : Tx) (deeds : List Deed) → (1 ≤ centre) × (centre ≤ n) → AgainDeeds client centre number tx deeds → AllGo deeds
   again_go client centre number tx deeds range are = subst AllGo (sym are.1) (one_go (Asked centre (CommitAsk tx) (Unheard are.0)) (told (again_line client centre number (Unheard are.0))) range (told_go (again_line client centre number (Unheard are.0))))
 
+  -- a look asks nothing
+  look_go : (client centre : ℕ) (object : ObjectId) (seen : Option Seen) → AllGo (looks client centre object seen)
+  look_go client centre object None = All-nil (GoesToOneOf n)
+  look_go client centre object (Some seen) = told_go (Some (line.Look client centre object seen))
+
   -- the asks of a client's step go to centres that there are, where its link does
   pub step_go : (p : Progress) (step : ClientStep) (deeds : List Deed) → IsStep n step → IsLinkWithin n p.client.link → StepDeeds p step deeds → AllGo deeds
   step_go p (Connect centre) deeds is within hello = asks_go p.armed centre (hello_of p.client) (λ fate. told (hello_line p.client.client centre fate)) deeds is (λ fate. told_go (hello_line p.client.client centre fate)) hello
@@ -219,6 +227,7 @@ module _ (n : ℕ) where
   step_go p Refresh deeds is within refresh = link_go p.client (line.RefreshUnconnected p.client.client) (RefreshDeeds p p.client.draft) deeds within (λ link range refresh. refresh_go p p.client.draft deeds link range refresh) refresh
   step_go p (Again centre number) deeds is within again = over_go (commit_sent number p.notes) (line.AgainNone p.client.client centre number) (AgainDeeds p.client.client centre number) deeds (λ tx there again. again_go p.client.client centre number tx deeds is.0 again) again
   step_go p (Arm fault) deeds is within are = subst AllGo (sym are) (All-nil (GoesToOneOf n))
+  step_go p (Look centre object) deeds is within are = subst AllGo (sym are.1) (look_go p.client.client centre object are.0)
 
 -- ---- what happened
 

@@ -19,11 +19,12 @@ use Rattle.script_core.specs.Rounds.{worker_of, mailed}
 use Rattle.script_core.specs.Provenance.{CarriesAll, WasSent as WasBrought}
 use Rattle.script_core.specs.Deeds.{StepDeeds}
 use Rattle.script_core.specs.Orders.{OperatorDeeds}
+use Rattle.script_core.specs.Taps.{LooksSo, FeedsSo}
 use Rattle.script_core.proofs.Arriving.{due_lies, close_lies}
 use Rattle.run_book.specs.Setups.{setup_of}
 use Rattle.run_book.specs.Happenings.{Happened, notes_by, trail_in, trails_in, happening, GoesToOneOf, IsLinkWithin, ClientDoes, CarrierDoes, IsCarrier, AreHistories, AreTogether}
 use Rattle.run_book.specs.Moves.{Does, client_does, operator_does, worker_does, closes, Move, move, actor_of}
-use Rattle.run_book.specs.Played.{Stage, DoesSo, posts_after, stage_after, HavePlayed}
+use Rattle.run_book.specs.Played.{Stage, DoesSo, TapsSo, posts_after, stage_after, HavePlayed}
 use Rattle.run_book.proofs.Happenings.Entries.{trail_then, deeds_marked}
 use Rattle.run_book.proofs.Happenings.More.{client_then, carrier_then, operator_carries}
 use Rattle.run_book.proofs.Happenings.Reach.{step_go, link_within}
@@ -48,12 +49,12 @@ module _ (script : Script) (moves : List Move) (all : List Happened) (stage : St
     pub played : HavePlayed script (moves ++ move section step does ∷ []) (happened_then does deeds) (stage_after does (map (marked section step) deeds) stage)
 
   -- the move was played
-  pub move_played : (does : Does) (deeds : List Deed) → DoesSo script.n stage step does deeds → HavePlayed script (moves ++ move section step does ∷ []) (happened_then does deeds) (stage_after does (map (marked section step) deeds) stage)
-  move_played does deeds are = played_more script moves all stage (move section step does) (map (marked section step) deeds) h (all_at section step deeds) (subst (DoesSo script.n stage step does) (sym (deeds_marked section step deeds)) are)
+  pub move_played : (does : Does) (deeds : List Deed) → DoesSo script.n stage step does deeds → TapsSo stage.taps does deeds → HavePlayed script (moves ++ move section step does ∷ []) (happened_then does deeds) (stage_after does (map (marked section step) deeds) stage)
+  move_played does deeds are taps = played_more script moves all stage (move section step does) (map (marked section step) deeds) h (all_at section step deeds) (subst (DoesSo script.n stage step does) (sym (deeds_marked section step deeds)) are) (subst (TapsSo stage.taps does) (sym (deeds_marked section step deeds)) taps)
 
   -- a client that is as its log says took its step
-  pub client_takes : (client : ℕ) (does : ClientStep) (deeds : List Deed) → (1 ≤ client) × (client ≤ script.clients) → (stage.come client).client ≡ client_after script.n client script.cache (notes_by (client + 1) all) → (stage.come client).notes ≡ notes_by (client + 1) all → IsStep script.n does → StepDeeds (stage.come client) does deeds → ClientDoes (stage.come client).client (stage.come client).notes (map (marked section step) deeds) → AreHistories script.n script.k (setup_of script) (happened_then (client_does client does) deeds) → IsMade (client_does client does) deeds
-  client_takes client does deeds range state notes is are allowed histories =
+  pub client_takes : (client : ℕ) (does : ClientStep) (deeds : List Deed) → (1 ≤ client) × (client ≤ script.clients) → (stage.come client).client ≡ client_after script.n client script.cache (notes_by (client + 1) all) → (stage.come client).notes ≡ notes_by (client + 1) all → IsStep script.n does → StepDeeds (stage.come client) does deeds → LooksSo stage.taps client does deeds → ClientDoes (stage.come client).client (stage.come client).notes (map (marked section step) deeds) → AreHistories script.n script.k (setup_of script) (happened_then (client_does client does) deeds) → IsMade (client_does client does) deeds
+  client_takes client does deeds range state notes is are looks allowed histories =
       let mine : List Note = map (marked section step) deeds in
       let back : map (λ (note : Note). note.deed) mine ≡ deeds = deeds_marked section step deeds in
       let within : IsLinkWithin script.n (stage.come client).client.link = subst (λ (s : Client). IsLinkWithin script.n s.link) (sym state) (link_within script.n script.k (setup_of script) all t client (client + 1)) in
@@ -61,20 +62,20 @@ module _ (script : Script) (moves : List Move) (all : List Happened) (stage : St
       let may : ClientDoes (client_after script.n client script.cache (notes_by (client + 1) all)) (notes_by (client + 1) all) mine = subst (λ s. ClientDoes s (notes_by (client + 1) all) mine) state (subst (λ ns. ClientDoes (stage.come client).client ns mine) notes allowed) in
       record {
         together = client_then script.n script.k (setup_of script) client all mine range t histories go may;
-        played = move_played (client_does client does) deeds are;
+        played = move_played (client_does client does) deeds are looks;
       }
 
   -- a carrier made its move
-  carrier_takes : (does : Does) (deeds : List Deed) → IsCarrier script.n script.clients (actor_of script.clients does) → DoesSo script.n stage step does deeds → All (GoesToOneOf script.n) deeds → CarrierDoes (actor_of script.clients does) (trails_in all) (map (marked section step) deeds) → AreHistories script.n script.k (setup_of script) (happened_then does deeds) → IsMade does deeds
-  carrier_takes does deeds carrier are go allowed histories = record {
+  carrier_takes : (does : Does) (deeds : List Deed) → IsCarrier script.n script.clients (actor_of script.clients does) → DoesSo script.n stage step does deeds → TapsSo stage.taps does deeds → All (GoesToOneOf script.n) deeds → CarrierDoes (actor_of script.clients does) (trails_in all) (map (marked section step) deeds) → AreHistories script.n script.k (setup_of script) (happened_then does deeds) → IsMade does deeds
+  carrier_takes does deeds carrier are taps go allowed histories = record {
     together = carrier_then script.n script.k (setup_of script) (actor_of script.clients does) all (map (marked section step) deeds) carrier t histories (subst (All (GoesToOneOf script.n)) (sym (deeds_marked section step deeds)) go) allowed;
-    played = move_played does deeds are;
+    played = move_played does deeds are taps;
   }
 
   -- the operator took its step
-  pub operator_takes : (does : OperatorStep) (deeds : List Deed) → IsOperatorStep script.n does → OperatorDeeds script.n does deeds → AreHistories script.n script.k (setup_of script) (happened_then (operator_does does) deeds) → IsMade (operator_does does) deeds
-  operator_takes does deeds is are histories =
-      carrier_takes (operator_does does) deeds (operator_carries script.n script.clients) are (order_go script.n does deeds is are)
+  pub operator_takes : (does : OperatorStep) (deeds : List Deed) → IsOperatorStep script.n does → OperatorDeeds script.n does deeds → FeedsSo stage.taps does deeds → AreHistories script.n script.k (setup_of script) (happened_then (operator_does does) deeds) → IsMade (operator_does does) deeds
+  operator_takes does deeds is are feeds histories =
+      carrier_takes (operator_does does) deeds (operator_carries script.n script.clients) are feeds (order_go script.n does deeds is are)
       (order_does script.n script.k (setup_of script) all does section step deeds t histories is are) histories
 
   -- the deeds of a worker's round go to centres that there are
@@ -89,19 +90,19 @@ module _ (script : Script) (moves : List Move) (all : List Happened) (stage : St
   worker_takes i role deeds range are carries histories =
       let carrier = worker_carries script.n script.clients i role range in
       let go = round_go i role deeds range are in
-      carrier_takes (worker_does i role) deeds carrier are go
+      carrier_takes (worker_does i role) deeds carrier are tt go
       (deeds_do script.n script.k (setup_of script) (worker_of script.clients i role) carrier all section step deeds t histories go carries) histories
 
   -- a receiver made its round: what lay on its links was sent
   pub receiver_takes : (i : ℕ) (deeds : List Deed) → IsCount script.n i → DoesSo script.n stage step (worker_does i Receiver) deeds → AreSent script.n stage.posts all → AreHistories script.n script.k (setup_of script) (happened_then (worker_does i Receiver) deeds) → IsMade (worker_does i Receiver) deeds
   receiver_takes i deeds range are sent histories =
-      carrier_takes (worker_does i Receiver) deeds (worker_carries script.n script.clients i Receiver range) are (round_go i Receiver deeds range are)
+      carrier_takes (worker_does i Receiver) deeds (worker_carries script.n script.clients i Receiver range) are tt (round_go i Receiver deeds range are)
       (receiver_does (worker_of script.clients i Receiver) script.n i section step (λ from. due_in_round (stage.posts from i)) deeds (trails_in all) (λ from other item due. sent from i other range item (due_lies (stage.posts from i) item due)) are) histories
 
   -- a receiver made its closing round
   pub closing_takes : (i : ℕ) (deeds : List Deed) → IsCount script.n i → DoesSo script.n stage step (closes i) deeds → AreSent script.n stage.posts all → AreHistories script.n script.k (setup_of script) (happened_then (closes i) deeds) → IsMade (closes i) deeds
   closing_takes i deeds range are sent histories =
-      carrier_takes (closes i) deeds (worker_carries script.n script.clients i Receiver range) are (receiver_go script.n i (λ from. due_at_close (stage.posts from i)) deeds range are)
+      carrier_takes (closes i) deeds (worker_carries script.n script.clients i Receiver range) are tt (receiver_go script.n i (λ from. due_at_close (stage.posts from i)) deeds range are)
       (receiver_does (worker_of script.clients i Receiver) script.n i section step (λ from. due_at_close (stage.posts from i)) deeds (trails_in all) (λ from other item due. sent from i other range item (close_lies (stage.posts from i) item due)) are) histories
 
   -- after a move that was made each record that lies on a link was sent, where the deeds brought what they put there

@@ -83,3 +83,7 @@ returns-in-again-clause-one c = ap verb_forms (text_from_reads c.args.verb.now (
 pub returns-in-twice-clause-one : goal.returns-in-twice-clause-one
 unfolding verb_forms
 returns-in-twice-clause-one c = ap verb_forms (text_from_reads c.args.verb.now (codes "twice") (omega arith) (omega arith, (omega arith, (omega arith, (omega arith, (omega arith, tt)))))) ∙ refl
+
+pub returns-in-tap-clause-one : goal.returns-in-tap-clause-one
+unfolding verb_forms
+returns-in-tap-clause-one c = ap verb_forms (text_from_reads c.args.verb.now (codes "tap") (omega arith) (omega arith, (omega arith, (omega arith, tt)))) ∙ refl

@@ -1,5 +1,5 @@
 use Rattle.std.proofs.Common.{[], ◌∷◌}
-use Rattle.read_tap.specs.Shows.{opening}
+use Rattle.script_core.specs.Taps.{opening}
 use Rattle.show_law.proofs.Feeding.{adds}
 use Rattle.show_law.proofs.Showing.{seen_by, tap_rises, tap_stays}
 use Rattle.show_law.proofs.laws.law_tap.Goals as goal

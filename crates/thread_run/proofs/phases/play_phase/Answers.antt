@@ -79,4 +79,4 @@ new-requires-3-clause-kept g c =
 pub returns : goal.returns
 returns g c =
     let same : c.from.result ≡ c.args.script.now.n = search rules in
-    phase_played _ c.args.table _ (record { run = record { begun = begun_of _ c.args.table (all_seen c.part.result.items) c.from.result (record { rows = c.in_ok-hosts.rows; logs = c.args.table.logs; stubs = c.args.table.stubs; givers = c.in_ok-links.field-0.givers; takers = c.in_ok-links.field-0.takers; inlets = c.in_ok-inlets.inlets }) c.in_ok-cast.cast c.in_ok-cast.ensures same c.requires.range c.requires.phase c.in_ok-dealt.ensures c.requires.table c.requires.linked c.part.ensures.centres c.in_ok-hosts.ensures.hosts c.in_ok-hosts.ensures.callers c.in_ok-hosts.ensures.each c.in_ok-hosts.ensures.passes c.in_ok-links.ensures.number c.in_ok-links.ensures.givers c.in_ok-links.ensures.takers c.in_ok-links.ensures.put c.in_ok-links.ensures.taken c.in_ok-inlets.ensures refl refl; acted = c.in_ok-cast-2.cast; played = c.in_ok-cast-2.ensures; later = c.in_ok-parts.parts; parted = c.in_ok-parts.ensures }; drained = c.close.ensures.all; kept = c.in_ok-kept.kept.items; closed = c.in_ok-kept.ensures; given = c.give_all.ensures; door_is = ap (λ (door : KeptView). door.centres) c.new-3.ensures.door; stubs_new = refl; logs_new = refl })
+    phase_played _ c.args.table _ (record { run = record { begun = begun_of _ c.args.table (all_seen c.part.result.items) c.from.result (record { rows = c.in_ok-hosts.rows; logs = c.args.table.logs; stubs = c.args.table.stubs; givers = c.in_ok-links.field-0.givers; takers = c.in_ok-links.field-0.takers; inlets = c.in_ok-inlets.inlets }) c.in_ok-cast.cast c.in_ok-cast.ensures same c.requires.range c.requires.phase c.in_ok-dealt.ensures c.requires.table c.requires.linked c.part.ensures.centres c.in_ok-hosts.ensures.hosts c.in_ok-hosts.ensures.callers c.in_ok-hosts.ensures.each c.in_ok-hosts.ensures.passes c.in_ok-links.ensures.number c.in_ok-links.ensures.givers c.in_ok-links.ensures.takers c.in_ok-links.ensures.put c.in_ok-links.ensures.taken c.in_ok-inlets.ensures refl refl; acted = c.in_ok-cast-2.cast; played = c.in_ok-cast-2.ensures; later = c.in_ok-parts.parts; parted = c.in_ok-parts.ensures }; drained = c.close.ensures.all; kept = c.in_ok-kept.kept.items; closed = c.in_ok-kept.ensures; given = c.give_all.ensures; door_is = ap (λ (door : KeptView). door.centres) c.new-3.ensures.door; stubs_new = refl; logs_new = refl; taps_stay = refl })

@@ -48,10 +48,12 @@ those-preserved c =
       | in-Some+in_ok-take w ↦
           let step = w.in-Some.step in
           let range : IsCount mid.script.clients client = subst (λ (script : Script). IsCount script.clients client) (sym c.those.invariant.script) count in
+          let there : slice_get (client_steps client c.args.section.now) (c.args.turn - 1) ≡ Some step = sym (w.in-Some.ensures ∙ line_is a.script.clients c.args.section.now c.args.dealt.now c.requires.phase.steps_are c.args.number c.args.turn client count.0 count.1) in
+          let fits : IsStep mid.script.n step = subst (λ (script : Script). IsStep script.n step) (sym c.those.invariant.script) (client_step_in (header_of a.script) c.args.section.now c.requires.phase.phase client (c.args.turn - 1) step there).1 in
           subst (MakesMoves (filter_map turns (take (place + 1) all)) a) (sym w.world-is)
           (subst (λ those. MakesMoves (filter_map turns those) a w.take.new.self) (sym taken)
           (client_took a.script.clients c.args.section.now c.args.dealt.now c.requires.phase.steps_are c.args.number c.args.turn (take place all) client step a mid w.take.new.self count w.in-Some.ensures c.those.invariant
-          (client_makes c.args.number c.args.turn client step mid w.take.new.self range w.in_ok-take.ensures.takes)))
+          (client_makes c.args.number c.args.turn client step mid w.take.new.self range fits w.in_ok-take.ensures.takes)))
       | in_default w ↦
           let none : None ≡ slice_get (line_of c.args.dealt.now client) (c.args.turn - 1) = search rules in
           subst (MakesMoves (filter_map turns (take (place + 1) all)) a) (sym w.world-is)

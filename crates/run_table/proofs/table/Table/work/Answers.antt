@@ -11,7 +11,7 @@ returns-clause-works c =
     on_ok_weaker c.make_round-ended.result
     (λ works.
     round_left c.actor-actor.result _ c.args.n c.args.section c.args.number (work_of c.args.centre c.args.does) c.args.self.now _ c.set.new.self c.index_mut-log.result.now c.set-2.new.self c.make_round-ended.new.log c.actor-actor.ensures range c.requires.centres c.set.ensures.door c.index_mut-log.ensures.value c.set-2.ensures
-    c.make_round-ended.ensures.place works refl refl c.histories.ensures)
+    c.make_round-ended.ensures.place works refl refl refl c.histories.ensures)
     c.make_round-ended.ensures.works
 
 pub returns-clause-part : goal.returns-clause-part
@@ -21,5 +21,5 @@ returns-clause-part c =
     on_err_both c.make_round-ended.result _ _ _
     (λ short part.
     round_cut c.actor-actor.result _ c.args.n c.args.section c.args.number c.args.centre c.args.does c.args.self.now _ c.set.new.self c.index_mut-log.result.now c.set-2.new.self c.make_round-ended.new.log c.actor-actor.ensures range c.requires.centres c.set.ensures.door c.index_mut-log.ensures.value c.set-2.ensures
-    c.make_round-ended.ensures.place short part refl refl c.histories.ensures)
+    c.make_round-ended.ensures.place short part refl refl refl c.histories.ensures)
     c.make_round-ended.ensures.short c.make_round-ended.ensures.part
