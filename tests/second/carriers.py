@@ -135,7 +135,7 @@ class Operator:
                     break
                 states[thing] = say[1]
             else:
-                self.shows[centre] = (vector, states)
+                self.shows[centre].append((vector, states))
                 return self.say(f"{centre} fed {vector_text(vector)}")
         self.say(f"{centre} feed {MISSED[say[0]]}")
 

@@ -205,6 +205,7 @@ class Session:
         self.graph, self.client, self.lines, self.bases, self.rows = graph, client, lines, bases, rows
         self.holders = holders
         self.known, self.own, self.last, self.reads = {}, [], set(), 0
+        self.seen = {}  # the place of the last show that was seen of each centre
         self.vector = (0,) * graph.n
 
     def look(self, events):
@@ -258,15 +259,29 @@ class Session:
             raise Fault(("line", self.client, line), f"'{got}', but over its basis the client has {rights}")
 
     def look_through(self, event):
-        """Looks at a line of a tap: it has the last show of its centre by then, and the value over what the show's vector covers."""
-        _, centre, thing, place, line = event
-        vector = [show for before, show in self.graph.fed[centre] if before <= place][-1]
+        """Looks at a line of a tap: it has a show of its centre, and the value over what the show's vector covers.
+
+        Outside of phases with threads that is the last show by then. In one it is the last one before the phase, or one of
+        the phase, and none that is before the one that the client saw last."""
+        _, centre, thing, since, until, line = event
+        first = max(self.seen.get(centre, 0), self.last_show(centre, since))
+        got = self.lines[line] if line < len(self.lines) else "nothing"
+        for place in range(first, self.last_show(centre, until) + 1):
+            want = self.seen_at(centre, thing, self.graph.fed[centre][place][1])
+            if got == want:
+                self.seen[centre] = place
+                return
+        raise Fault(("line", self.client, line), f"'{got}', but the tap shows '{want}'")
+
+    def last_show(self, centre, place):
+        """The place of the last show that stands in front of a place of its centre's trail."""
+        return sum(before <= place for before, _ in self.graph.fed[centre]) - 1
+
+    def seen_at(self, centre, thing, vector):
+        """The line of a look at a show with this vector."""
         acts = [act for dot in sorted(self.graph.cover(vector)) for act in self.acts(thing, dot)]
         value = value_text(thing[0], value_of(thing[0], acts))
-        want = f"c{self.client} tap {centre} {thing} at {vector_text(vector)} {value}"
-        got = self.lines[line] if line < len(self.lines) else "nothing"
-        if got != want:
-            raise Fault(("line", self.client, line), f"'{got}', but the tap shows '{want}'")
+        return f"c{self.client} tap {centre} {thing} at {vector_text(vector)} {value}"
 
     def acts(self, thing, dot):
         tx = self.graph.nodes[dot]

@@ -221,11 +221,16 @@ class Client:
             self.events.append(("read", thing, self.own, self.vector, self.clock, tuple(self.draft or ()), line))
 
     def do_tap(self, word, centre, thing):
-        vector, states = self.shows[centre]
-        value = value_text(thing[0], objects.value_of(thing, states[thing]))
-        line = self.tell(self.number, f"c{self.number} tap {centre} {thing} at {vector_text(vector)} {value}")
-        self.events.append(("look", centre, thing, len(self.places[centre]), line))
+        """Looks at the last show. A phase with threads puts another one of its shows there, and how far the trail came by then."""
+        line = self.tell(self.number, self.seen(centre, thing, self.shows[centre][-1]))
+        self.events.append(["look", centre, thing, len(self.places[centre]), len(self.places[centre]), line])
         yield from ()
+
+    def seen(self, centre, thing, show):
+        """The line of a look that sees this show."""
+        vector, states = show
+        value = value_text(thing[0], objects.value_of(thing, states[thing]))
+        return f"c{self.number} tap {centre} {thing} at {vector_text(vector)} {value}"
 
     def do_change(self, word, thing, *said):
         if self.draft is None:

@@ -1,8 +1,8 @@
 """Makes scripts that look random, the same for each seed.
 
 There are two to five centres and one to four clients, lines before, between and behind two phases, links with faults, and a
-`settle` with reads and rights at the end, and feeds of taps and looks outside of phases. Where there are three centres and more, one is lost for good behind the phases, and its
-records go on past it.
+`settle` with reads and rights at the end, and feeds of taps and looks in phases and outside of them. Where there are three centres
+and more, one is lost for good behind the phases, and its records go on past it.
 """
 import random
 
@@ -234,6 +234,21 @@ class Maker:
                 [f"down {centre}", f"feed {centre}", f"up {centre}", look],
             ]))
 
+    def one_more(self):
+        """A commit of a client, and all that it has not sent yet goes out."""
+        client = self.taps_pick.randint(1, self.m)
+        self.commits[client] += 1
+        return [f"c{client} {word}" for word in ("abort", "begin", "inc c.a 1", "commit", "flush")]
+
+    def feeds_and_looks(self):
+        """Feeds in a phase, and looks of each client beside them."""
+        if not self.tapped or self.taps_pick.randrange(3) == 0:
+            return
+        centre, thing = self.taps_pick.choice(self.tapped)
+        for _ in range(self.taps_pick.randint(2, 4)):
+            self.add(*self.one_more(), f"feed {centre}", f"feed {centre}")
+            self.add(*(f"c{client} tap {centre} {thing}" for client in range(1, self.m + 1)))
+
     # ---- the whole
 
     def block(self):
@@ -265,6 +280,9 @@ class Maker:
         self.add("phase")
         for _ in range(self.pick.randint(5, 14)):
             self.block()
+            if self.taps_pick.randrange(4) == 0:
+                self.feed_and_look()
+        self.feeds_and_looks()
         if self.chance(40):
             self.bulk(self.pick.randint(1, self.m))
         self.add("end")

@@ -14,7 +14,7 @@ class World:
         self.script = script
         self.centres = [None] + [Centre(me, script) for me in range(1, script.n + 1)]
         self.trails = [None] + [[] for _ in range(script.n)]  # each entry: the caller, the ask, the answer, and the moment
-        self.shows = {centre: opening(script, centre) for centre in range(1, script.n + 1)}  # what each tap shows
+        self.shows = {centre: [opening(script, centre)] for centre in range(1, script.n + 1)}  # the shows of each tap
         self.clients = [None] + [Client(number, script, self.tell, self.trails, self.shows) for number in range(1, script.clients + 1)]
         self.operator = Operator(script, self.tell, self.set_link, self.shows)
         self.links = {(one, two): Link() for one in range(1, script.n + 1) for two in others(script.n, one)}
@@ -23,6 +23,7 @@ class World:
         self.told = [0] * (script.clients + 1)
         self.moment = 0
         self.doubled = self.held = 0  # how many records links doubled, and held to the end
+        self.inside = 0  # how many looks in phases with threads saw a show of the phase
 
     def tell(self, client, text):
         """Tells a line. Its number among the lines of the client is returned."""

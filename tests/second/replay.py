@@ -8,6 +8,9 @@ is, and not what is taken in which round.
 Two things are looked at from one side alone. A receiver's rounds are counted as few as they can be, and these may not be more
 than it makes: that a record was put before the take of its round, and not only before its delivery, is not seen. And of the
 closing round it is seen that a record that is held to the end comes behind all that others do in the phase.
+
+What a look sees in a phase is not determined either. It may be the last show before the phase or any show of the phase, and the
+looks of a client at one centre see shows in their order. So each look takes the first such show that its line has.
 """
 import re
 
@@ -113,6 +116,7 @@ class Replay(World):
 
     def __init__(self, script, got):
         super().__init__(script)
+        self.got = got
         self.written, self.behind = entries_of(got, script.n)
         self.receivers = {}
 
@@ -160,6 +164,8 @@ class Replay(World):
 
     def phase(self, steps):
         n, rounds = self.script.n, range(1, self.script.rounds + 1)
+        shows = {centre: (len(self.shows[centre]) - 1, len(self.trails[centre])) for centre in range(1, n + 1)}
+        clients = [(client, len(client.events), self.told[client.number]) for client in self.clients[1:]]
         self.receivers = {centre: Receiver(centre, len(rounds)) for centre in range(1, n + 1)}
         self.actors = {}
         for caller in range(1, self.script.clients + 2):
@@ -179,6 +185,32 @@ class Replay(World):
         if any(due for receiver in self.receivers.values() for due in receiver.due.values()):
             self.stuck()
         self.doubled += sum(receiver.doubled for receiver in self.receivers.values())
+        self.before_phase = {centre: last for centre, (last, _) in shows.items()}
+        self.put_looks(shows, clients)
+
+    def put_looks(self, shows, clients):
+        """Has each look of the phase see the show that its line has, by the last show and the trail of each centre before it,
+        and by how many events and lines each client had then."""
+        place = len(self.lines)
+        for client, events, told in clients:
+            fresh, first = self.fresh.get(client.number, []), {centre: last for centre, (last, _) in shows.items()}
+            for event in client.events[events:]:
+                if event[0] == "look":
+                    number = event[5] - told
+                    fresh[number] = self.found_look(client, event, first, place + number)
+                    event[3:5] = shows[event[1]][1], len(self.trails[event[1]])
+            place += len(fresh)
+
+    def found_look(self, client, event, first, place):
+        """The line of a look, as it is written where that is one that it may have. The show that it sees is the first for later ones."""
+        centre, seen = event[1], []
+        for number in range(first[centre], len(self.shows[centre])):
+            seen.append(client.seen(centre, event[2], self.shows[centre][number]))
+            if self.got[place:place + 1] == seen[-1:]:
+                self.inside += number > self.before_phase[centre]
+                first[centre] = number
+                return seen[-1]
+        return seen[0]
 
     def steps(self, steps):
         for step in steps:

@@ -39,7 +39,7 @@ RIGHTS = ("grant", "give", "take", "rights")
 CENTRES = {
     "connect": 1, "again": 1, "tap": 1, "down": 1, "up": 1, "prune": 1, "feed": 1, "ship": 2, "tell": 2, "link": 2, "relay": 3,
 }
-OUTSIDE = ("settle", "link", "feed", "tap")  # the words of the steps that stand in no phase
+OUTSIDE = ("settle", "link")  # the words of the steps that stand in no phase
 
 
 class NoScript(Exception):

@@ -161,8 +161,6 @@ add_changed("a printed base with another number trimmed", r"(\d+ base [\d,]+ fol
             lambda pick, line: line[1] + more(line[2]))
 add_changed("a printed shipment applied for alias, or alias for applied", r"(\d+ from \d+ (?:of \d+ )?)(applied|alias)( \d+)",
             lambda pick, line: line[1] + ("alias" if line[2] == "applied" else "applied") + line[3])
-add_changed("a look with another vector", r"(c\d+ tap \d+ \S+ at )([\d,]+)( .*)",
-            lambda pick, line: line[1] + other_vector(pick, line[2]) + line[3])
 add_changed("a look with another number", r"(c\d+ tap \d+ c\.\w+ at [\d,]+ )(-?\d+)", lambda pick, line: line[1] + more(line[2]))
 add_changed("a look with another word", r"(c\d+ tap \d+ r\.\w+ at [\d,]+ )([xyz-])",
             lambda pick, line: line[1] + another(pick, line[2], "xyz-"))
@@ -204,22 +202,80 @@ def lines_exchanged(pick, lines, script):
     return None if place is None else exchanged(lines, place - 1, place)
 
 
+# ---- looks
+
+
+class Look:
+    """A line of a look: its place, the number of its section, what it says, and whether its tap is fed beside it in a phase."""
+
+    def __init__(self, place, number, section, line):
+        self.place, self.number = place, number
+        self.client, self.centre, self.thing, self.seen = re.fullmatch(r"c(\d+) tap (\d+) (\S+) at (.*)", line).groups()
+        self.vector = self.seen.split(" ")[0]
+        self.is_open = section.phase and (0, "feed", int(self.centre)) in section.steps
+
+
+def looks_in(lines, script):
+    """The lines of looks. Those of a client stand in the order of its steps, and each step has one."""
+    looks = []
+    for client in range(1, script.clients + 1):
+        steps = [(number, section) for number, section in enumerate(script.sections)
+                 for step in section.steps if step[:2] == (client, "tap")]
+        found = places(lines, rf"c{client} tap \d+ \S+ at .*")
+        looks += [Look(place, *step, lines[place]) for place, step in zip(found, steps)]
+    return looks
+
+
+def seeing(lines, look, seen):
+    """The lines with another show in that of a look."""
+    return lines[:look.place] + [f"c{look.client} tap {look.centre} {look.thing} at {seen}"] + lines[look.place + 1:]
+
+
+@kind("a look with another vector")
+def look_with_other_vector(pick, lines, script):
+    """One that no feed found: beside feeds a look may see the show of each of them."""
+    look = one_of(pick, looks_in(lines, script))
+    if not look:
+        return None
+    vector = other_vector(pick, look.vector)
+    known = f"{look.centre} fed {vector}" in lines or not re.search("[1-9]", vector)
+    return None if known else seeing(lines, look, look.seen.replace(look.vector, vector, 1))
+
+
 @kind("a look at an older show")
 def older_show(pick, lines, script):
     """What an earlier look of any client saw of the same object through the same tap, with another vector."""
-    found = places(lines, r"c\d+ tap \d+ \S+ at .*")
-    words = {place: lines[place].split(" ", 5) for place in found}
-    pairs = [(one, other) for one in found for other in found if other < one and words[one][2:4] == words[other][2:4] and words[one][5] != words[other][5]]
+    looks = looks_in(lines, script)
+    pairs = [(one, other) for one in looks for other in looks if not one.is_open and other.place < one.place
+             and (one.centre, one.thing) == (other.centre, other.thing) and one.seen != other.seen]
     pair = one_of(pick, pairs)
-    if not pair:
-        return None
-    line = " ".join(words[pair[0]][:5] + words[pair[1]][5:])
-    return lines[:pair[0]] + [line] + lines[pair[0] + 1:]
+    return seeing(lines, pair[0], pair[1].seen) if pair else None
+
+
+@kind("a look beside feeds at an older show")
+def older_show_beside_feeds(pick, lines, script):
+    """What a look in an earlier section saw, where one in a section between the two saw a later show."""
+    looks, pairs = looks_in(lines, script), []
+    for one in looks:
+        before = [other for other in looks if one.is_open and other.number < one.number and other.centre == one.centre]
+        pairs += [(one, other) for other in before if other.thing == one.thing and other.seen != one.seen
+                  and any(last.number > other.number and last.vector != other.vector for last in before)]
+    pair = one_of(pick, pairs)
+    return seeing(lines, pair[0], pair[1].seen) if pair else None
+
+
+@kind("two looks of a client beside feeds exchanged")
+def looks_exchanged(pick, lines, script):
+    looks = [look for look in looks_in(lines, script) if look.is_open]
+    pairs = [(one.place, other.place) for one in looks for other in looks if one.place < other.place and one.seen != other.seen
+             and (one.client, one.number, one.centre, one.thing) == (other.client, other.number, other.centre, other.thing)]
+    pair = one_of(pick, pairs)
+    return exchanged(lines, *pair) if pair else None
 
 
 @kind("a look at the opening")
 def look_at_opening(pick, lines, script):
-    found = [place for place in places(lines, r"c\d+ tap \d+ c\.\w+ at .*") if not re.search(r" at [0,]+ 0$", lines[place])]
+    found = [look.place for look in looks_in(lines, script) if not look.is_open and look.thing.startswith("c.") and re.search("[1-9]", look.seen)]
     place = one_of(pick, found)
     if place is None:
         return None

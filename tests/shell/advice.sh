@@ -138,8 +138,8 @@ check_advice_on_taps() {
     advise_two "a script has at most 8 lines 'tap', and this is one more" \
         'tap 1 c.a' 'tap 1 r.a' 'tap 1 s.a' 'tap 1 m.a' 'tap 2 c.a' 'tap 2 r.a' 'tap 2 s.a' 'tap 2 m.a' 'tap 1 c.b'
     advise_two "'tap' comes too late; taps stand before all steps and phases" 'c1 begin' 'tap 1 c.a'
-    advise_two "'tap' may not stand in a phase; expected 'end' for the 'phase' of line 4 first" 'tap 1 c.a' 'phase' 'c1 tap 1 c.a'
-    advise_two "'feed' may not stand in a phase; expected 'end' for the 'phase' of line 4 first" 'tap 1 c.a' 'phase' 'feed 1'
+    advise_two "'tap' comes too late; taps stand before all steps and phases" 'phase' 'tap 1 c.a'
+    advise_two "centre 2 has no tap; it has one by a line 'tap 2 OBJECT' before all steps" 'tap 1 c.a' 'phase' 'feed 2'
 }
 
 check_advice_on_places() {

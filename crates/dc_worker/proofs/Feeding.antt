@@ -161,7 +161,7 @@ shows_one centre show asks quiet states =
     λ i. shown_with (all i) (told i)
 
 -- the line behind the asks of a feed tells the show that they found
-shows_found : (centre : ℕ) (objects : List ObjectId) (found : Found) (asks : List Deed) → Finds centre objects found asks → show_in (asks ++ Told (line.Feed centre (fed_of found)) ∷ []) ≡ show_found found
+pub shows_found : (centre : ℕ) (objects : List ObjectId) (found : Found) (asks : List Deed) → Finds centre objects found asks → show_in (asks ++ Told (line.Feed centre (fed_of found)) ∷ []) ≡ show_found found
 shows_found centre objects found asks is = subst (λ (asks : List Deed). show_in (asks ++ Told (line.Feed centre (fed_of found)) ∷ []) ≡ show_found found) (sym is.whole) (go found is.answer is.later is.follows)
   where
     go : (found : Found) (answer : Say) (later : List Deed) → AfterPrune centre objects found answer later → show_in ((Asked centre Prune (Unheard answer) ∷ later) ++ Told (line.Feed centre (fed_of found)) ∷ []) ≡ show_found found

@@ -11,22 +11,28 @@ use Rattle.dc_talk.specs.declared.log.Note.{Note}
 use Rattle.dc_talk.specs.Logs.{Logged}
 use Rattle.dc_talk.specs.Acting.{Acting, acting, Leaves}
 use Rattle.mail_link.specs.Ends.{GiverView}
+use Rattle.script_core.specs.declared.taps.Show.{Show}
+use Rattle.script_core.specs.declared.taps.TapState.{TapState}
 use Rattle.script_core.specs.declared.steps.OperatorStep.{OperatorStep}
 use Rattle.script_core.specs.Orders.{OperatorDeeds}
+use Rattle.script_core.specs.Taps.{feed_in, FeedsSo}
 use Rattle.script_core.specs.Links.{arrivals, arrived}
 use Rattle.script_core.specs.Carrying.{route, InTurn, no_turn, next_turn}
 use Rattle.link_frames.specs.Frames.{is_deliverable, framed}
 use Rattle.script_core.specs.Rounds.{SenderDeeds, ReceiverDeeds, ReporterDeeds, PrunerDeeds, others, Mails, mailed_from, mailed}
-use Rattle.client_stub.specs.Playing.{Operates}
 use Rattle.dc_worker.specs.Work.{AddsSuch, CarriesSuch}
 use Rattle.script_core.proofs.Mailing.{IsFresh, mailed_then, mails_fresh}
 use Rattle.dc_links.specs.Links.{put_to, inlet_from}
 use Rattle.dc_links.specs.Rounds.{SendsOver, inward, ReceivesOver, DrainsOver}
 use Rattle.run_book.proofs.Happenings.Playing.{all_at}
 use Rattle.run_sections.proofs.Orders.{order_more}
-use Rattle.run_sections.specs.Orders.{deeds_of, InOrder, none_left, OperatorGoes, SenderGoes, ReporterGoes, PrunerGoes, intake, Receipt, takes_some, ReceiverGoes}
+use Rattle.run_sections.specs.Orders.{deeds_of, InOrder, none_left, SenderGoes, ReporterGoes, PrunerGoes, intake, Receipt, takes_some, ReceiverGoes}
+use Rattle.run_sections.specs.Taps.{shows_fed}
+use Rattle.run_table.specs.Taps.{taps_of}
+use Rattle.read_tap.specs.Shows.{FeederView}
+use Rattle.phase_actors.specs.Taps.{shows_kept, TakesOrder}
 use Rattle.phase_actors.specs.Playing.{Plays}
-use Rattle.phase_actors.specs.Workers.{PlaysOperator, PlaysReporter, PlaysPruner, PlaysSender, PlaysReceiver, Closes, Sending, Receiving, intakes_of}
+use Rattle.phase_actors.specs.Workers.{OrderGoes, PlaysOperator, PlaysReporter, PlaysPruner, PlaysSender, PlaysReceiver, Closes, Sending, Receiving, intakes_of}
 use Rattle.phase_actors.proofs.Growing.{acted_none, acted_more, log_at_step, marked_all, turn_deeds, plays_more}
 
 -- ---- numbers and mail
@@ -76,11 +82,18 @@ pruner_more i section before a b c log is was round =
     (subst (PrunerDeeds i (before + 1)) (sym (turn_deeds section (before + 1) round.deeds)) round.such))
 
 -- a step of the operator more
-pub operator_more : (n section number : ℕ) (steps : List OperatorStep) (step : OperatorStep) (a b c : Acting) (log : Logged) → number ≡ 1 + length steps → log ≡ log_at_step section number b.log → PlaysOperator n section steps a b → Operates n step (acting b.door log) c → PlaysOperator n section (steps ++ step ∷ []) a c
-operator_more n section number steps step a b c log next is was order =
+pub operator_more : (taps : List TapState) (n section number : ℕ) (first : ℕ → List Show) (feeders later : List FeederView) (steps : List OperatorStep) (step : OperatorStep) (a b c : Acting) (log : Logged) → number ≡ 1 + length steps → log ≡ log_at_step section number b.log → PlaysOperator taps n section first steps a b (shows_kept taps feeders) → TakesOrder taps n step feeders later (acting b.door log) c → PlaysOperator taps n section first (steps ++ step ∷ []) a c (shows_kept taps later)
+operator_more taps n section number first feeders later steps step a b c log next is was order =
     let leaves : Leaves (acting b.door (log_at_step section number b.log)) c order.deeds = subst (λ (log : Logged). Leaves (acting b.door log) c order.deeds) is order.leaves in
-    plays_more (OperatorGoes n) section number tt tt tt steps step a b c order.deeds next was leaves
-    (subst (OperatorDeeds n step) (sym (turn_deeds section number order.deeds)) order.such)
+    let back : deeds_of (marked_all section number order.deeds) ≡ order.deeds = turn_deeds section number order.deeds in
+    plays_more (OrderGoes taps n) section number first (shows_kept taps feeders) (shows_kept taps later) steps step a b c order.deeds next was leaves
+    (record {
+      orders = subst (OperatorDeeds n step) (sym back) order.such;
+      feeds = (
+        subst (FeedsSo (taps_of taps) step) (sym back) order.feeds,
+        λ centre. subst (λ deeds. shows_kept taps later centre ≡ shows_fed (feed_in step) deeds (shows_kept taps feeders) centre) (sym back) (order.shows centre),
+      );
+    })
 
 -- ---- a sender
 

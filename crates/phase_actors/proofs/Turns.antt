@@ -12,7 +12,9 @@ use Rattle.dc_talk.specs.Clients.{Client}
 use Rattle.dc_talk.specs.Rule.{after}
 use Rattle.script_core.specs.declared.steps.ClientStep.{ClientStep}
 use Rattle.script_core.specs.declared.steps.Section.{Section}
+use Rattle.script_core.specs.declared.taps.TapState.{TapState}
 use Rattle.script_core.specs.Deeds.{StepDeeds, stepped, armed_after}
+use Rattle.script_core.specs.Taps.{look_in}
 use Rattle.client_stub.specs.Playing.{StubView, beside, Takes, IsLinkBehind}
 use Rattle.run_book.specs.Moves.{client_steps}
 use Rattle.run_book.specs.Happenings.{ClientDoes}
@@ -21,6 +23,12 @@ use Rattle.run_book.proofs.Happenings.Playing.{all_at}
 use Rattle.run_sections.specs.Orders.{deeds_of, none_left, ClientGoes}
 use Rattle.run_sections.proofs.Orders.{order_more}
 use Rattle.run_sections.proofs.InTurn.{client_behind, client_comes}
+use Rattle.run_sections.specs.Taps.{LookGoes}
+use Rattle.run_table.specs.Taps.{taps_of}
+use Rattle.read_tap.specs.Shows.{ShowsView}
+use Rattle.phase_actors.specs.Taps.{shows_read, AreReaders, HaveRead, SeesIn, TakesReading}
+use Rattle.phase_actors.proofs.Among.{front_long}
+use Rattle.phase_actors.proofs.Reading.{GoesOn, sees_on, read_grows, read_some, looks_more}
 use Rattle.phase_actors.specs.Clients.{ClientAt, client_at, come_to, PlaysClient, HasTurned}
 use Rattle.phase_actors.proofs.Growing.{acted_none, acted_more, log_at_step, marked_all, turn_deeds}
 
@@ -62,7 +70,21 @@ does_then s before (note ∷ first) later one two = (
   does_then (after s note.deed) (before ++ note ∷ []) first later one.1 (subst (λ notes. ClientDoes (client_behind (after s note.deed) first) notes later) (sym (append_assoc before (note ∷ []) first)) two),
 )
 
-module _ (section : Section) (number turn client : ℕ) (first : ClientAt) (stub : StubView) (door : DoorView) (log : Logged) (low : 1 ≤ turn) (was : HasTurned section number (turn - 1) first (client_at client stub door log)) where
+-- readers that come to see more
+pub turn_more : (taps : List TapState) (readers later : List ShowsView) (section : Section) (number turns : ℕ) (first last : ClientAt) → HaveRead readers later → HasTurned taps readers section number turns first last → HasTurned taps later section number turns first last
+turn_more taps readers later section number turns first last read was = record {
+  client = was.client;
+  plays = was.plays;
+  allowed = was.allowed;
+  linked = was.linked;
+  last = was.last;
+  looks = looks_more (taps_of taps) (shows_read taps readers) (shows_read taps later) first.client number 1 (read_grows taps readers later read) (λ centre. 0) was.last (take turns (client_steps first.client section)) was.plays.mine was.looks;
+  within = λ centre.
+      let more = front_long (shows_read taps readers centre) (shows_read taps later centre) (read_grows taps readers later read centre) in
+      omega (arith, was.within centre, more);
+}
+
+module _ (taps : List TapState) (readers : List ShowsView) (section : Section) (number turn client : ℕ) (first : ClientAt) (stub : StubView) (door : DoorView) (log : Logged) (low : 1 ≤ turn) (was : HasTurned taps readers section number (turn - 1) first (client_at client stub door log)) where
   -- the turn behind those before it
   next_turn : suc (turn - 1) ≡ turn
   next_turn = omega (arith, low)
@@ -72,19 +94,20 @@ module _ (section : Section) (number turn client : ℕ) (first : ClientAt) (stub
   step_there o there = subst (λ c. slice_get (client_steps c section) (turn - 1) ≡ o) was.client there
 
   -- a client that has no step left stays
-  pub turn_idle : slice_get (client_steps client section) (turn - 1) ≡ None → HasTurned section number turn first (client_at client stub door log)
+  pub turn_idle : slice_get (client_steps client section) (turn - 1) ≡ None → HasTurned taps readers section number turn first (client_at client stub door log)
   turn_idle there =
       let steps : List ClientStep = client_steps first.client section in
       let same : take (turn - 1) steps ≡ take turn steps = sym (take_none steps (turn - 1) (step_there None there)) ∙ ap (λ k. take k steps) next_turn in
-      subst (λ steps. PlaysClient number steps first (client_at client stub door log)) same was
+      subst (λ steps. PlaysClient taps (shows_read taps readers) number steps first (client_at client stub door log)) same was
 
   -- one that has takes it
-  pub turn_taken : (step : ClientStep) (later : StubView) (behind : DoorView) (begun noted : Logged) → slice_get (client_steps client section) (turn - 1) ≡ Some step → begun ≡ log_at_step number turn log → Takes step (beside stub door begun) (beside later behind noted) → IsLinkBehind behind later.client → HasTurned section number turn first (client_at client later behind noted)
+  pub turn_taken : (step : ClientStep) (later : StubView) (behind : DoorView) (begun noted : Logged) → slice_get (client_steps client section) (turn - 1) ≡ Some step → begun ≡ log_at_step number turn log → TakesReading taps readers client step (beside stub door begun) (beside later behind noted) → IsLinkBehind behind later.client → HasTurned taps readers section number turn first (client_at client later behind noted)
   turn_taken step later behind begun noted there is took linked =
       let steps : List ClientStep = client_steps first.client section in
       let mid : ClientAt = client_at client stub door log in
       let last : ClientAt = client_at client later behind noted in
-      let takes : Takes step (beside stub door (log_at_step number turn log)) (beside later behind noted) = subst (λ (log : Logged). Takes step (beside stub door log) (beside later behind noted)) is took in
+      let reads : TakesReading taps readers client step (beside stub door (log_at_step number turn log)) (beside later behind noted) = subst (λ (log : Logged). TakesReading taps readers client step (beside stub door log) (beside later behind noted)) is took in
+      let takes : Takes step (beside stub door (log_at_step number turn log)) (beside later behind noted) = reads.takes in
       let deeds : List Deed = takes.deeds in
       let mine : List Note = marked_all number turn deeds in
       let here : slice_get steps (turn - 1) ≡ Some step = step_there (Some step) there in
@@ -102,7 +125,9 @@ module _ (section : Section) (number turn client : ℕ) (first : ClientAt) (stub
       let goes : ClientGoes (come_to mid) turn step mine (come_to last) = (subst (StepDeeds (come_to mid) step) (sym back) takes.such, come) in
       let before = client_comes number 1 (come_to first) (come_to mid) (take (turn - 1) steps) was.plays.mine was.plays.order in
       let may : ClientDoes stub.client log.notes mine = allows_does number turn stub.client (log_at_step number turn log) deeds refl refl takes.grows.allowed in
-      subst (λ steps. PlaysClient number steps first last) longer (record {
+      let sees : SeesIn taps readers first.client (look_in step) (deeds_of mine) = subst (λ c. SeesIn taps readers c (look_in step) (deeds_of mine)) was.client (subst (SeesIn taps readers client (look_in step)) (sym back) reads.sees) in
+      let on : GoesOn taps readers first.client (look_in step) (deeds_of mine) was.last = sees_on taps readers first.client (look_in step) (deeds_of mine) was.last was.within sees in
+      subst (λ steps. PlaysClient taps (shows_read taps readers) number steps first last) longer (record {
         client = was.client;
         plays = record {
           mine = was.plays.mine ++ mine;
@@ -111,12 +136,23 @@ module _ (section : Section) (number turn client : ℕ) (first : ClientAt) (stub
         };
         allowed = does_then first.stub.client first.acting.log.notes was.plays.mine mine was.allowed (subst (λ s. ClientDoes s (first.acting.log.notes ++ was.plays.mine) mine) before.0 (subst (λ notes. ClientDoes stub.client notes mine) was.plays.acted.log may));
         linked = linked;
+        last = on.later;
+        looks = order_more (LookGoes (taps_of taps) (shows_read taps readers) first.client) number 1 turn (λ centre. 0) was.last on.later (take (turn - 1) steps) step was.plays.mine mine place was.looks (all_at number turn deeds) on.looks_in;
+        within = on.within;
       })
 
 -- no turn was taken yet
-pub turn_none : (section : Section) (number : ℕ) (c : ClientAt) → IsLinkBehind c.acting.door c.stub.client → HasTurned section number 0 c c
-turn_none section number c linked = record { client = refl; plays = record { mine = []; acted = acted_none c.acting; order = none_left }; allowed = tt; linked = linked }
+pub turn_none : (taps : List TapState) (readers : List ShowsView) (section : Section) (number : ℕ) (c : ClientAt) → AreReaders taps readers → IsLinkBehind c.acting.door c.stub.client → HasTurned taps readers section number 0 c c
+turn_none taps readers section number c are linked = record {
+  client = refl;
+  plays = record { mine = []; acted = acted_none c.acting; order = none_left };
+  allowed = tt;
+  linked = linked;
+  last = λ centre. 0;
+  looks = none_left;
+  within = read_some taps readers are;
+}
 
 -- all turns that a client has were taken
-pub turns_all : (section : Section) (number turns : ℕ) (a b : ClientAt) → length (client_steps a.client section) ≤ turns → HasTurned section number turns a b → PlaysClient number (client_steps a.client section) a b
-turns_all section number turns a b few is = subst (λ steps. PlaysClient number steps a b) (take_whole (client_steps a.client section) turns few) is
+pub turns_all : (taps : List TapState) (readers : List ShowsView) (section : Section) (number turns : ℕ) (a b : ClientAt) → length (client_steps a.client section) ≤ turns → HasTurned taps readers section number turns a b → PlaysClient taps (shows_read taps readers) number (client_steps a.client section) a b
+turns_all taps readers section number turns a b few is = subst (λ steps. PlaysClient taps (shows_read taps readers) number steps a b) (take_whole (client_steps a.client section) turns few) is

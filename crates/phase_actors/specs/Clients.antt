@@ -1,9 +1,11 @@
 -- What the clients do in a phase.
-use Rattle.std.specs.Prelude.{◌≡◌, ℕ, take, map, length, List}
+use Rattle.std.specs.Prelude.{◌≡◌, ◌<◌, ℕ, take, map, length, List}
 use Rattle.dc_talk.specs.Logs.{Logged}
 use Rattle.dc_talk.specs.Doors.{DoorView}
 use Rattle.dc_talk.specs.Acting.{Acting, acting}
 use Rattle.dc_host.specs.HostDoors.{CentreHost, HostDoorView, shown_over, bare, new_door}
+use Rattle.script_core.specs.declared.taps.Show.{Show}
+use Rattle.script_core.specs.declared.taps.TapState.{TapState}
 use Rattle.script_core.specs.declared.steps.ClientStep.{ClientStep}
 use Rattle.script_core.specs.declared.steps.Section.{Section}
 use Rattle.script_core.specs.Steps.{IsCount}
@@ -11,7 +13,11 @@ use Rattle.script_core.specs.Deeds.{Progress}
 use Rattle.client_stub.specs.Playing.{StubView, IsLinkBehind}
 use Rattle.run_book.specs.Moves.{client_steps}
 use Rattle.run_book.specs.Happenings.{ClientDoes}
-use Rattle.run_sections.specs.Orders.{ClientGoes}
+use Rattle.run_sections.specs.Orders.{InOrder, ClientGoes}
+use Rattle.run_sections.specs.Taps.{LookGoes}
+use Rattle.run_table.specs.Taps.{taps_of}
+use Rattle.read_tap.specs.Shows.{ShowsView}
+use Rattle.phase_actors.specs.Taps.{shows_read}
 use Rattle.phase_actors.specs.Playing.{Plays, seen_by, IsCaller, IsSameCaller}
 use Rattle.phase_actors.specs.declared.clients.Player.{Player}
 
@@ -28,16 +34,19 @@ client_at client stub door log = record { client = client; stub = stub; acting =
 abbrev pub come_to : ClientAt → Progress
 come_to c = record { client = c.stub.client; armed = c.stub.armed; notes = c.acting.log.notes }
 
--- a client takes these steps, each as the session rule allows
-pub record PlaysClient (section : ℕ) (steps : List ClientStep) (old new : ClientAt) : Type 0 where
+-- a client takes these steps, each as the session rule allows, and sees these shows of the taps in their order
+pub record PlaysClient (taps : List TapState) (shows : ℕ → List Show) (section : ℕ) (steps : List ClientStep) (old new : ClientAt) : Type 0 where
   pub client : new.client ≡ old.client
   pub plays : Plays ClientGoes section (come_to old) steps old.acting new.acting (come_to new)
   pub allowed : ClientDoes old.stub.client old.acting.log.notes plays.mine
   pub linked : IsLinkBehind new.acting.door new.stub.client
+  pub last : ℕ → ℕ
+  pub looks : InOrder (LookGoes (taps_of taps) shows old.client) section 1 (λ centre. 0) steps plays.mine last
+  pub within : (centre : ℕ) → last centre < length (shows centre)
 
--- it took its steps of the first so many turns
-abbrev pub HasTurned : Section → ℕ → ℕ → ClientAt → ClientAt → Type 0
-HasTurned section number turns old new = PlaysClient number (take turns (client_steps old.client section)) old new
+-- it took its steps of the first so many turns, in which its readers came to see so much
+abbrev pub HasTurned : List TapState → List ShowsView → Section → ℕ → ℕ → ClientAt → ClientAt → Type 0
+HasTurned taps readers section number turns old new = PlaysClient taps (shows_read taps readers) number (take turns (client_steps old.client section)) old new
 
 -- ---- over hosts
 
@@ -64,6 +73,7 @@ HasStood seat player = seat.door.actor ≡ seat.log.actor → seat_of player ≡
 -- a client of so many, before so many centres
 pub record IsSeat (n clients : ℕ) (seat : SeatView) : Type 0 where
   pub client : IsCount clients seat.client
+  pub own : seat.stub.client.client ≡ seat.client
   pub centres : length seat.door.passes ≡ n
   pub linked : IsLinkBehind (shown_over seat.door) seat.stub.client
 
@@ -73,18 +83,19 @@ pub record IsSameSeat (old new : SeatView) : Type 0 where
   pub actor : new.door.actor ≡ old.door.actor
   pub passes : map bare new.door.passes ≡ map bare old.door.passes
 
--- it took steps behind those that it had taken: as many as it tells
-pub record HasGoneOn (section : Section) (number : ℕ) (old new : SeatView) : Type 0 where
+-- it took steps behind those that it had taken, as many as it tells, while its readers came to see more
+pub record HasGoneOn (taps : List TapState) (readers later : List ShowsView) (section : Section) (number : ℕ) (old new : SeatView) : Type 0 where
   pub same : IsSameSeat old new
-  pub turned : (first : ClientAt) → HasTurned section number old.taken first (seated old) → HasTurned section number new.taken first (seated new)
+  pub turned : (first : ClientAt) → HasTurned taps readers section number old.taken first (seated old) → HasTurned taps later section number new.taken first (seated new)
 
 -- a client before the phase
 pub record IsPlayer (hosts : List CentreHost) (clients : ℕ) (p : Player) : Type 0 where
   pub client : IsCount clients p.client
+  pub own : p.stub.client.client ≡ p.client
   pub caller : IsCaller hosts p.caller
   pub linked : IsLinkBehind (seen_by p.caller).door p.stub.client
 
--- what it did in the phase
-pub record HasClientPlayed (section : Section) (number : ℕ) (old new : Player) : Type 0 where
+-- what it did in the phase, in which its readers came to see so much
+pub record HasClientPlayed (taps : List TapState) (readers : List ShowsView) (section : Section) (number : ℕ) (old new : Player) : Type 0 where
   pub same : IsSameCaller old.caller new.caller
-  pub plays : PlaysClient number (client_steps old.client section) (seated (seat_of old)) (seated (seat_of new))
+  pub plays : PlaysClient taps (shows_read taps readers) number (client_steps old.client section) (seated (seat_of old)) (seated (seat_of new))

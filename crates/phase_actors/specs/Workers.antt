@@ -6,12 +6,16 @@ use Rattle.dc_talk.specs.declared.log.Note.{Note}
 use Rattle.dc_talk.specs.Acting.{Acting}
 use Rattle.link_frames.specs.Frames.{framed}
 use Rattle.mail_link.specs.Ends.{GiverView, TakerView}
+use Rattle.script_core.specs.declared.taps.Show.{Show}
+use Rattle.script_core.specs.declared.taps.TapState.{TapState}
 use Rattle.script_core.specs.declared.steps.OperatorStep.{OperatorStep}
 use Rattle.script_core.specs.Steps.{IsCount}
 use Rattle.script_core.specs.Links.{Inlet}
 use Rattle.script_core.specs.Rounds.{mailed}
 use Rattle.dc_links.specs.Links.{put_to, put_between, taken_from, inlet_from}
 use Rattle.run_book.specs.Played.{IsAt}
+use Rattle.run_table.specs.Taps.{taps_of}
+use Rattle.run_sections.specs.Taps.{FeedGoes}
 use Rattle.run_sections.specs.Orders.{deeds_of, OperatorGoes, SenderGoes, ReporterGoes, PrunerGoes, Intake, intake, Receipt, takes_rest, ReceiverGoes}
 use Rattle.phase_actors.specs.Playing.{Acted, Plays, seen_by}
 use Rattle.phase_actors.specs.declared.senders.SenderEnd.{SenderEnd}
@@ -19,9 +23,14 @@ use Rattle.phase_actors.specs.declared.receivers.ReceiverEnd.{ReceiverEnd}
 
 -- ---- through a door
 
--- the operator of n centres takes these steps
-abbrev pub PlaysOperator : ℕ → ℕ → List OperatorStep → Acting → Acting → Type 0
-PlaysOperator n section steps old new = Plays (OperatorGoes n) section tt steps old new tt
+-- the operator of n centres takes a step, and feeds a tap by it where it is a feed
+pub record OrderGoes (taps : List TapState) (n : ℕ) (shows : ℕ → List Show) (step : ℕ) (does : OperatorStep) (notes : List Note) (later : ℕ → List Show) : Type 0 where
+  pub orders : OperatorGoes n tt step does notes tt
+  pub feeds : FeedGoes (taps_of taps) shows step does notes later
+
+-- it takes these steps, while the taps have some shows at first and others at the end
+abbrev pub PlaysOperator : List TapState → ℕ → ℕ → (ℕ → List Show) → List OperatorStep → Acting → Acting → (ℕ → List Show) → Type 0
+PlaysOperator taps n section shows steps old new later = Plays (OrderGoes taps n) section shows steps old new later
 
 -- the reporter and the pruner of centre i make so many rounds
 abbrev pub PlaysReporter : ℕ → ℕ → ℕ → ℕ → Acting → Acting → Type 0

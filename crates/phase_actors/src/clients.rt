@@ -5,10 +5,12 @@ ghost use Rattle.script_core.specs.Steps.{IsCount};
 ghost use Rattle.client_stub.specs.Playing.{IsLinkBehind};
 ghost use Rattle.run_table.specs.Dealing.{line_of};
 ghost use Rattle.phase_actors.specs.Scenes.{IsScene};
+ghost use Rattle.phase_actors.specs.Taps.{AreReaders, HaveRead};
 ghost use Rattle.phase_actors.specs.Clients.{ClientAt, client_at, HasTurned, seat_of, HasStood};
-ghost use Rattle.phase_actors.specs.Actors.{IsPlayerOf, HasTakenSteps, IsSeatOf, IsLeftAt, HasTurnedSeat, HasSeatGone, HasEnded};
+ghost use Rattle.phase_actors.specs.Actors.{IsPlayerOf, IsBlockOf, HasBlockPlayed, IsSeatOf, IsLeftAt, HasTurnedSeat, HasSeatGone, HasEnded};
 
 use crate::callers::Caller;
+use crate::looking::take_step;
 use crate::pace::Pace;
 use crate::scene::Scene;
 use client_stub::Stub;
@@ -16,6 +18,7 @@ use dc_host::HostDoor;
 use dc_talk::{Door, Log};
 use ids_core::NoMemory;
 use io_edge::Gate;
+use read_tap::TapReader;
 use std::alloc::Global;
 use std::marker::Model;
 use std::sync::Wait;
@@ -26,6 +29,13 @@ pub struct Player {
     pub client: u32,
     pub caller: Caller,
     pub stub: Stub,
+}
+
+/// The clients of a thread, with a reader of each tap in the order of the centres.
+#[derive(Drop)]
+pub struct Block {
+    pub players: Vec<Player>,
+    pub readers: Vec<TapReader>,
 }
 
 // A client before a door to the centres, with its log, and how many of its steps it took.
@@ -49,10 +59,11 @@ impl<'a, R, G: Gate> Model for Seat<'a, R, G> {
     ghost view = { λ s. record { client = s.client; stub = s.stub; door = s.door; log = s.log; taken = s.taken } };
 }
 
-// A client takes its step of a turn's number through a door, where it has one.
+// A client takes its step of a turn's number through a door, where it has one, and looks by these readers.
 fn take_turn<D: Door>(
     alloc: Global,
     scene: Scene<'_>,
+    readers: &mut Vec<TapReader>,
     turn: u32,
     client: u32,
     stub: &mut Stub,
@@ -60,17 +71,21 @@ fn take_turn<D: Door>(
     log: &mut Log,
 ) -> Result<(), NoMemory>
     requires scene { IsScene scene }
+    requires readers { AreReaders scene.taps.now readers.old.items }
     requires turn { 1 ≤ turn }
     requires client { IsCount scene.script.now.clients client }
+    requires own { stub.old.client.client ≡ client }
     requires centres { (D.shown door.old).centres ≡ scene.script.now.n }
     requires linked { IsLinkBehind (D.shown door.old) stub.old.client }
     ensures place { D.place door.new ≡ D.place door.old }
     ensures linked { IsLinkBehind (D.shown door.new) stub.new.client }
-    ensures turned { OnOk result ((first : ClientAt) → HasTurned scene.entry.section.now scene.entry.number (turn - 1) first (client_at client stub.old (D.shown door.old) log.old) → HasTurned scene.entry.section.now scene.entry.number turn first (client_at client stub.new (D.shown door.new) log.new)) }
+    ensures read { HaveRead readers.old.items readers.new.items }
+    ensures own { OnOk result (stub.new.client.client ≡ client) }
+    ensures turned { OnOk result ((first : ClientAt) → HasTurned scene.entry.taps.now readers.old.items scene.entry.section.now scene.entry.number (turn - 1) first (client_at client stub.old (D.shown door.old) log.old) → HasTurned scene.entry.taps.now readers.new.items scene.entry.section.now scene.entry.number turn first (client_at client stub.new (D.shown door.new) log.new)) }
 {
     if let Some(step) = scene.dealt.client_step(client, turn) {
         log.set(scene.number, turn);
-        stub.step(alloc, door, &step, log)?;
+        take_step(alloc, scene.taps, readers, client, stub, door, &step, log)?;
     }
     Ok(())
 }
@@ -96,17 +111,21 @@ fn is_left<R, G: Gate>(scene: Scene<'_>, seats: &[Seat<'_, R, G>], place: usize)
 fn turn_one<'a, R: Wait, G: Gate>(
     alloc: Global,
     scene: Scene<'a>,
+    readers: &mut Vec<TapReader>,
     seat: &mut Seat<'a, R, G>,
 ) -> Result<(), NoMemory>
     requires scene { IsScene scene }
+    requires readers { AreReaders scene.taps.now readers.old.items }
     requires seat { IsSeatOf scene seat.old }
     requires left { seat.old.taken < length (line_of scene.dealt.now seat.old.client) }
-    ensures { OnOk result (HasTurnedSeat scene.entry seat.old seat.new) }
+    ensures read { HaveRead readers.old.items readers.new.items }
+    ensures turned { OnOk result (HasTurnedSeat scene.entry readers.old.items readers.new.items seat.old seat.new) }
 {
     let turn = seat.taken + 1;
     take_turn(
         alloc,
         scene,
+        readers,
         turn,
         seat.client,
         &mut seat.stub,
@@ -122,14 +141,17 @@ fn turn_at<'a, R: Wait, G: Gate>(
     alloc: Global,
     scene: Scene<'a>,
     place: usize,
+    readers: &mut Vec<TapReader>,
     seats: &mut Vec<Seat<'a, R, G>>,
 ) -> Result<(), NoMemory>
     requires scene { IsScene scene }
+    requires readers { AreReaders scene.taps.now readers.old.items }
     requires seats { All (IsSeatOf scene) seats.old.items }
-    ensures { OnOk result (AllZip (HasSeatGone scene.entry) seats.old.items seats.new.items) }
+    ensures read { HaveRead readers.old.items readers.new.items }
+    ensures gone { OnOk result (AllZip (HasSeatGone scene.entry readers.old.items readers.new.items) seats.old.items seats.new.items) }
 {
     if is_left(scene, seats.as_slice(), place) {
-        turn_one(alloc, scene, &mut seats[place])?;
+        turn_one(alloc, scene, readers, &mut seats[place])?;
     }
     Ok(())
 }
@@ -139,14 +161,17 @@ fn turn_all<'a, R: Wait, G: Gate>(
     alloc: Global,
     scene: Scene<'a>,
     places: &[usize],
+    readers: &mut Vec<TapReader>,
     seats: &mut Vec<Seat<'a, R, G>>,
 ) -> Result<(), NoMemory>
     requires scene { IsScene scene }
+    requires readers { AreReaders scene.taps.now readers.old.items }
     requires seats { All (IsSeatOf scene) seats.old.items }
-    ensures { OnOk result (AllZip (HasSeatGone scene.entry) seats.old.items seats.new.items) }
+    ensures read { OnOk result (HaveRead readers.old.items readers.new.items) }
+    ensures gone { OnOk result (AllZip (HasSeatGone scene.entry readers.old.items readers.new.items) seats.old.items seats.new.items) }
 {
     'places: for place in places {
-        turn_at(alloc, scene, *place, seats)?;
+        turn_at(alloc, scene, *place, readers, seats)?;
     }
     Ok(())
 }
@@ -166,11 +191,14 @@ fn take_turns<'a, R: Wait, G: Gate>(
     alloc: Global,
     scene: Scene<'a>,
     pace: &Pace,
+    readers: &mut Vec<TapReader>,
     seats: &mut Vec<Seat<'a, R, G>>,
 ) -> Result<(), NoMemory>
     requires scene { IsScene scene }
+    requires readers { AreReaders scene.taps.now readers.old.items }
     requires seats { All (IsSeatOf scene) seats.old.items }
-    ensures { OnOk result (AllZip (HasSeatGone scene.entry) seats.old.items seats.new.items) }
+    ensures read { OnOk result (HaveRead readers.old.items readers.new.items) }
+    ensures gone { OnOk result (AllZip (HasSeatGone scene.entry readers.old.items readers.new.items) seats.old.items seats.new.items) }
 {
     let mut places = places_of(alloc, seats.len())?;
     'turns: for _turn in 0..scene.dealt.longest() {
@@ -179,7 +207,7 @@ fn take_turns<'a, R: Wait, G: Gate>(
         if places.len() < 2 {
             break;
         }
-        turn_all(alloc, scene, places.as_slice(), seats)?;
+        turn_all(alloc, scene, places.as_slice(), readers, seats)?;
         pace.advance(places.len() as u64);
     }
     Ok(())
@@ -259,15 +287,18 @@ fn end_one<'a, R: Wait, G: Gate>(
     alloc: Global,
     scene: Scene<'a>,
     pace: &Pace,
+    readers: &mut Vec<TapReader>,
     seat: Seat<'a, R, G>,
 ) -> Result<Player, NoMemory>
     requires scene { IsScene scene }
+    requires readers { AreReaders scene.taps.now readers.old.items }
     requires seat { IsSeatOf scene seat }
-    ensures { IfOk result (HasEnded scene.entry seat.entry) }
+    ensures read { OnOk result (HaveRead readers.old.items readers.new.items) }
+    ensures ended { IfOk result (HasEnded scene.entry readers.old.items readers.new.items seat.entry) }
 {
     let mut at = seat;
     'steps: while has_more(scene, &at) {
-        turn_one(alloc, scene, &mut at)?;
+        turn_one(alloc, scene, readers, &mut at)?;
         pace.advance(1);
     }
     Ok(stand(at))
@@ -278,34 +309,43 @@ fn end_all<'a, R: Wait, G: Gate>(
     alloc: Global,
     scene: Scene<'a>,
     pace: &Pace,
+    readers: &mut Vec<TapReader>,
     seats: Vec<Seat<'a, R, G>>,
 ) -> Result<Vec<Player>, NoMemory>
     requires scene { IsScene scene }
+    requires readers { AreReaders scene.taps.now readers.old.items }
     requires seats { All (IsSeatOf scene) seats.items }
-    ensures { IfOk result (λ players. AllZip (HasEnded scene.entry) seats.entry.items players.items) }
+    ensures read { OnOk result (HaveRead readers.old.items readers.new.items) }
+    ensures ended { IfOk result (λ players. AllZip (HasEnded scene.entry readers.old.items readers.new.items) seats.entry.items players.items) }
 {
     let mut players = Vec::with_capacity(alloc, seats.len())?;
     'seats: for seat in seats {
-        players.push(end_one(alloc, scene, pace, seat)?)?;
+        players.push(end_one(alloc, scene, pace, readers, seat)?)?;
     }
     Ok(players)
 }
 
-/// The steps of some clients over the hosts, taken in turns in one thread: each client is a caller of its own. The last
-/// one to whom steps are left takes them alone. After an `Err`, want of memory, their passes are gone.
+/// The steps of some clients over the hosts, taken in turns in one thread: each client is a caller of its own. They look by
+/// the readers that they have together. The last one to whom steps are left takes them alone. After an `Err`, want of
+/// memory, their passes and the readers are gone.
 pub fn play_clients<R: Wait, G: Gate>(
     rt: &R,
     alloc: Global,
     scene: Scene<'_>,
     gate: &G,
     pace: &Pace,
-    players: Vec<Player>,
-) -> Result<Vec<Player>, NoMemory>
+    block: Block,
+) -> Result<Block, NoMemory>
     requires scene { IsScene scene }
-    requires players { All (IsPlayerOf scene) players.items }
-    ensures { IfOk result (λ played. AllZip (HasTakenSteps scene.entry) players.items played.items) }
+    requires block { IsBlockOf scene block }
+    ensures { IfOk result (HasBlockPlayed scene.entry block) }
 {
+    let Block {
+        players,
+        mut readers,
+    } = block;
     let mut seats = sit_all(rt, alloc, scene, gate, players)?;
-    take_turns(alloc, scene, pace, &mut seats)?;
-    end_all(alloc, scene, pace, seats)
+    take_turns(alloc, scene, pace, &mut readers, &mut seats)?;
+    let players = end_all(alloc, scene, pace, &mut readers, seats)?;
+    Ok(Block { players, readers })
 }

@@ -1,3 +1,4 @@
 pub mod Cutting
 pub mod Swapping
 pub mod Ending
+pub mod Rows

@@ -111,6 +111,7 @@ pub(crate) fn begin_sender<'s, E: 's, R: Wait + Sync, G: Gate>(
         dealt,
         hosts,
         links,
+        taps,
     } = scene;
     let promise = SenderOf {
         scene: Scene {
@@ -120,13 +121,14 @@ pub(crate) fn begin_sender<'s, E: 's, R: Wait + Sync, G: Gate>(
             dealt,
             hosts,
             links,
+            taps,
         },
         centre,
         sender: Snapshot::of(&sender),
     };
     let sends = move || -> Result<SenderEnd, NoMemory>
-        requires { IsScene (record { script = script; section = section; number = number; dealt = dealt; hosts = hosts; links = links }) × IsCount script.now.n centre × IsSenderOf (record { script = script; section = section; number = number; dealt = dealt; hosts = hosts; links = links }) centre sender }
-        ensures { IfOk result (HasSent (record { script = script.entry; section = section.entry; number = number; dealt = dealt.entry; hosts = hosts.entry; links = links.entry }) centre sender) }
+        requires { IsScene (record { script = script; section = section; number = number; dealt = dealt; hosts = hosts; links = links; taps = taps }) × IsCount script.now.n centre × IsSenderOf (record { script = script; section = section; number = number; dealt = dealt; hosts = hosts; links = links; taps = taps }) centre sender }
+        ensures { IfOk result (HasSent (record { script = script.entry; section = section.entry; number = number; dealt = dealt.entry; hosts = hosts.entry; links = links.entry; taps = taps.entry }) centre sender) }
     {
         let scene = Scene {
             script,
@@ -135,6 +137,7 @@ pub(crate) fn begin_sender<'s, E: 's, R: Wait + Sync, G: Gate>(
             dealt,
             hosts,
             links,
+            taps,
         };
         pace.ended(send_through(rt, alloc, scene, gate, pace, centre, sender))
     };
@@ -184,6 +187,7 @@ pub(crate) fn begin_receiver<'s, E: 's, R: Wait + Sync, G: Gate>(
         dealt,
         hosts,
         links,
+        taps,
     } = scene;
     let promise = ReceiverOf {
         scene: Scene {
@@ -193,13 +197,14 @@ pub(crate) fn begin_receiver<'s, E: 's, R: Wait + Sync, G: Gate>(
             dealt,
             hosts,
             links,
+            taps,
         },
         centre,
         receiver: Snapshot::of(&receiver),
     };
     let receives = move || -> Result<ReceiverEnd, NoMemory>
-        requires { IsScene (record { script = script; section = section; number = number; dealt = dealt; hosts = hosts; links = links }) × IsCount script.now.n centre × IsReceiverOf (record { script = script; section = section; number = number; dealt = dealt; hosts = hosts; links = links }) centre receiver }
-        ensures { IfOk result (HasReceived (record { script = script.entry; section = section.entry; number = number; dealt = dealt.entry; hosts = hosts.entry; links = links.entry }) centre receiver) }
+        requires { IsScene (record { script = script; section = section; number = number; dealt = dealt; hosts = hosts; links = links; taps = taps }) × IsCount script.now.n centre × IsReceiverOf (record { script = script; section = section; number = number; dealt = dealt; hosts = hosts; links = links; taps = taps }) centre receiver }
+        ensures { IfOk result (HasReceived (record { script = script.entry; section = section.entry; number = number; dealt = dealt.entry; hosts = hosts.entry; links = links.entry; taps = taps.entry }) centre receiver) }
     {
         let scene = Scene {
             script,
@@ -208,6 +213,7 @@ pub(crate) fn begin_receiver<'s, E: 's, R: Wait + Sync, G: Gate>(
             dealt,
             hosts,
             links,
+            taps,
         };
         pace.ended(receive_through(rt, alloc, scene, gate, pace, centre, receiver))
     };
@@ -256,6 +262,7 @@ pub(crate) fn begin_reporter<'s, E: 's, R: Wait + Sync, G: Gate>(
         dealt,
         hosts,
         links,
+        taps,
     } = scene;
     let promise = ReporterOf {
         scene: Scene {
@@ -265,13 +272,14 @@ pub(crate) fn begin_reporter<'s, E: 's, R: Wait + Sync, G: Gate>(
             dealt,
             hosts,
             links,
+            taps,
         },
         centre,
         reporter: Snapshot::of(&reporter),
     };
     let reports = move || -> Result<Caller, NoMemory>
-        requires { IsScene (record { script = script; section = section; number = number; dealt = dealt; hosts = hosts; links = links }) × IsCount script.now.n centre × IsCallerOf (record { script = script; section = section; number = number; dealt = dealt; hosts = hosts; links = links }) reporter }
-        ensures { IfOk result (HasReported (record { script = script.entry; section = section.entry; number = number; dealt = dealt.entry; hosts = hosts.entry; links = links.entry }) centre reporter) }
+        requires { IsScene (record { script = script; section = section; number = number; dealt = dealt; hosts = hosts; links = links; taps = taps }) × IsCount script.now.n centre × IsCallerOf (record { script = script; section = section; number = number; dealt = dealt; hosts = hosts; links = links; taps = taps }) reporter }
+        ensures { IfOk result (HasReported (record { script = script.entry; section = section.entry; number = number; dealt = dealt.entry; hosts = hosts.entry; links = links.entry; taps = taps.entry }) centre reporter) }
     {
         let scene = Scene {
             script,
@@ -280,6 +288,7 @@ pub(crate) fn begin_reporter<'s, E: 's, R: Wait + Sync, G: Gate>(
             dealt,
             hosts,
             links,
+            taps,
         };
         pace.ended(report_through(rt, scene, gate, pace, centre, reporter))
     };
@@ -328,6 +337,7 @@ pub(crate) fn begin_pruner<'s, E: 's, R: Wait + Sync, G: Gate>(
         dealt,
         hosts,
         links,
+        taps,
     } = scene;
     let promise = PrunerOf {
         scene: Scene {
@@ -337,13 +347,14 @@ pub(crate) fn begin_pruner<'s, E: 's, R: Wait + Sync, G: Gate>(
             dealt,
             hosts,
             links,
+            taps,
         },
         centre,
         pruner: Snapshot::of(&pruner),
     };
     let prunes = move || -> Result<Caller, NoMemory>
-        requires { IsScene (record { script = script; section = section; number = number; dealt = dealt; hosts = hosts; links = links }) × IsCount script.now.n centre × IsCallerOf (record { script = script; section = section; number = number; dealt = dealt; hosts = hosts; links = links }) pruner }
-        ensures { IfOk result (HasPruned (record { script = script.entry; section = section.entry; number = number; dealt = dealt.entry; hosts = hosts.entry; links = links.entry }) centre pruner) }
+        requires { IsScene (record { script = script; section = section; number = number; dealt = dealt; hosts = hosts; links = links; taps = taps }) × IsCount script.now.n centre × IsCallerOf (record { script = script; section = section; number = number; dealt = dealt; hosts = hosts; links = links; taps = taps }) pruner }
+        ensures { IfOk result (HasPruned (record { script = script.entry; section = section.entry; number = number; dealt = dealt.entry; hosts = hosts.entry; links = links.entry; taps = taps.entry }) centre pruner) }
     {
         let scene = Scene {
             script,
@@ -352,6 +363,7 @@ pub(crate) fn begin_pruner<'s, E: 's, R: Wait + Sync, G: Gate>(
             dealt,
             hosts,
             links,
+            taps,
         };
         pace.ended(prune_through(rt, scene, gate, pace, centre, pruner))
     };

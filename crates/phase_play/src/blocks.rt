@@ -1,10 +1,19 @@
 // Clients in blocks, one for each thread.
 ghost use Rattle.std.specs.Prelude.{◌≡◌, ◌≤◌, min, length, flat_map, IfOk};
-ghost use Rattle.phase_play.specs.Blocks.{AreEven};
+ghost use Rattle.phase_play.specs.Blocks.{AreEven, AreBlocks, ArePartsOf};
 
 use ids_core::NoMemory;
-use phase_actors::Player;
+use phase_actors::{Block, Player};
+use read_tap::TapReader;
 use std::alloc::Global;
+use std::collections::VecDeque;
+
+/// The clients of a phase in order, and for each of their threads a reader of each tap.
+#[derive(Drop)]
+pub(crate) struct Clients {
+    pub(crate) players: Vec<Player>,
+    pub(crate) rows: Vec<Vec<TapReader>>,
+}
 
 // Cuts clients into so many blocks, in order: the first ones have a client more, where they can't all have as many.
 fn cut_into(alloc: Global, players: Vec<Player>, count: usize) -> Result<Vec<Vec<Player>>, NoMemory>
@@ -55,4 +64,40 @@ pub(crate) fn join_blocks(alloc: Global, blocks: Vec<Vec<Player>>) -> Result<Vec
         players.append(&mut block)?;
     }
     Ok(players)
+}
+
+/// Gives each block its readers, in order.
+pub(crate) fn with_readers(
+    alloc: Global,
+    blocks: Vec<Vec<Player>>,
+    rows: Vec<Vec<TapReader>>,
+) -> Result<Vec<Block>, NoMemory>
+    requires { length rows.items ≡ length blocks.items }
+    ensures { IfOk result (λ all. AreBlocks blocks.items rows.items all.items) }
+{
+    let mut rows = VecDeque::from(rows);
+    let mut all = Vec::with_capacity(alloc, blocks.len())?;
+    'blocks: for players in blocks {
+        match rows.pop_front() {
+            Some(readers) => all.push(Block { players, readers })?,
+            None => unreachable!(),
+        }
+    }
+    Ok(all)
+}
+
+/// Takes the readers of all blocks off, and puts their clients together, in order.
+pub(crate) fn part_blocks(alloc: Global, blocks: Vec<Block>) -> Result<Clients, NoMemory>
+    ensures { IfOk result (ArePartsOf blocks.items) }
+{
+    let mut players = Vec::with_capacity(alloc, blocks.len())?;
+    let mut rows = Vec::with_capacity(alloc, blocks.len())?;
+    'blocks: for block in blocks {
+        players.push(block.players)?;
+        rows.push(block.readers)?;
+    }
+    Ok(Clients {
+        players: join_blocks(alloc, players)?,
+        rows,
+    })
 }

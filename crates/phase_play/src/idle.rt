@@ -2,15 +2,15 @@
 ghost use Rattle.std.specs.Prelude.{All, IfOk};
 ghost use Rattle.std.specs.List.{AllZip};
 ghost use Rattle.phase_actors.specs.Scenes.{IsScene};
-ghost use Rattle.phase_play.specs.Casts.{IsCrewOf, HasCrewPlayed, IsCast, HaveAllPlayed};
+ghost use Rattle.phase_play.specs.Casts.{IsCrewOf, HasCrewPlayed, IsCast, AreOpen, HaveAllPlayed};
 
 use crate::crews::Crew;
-use crate::threads::Cast;
+use crate::threads::{Cast, Taps};
 use ids_core::NoMemory;
 use io_edge::Gate;
 use phase_actors::{
-    Pace, Scene, operate_through, play_clients, prune_through, receive_through, report_through,
-    send_through,
+    Block, Pace, Scene, operate_through, play_clients, prune_through, receive_through,
+    report_through, send_through,
 };
 use std::alloc::Global;
 use std::sync::Wait;
@@ -71,27 +71,43 @@ pub(crate) fn is_idle(scene: Scene<'_>) -> bool {
 }
 
 /// All actors of a phase in this thread, one after another: for a phase in which nobody has anything to do. After an
-/// `Err`, want of memory, their passes and ends are gone.
-pub(crate) fn play_idle<R: Wait, G: Gate>(
+/// `Err`, want of memory, their passes and ends are gone, and so are the taps.
+pub(crate) fn play_idle<'f, R: Wait, G: Gate>(
     rt: &R,
     alloc: Global,
     scene: Scene<'_>,
     gate: &G,
     cast: Cast,
-) -> Result<Cast, NoMemory>
+    opened: Taps<'f, R>,
+) -> Result<(Cast, Taps<'f, R>), NoMemory>
     requires scene { IsScene scene }
     requires cast { IsCast scene cast }
-    ensures { IfOk result (HaveAllPlayed scene.entry cast) }
+    requires opened { AreOpen scene cast opened.feeders.items opened.rows.items }
+    ensures { IfOk result (λ done. HaveAllPlayed scene.entry cast opened.entry.feeders.items opened.entry.rows.items done.0 done.1.feeders.items done.1.rows.items) }
 {
     let Cast {
         operator,
         clients,
         crews,
     } = cast;
+    let Taps { feeders, rows } = opened;
     let pace = Pace::new(0, 0, scene.script.n);
-    Ok(Cast {
-        operator: operate_through(rt, scene, gate, operator)?,
-        clients: play_clients(rt, alloc, scene, gate, &pace, clients)?,
-        crews: idle_crews(rt, alloc, scene, gate, &pace, crews)?,
-    })
+    let (operator, feeders) = operate_through(rt, alloc, scene, gate, operator, feeders)?;
+    let block = Block {
+        players: clients,
+        readers: Vec::new(alloc),
+    };
+    let Block {
+        players: clients,
+        readers: _,
+    } = play_clients(rt, alloc, scene, gate, &pace, block)?;
+    let crews = idle_crews(rt, alloc, scene, gate, &pace, crews)?;
+    Ok((
+        Cast {
+            operator,
+            clients,
+            crews,
+        },
+        Taps { feeders, rows },
+    ))
 }

@@ -10,4 +10,4 @@ mod idle;
 mod threads;
 
 pub use crews::Crew;
-pub use threads::{Cast, play_in_threads};
+pub use threads::{Cast, Taps, play_in_threads};

@@ -18,7 +18,7 @@ use Rattle.dc_worker.specs.Work.{AddsSuch}
 use Rattle.read_tap.specs.Feeds.{IsShown, Feeds}
 
 -- a show that follows a prune has a state for each object
-wide_after : (centre : ℕ) (objects : List ObjectId) (show : Show) (answer : Say) (deeds : List Deed) → AfterPrune centre objects (Whole show) answer deeds → length show.states ≡ length objects
+pub wide_after : (centre : ℕ) (objects : List ObjectId) (show : Show) (answer : Say) (deeds : List Deed) → AfterPrune centre objects (Whole show) answer deeds → length show.states ≡ length objects
 wide_after centre objects show (said.Base base folded trimmed) deeds follows = follows.1.number
 wide_after centre objects show answer deeds follows = absurd follows.1
 

@@ -95,6 +95,13 @@ impl<'a, R: Wait> TapFeeder<'a, R> {
         &self.shows
     }
 
+    /// The objects that the tap shows, in order.
+    pub fn objects(&self) -> &[ObjectId]
+        ensures { result.now ≡ self.now.objects }
+    {
+        self.objects.as_slice()
+    }
+
     // The shows. It waits for the readers that look just then.
     pub(crate) fn into_shows(self) -> Shows
         ensures { result ≡ shows_in self.entry.table self.entry.shows }

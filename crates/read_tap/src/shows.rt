@@ -229,6 +229,14 @@ impl Shows {
         )
     }
 
+    /// The last show.
+    pub fn last_show(&self) -> &Show
+        ensures last { last_of self.now.shows ≡ Some result.now }
+        ensures width { length result.now.states ≡ width self.now.table }
+    {
+        last_show(&self.table, self.tokens.as_slice())
+    }
+
     /// The vector and the value of an object, by its place among those of the tap, in the last show.
     pub fn last(&self, alloc: Global, object: usize) -> Result<(Vector, Value), NoMemory>
         requires { object < width self.now.table }

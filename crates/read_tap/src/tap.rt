@@ -59,6 +59,28 @@ fn are_fronts(readers: &[TapReader], shows: &Shows) -> bool
 }
 
 impl Tap {
+    /// A tap of these objects that opens with a show of them: its feeder, and so many readers, which have all seen that
+    /// show alone. `NoMemory` is want of memory, or that the port gave no place for a reader. It may wait.
+    pub fn open<'a, R: Wait>(
+        alloc: Global,
+        rt: &'a R,
+        objects: List<ObjectId>,
+        show: Show,
+        readers: u32,
+    ) -> Result<(TapFeeder<'a, R>, Vec<TapReader>), NoMemory>
+        requires show { length show.states ≡ length objects }
+        requires readers { (1 ≤ readers) × (readers ≤ MOST_READERS) }
+        ensures objects { IfOk result (λ tap. tap.0.objects ≡ objects) }
+        ensures width { IfOk result (λ tap. width tap.0.table ≡ length objects) }
+        ensures shows { IfOk result (λ tap. tap.0.shows ≡ show ∷ []) }
+        ensures readers { IfOk result (λ tap. tap.1.items ≡ replicate readers (shows_in tap.0.table tap.0.shows)) }
+    {
+        let shows = Shows::open(alloc, rt, tag_of(&objects), show)?;
+        let port = WriteHandle::new(alloc, rt, LastPlace(0), LastPlace(0), readers as usize)?;
+        let all = deal(alloc, &port, &shows, readers)?;
+        Ok((TapFeeder::new(rt, port, objects, shows), all))
+    }
+
     /// A tap of these objects of a system of `n` centres: its feeder, and so many readers, which have all seen the
     /// opening show alone. `NoMemory` is want of memory, or that the port gave no place for a reader. It may wait.
     pub fn new<'a, R: Wait>(
@@ -78,10 +100,7 @@ impl Tap {
     {
         let objects = List::from_vec(objects);
         let opening = Show::opening(alloc, n, objects.as_slice())?;
-        let shows = Shows::open(alloc, rt, tag_of(&objects), opening)?;
-        let port = WriteHandle::new(alloc, rt, LastPlace(0), LastPlace(0), readers as usize)?;
-        let all = deal(alloc, &port, &shows, readers)?;
-        Ok((TapFeeder::new(rt, port, objects, shows), all))
+        Tap::open(alloc, rt, objects, opening, readers)
     }
 
     /// Closes a tap: all its shows, of which each reader has seen a front. An `Err` hands all back: a reader has seen

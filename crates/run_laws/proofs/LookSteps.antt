@@ -1,7 +1,6 @@
 -- What a step of a client sees through a tap, and that a step that is no look tells none.
 use Rattle.std.proofs.Common.{◌≡◌, ℕ, List, [], Option, Some, None, refl, sym, ap, ◌∙◌, subst}
-use Rattle.std.specs.Prelude.{All, IsTrue}
-use Rattle.std.proofs.lemmas.Bool.{false≢true}
+use Rattle.std.specs.Prelude.{All}
 use Rattle.std.proofs.lemmas.List.Elements.{All-nil, All-cons}
 use Rattle.std.proofs.lemmas.Option.{none-some}
 use Rattle.ids_core.specs.declared.object.ObjectId.{ObjectId}
@@ -18,9 +17,9 @@ use Rattle.script_core.specs.declared.steps.ClientStep.{ClientStep}
 use Rattle.script_core.specs.declared.steps.ClientStep.TheVariants.{Look}
 use Rattle.script_core.specs.declared.taps.TapState.{TapState}
 use Rattle.script_core.specs.Deeds.{Progress, StepDeeds}
-use Rattle.script_core.specs.Rows.{may_go_in_phase}
 use Rattle.script_core.specs.Steps.{IsCount, IsStep}
 use Rattle.script_core.specs.Taps.{seen_through, looks, look_in, LooksSo}
+use Rattle.run_sections.specs.Taps.{TellsNoLook}
 use Rattle.run_steps.specs.Looks.{look_told}
 use Rattle.run_steps.proofs.EachDeed.{step_each}
 
@@ -28,10 +27,28 @@ use Rattle.run_steps.proofs.EachDeed.{step_each}
 abbrev pub Sees : ℕ → (ℕ → TapState) → ℕ → Deed → Type 0
 Sees n taps client deed = (looker centre : ℕ) (object : ObjectId) (seen : Seen) → deed ≡ Told (line.Look looker centre object seen) → (looker ≡ client) × IsCount n centre × (seen_through (taps centre) object ≡ Some seen)
 
--- a step that may stand in a phase is no look
-pub phase_plain : (does : ClientStep) → IsTrue (may_go_in_phase does) → look_in does ≡ None
-phase_plain (Look centre object) may = absurd (false≢true may)
-phase_plain _ may = refl
+-- ---- steps that look through no tap
+
+-- no ask and no call tells a look
+asked_none : (i : ℕ) (ask : Ask) (fate : Fate) → TellsNoLook (Asked i ask fate)
+asked_none i ask fate looker centre object seen is = absurd (cc)
+
+did_none : (call : Call) (outcome : Outcome) → TellsNoLook (Did call outcome)
+did_none call outcome looker centre object seen is = absurd (cc)
+
+-- no other line does
+told_none : (l : Line) → look_told l ≡ None → TellsNoLook (Told l)
+told_none l none looker centre object seen is =
+    let same : l ≡ line.Look looker centre object seen = cc in
+    absurd (none-some (record { client = looker; centre = centre; object = object; seen = seen }) (sym none ∙ ap look_told same))
+
+-- such a step tells none
+pub plain_tells : (p : Progress) (does : ClientStep) (deeds : List Deed) → look_in does ≡ None → StepDeeds p does deeds → All TellsNoLook deeds
+plain_tells p does deeds plain are =
+    step_each TellsNoLook asked_none told_none p does deeds (λ call outcome of. did_none call outcome)
+    (λ centre object seen look. absurd (none-some (centre, object) (sym plain ∙ ap look_in look))) are
+
+-- ---- what a step sees
 
 module _ (n : ℕ) (taps : ℕ → TapState) (client : ℕ) where
   -- no ask and no call tells one

@@ -8,7 +8,7 @@ ghost use Rattle.run_sections.specs.OneThread.{IsRunOf};
 ghost use Rattle.run_book.specs.Setups.{setup_of};
 ghost use Rattle.run_laws.specs.OneBook.{AreOne};
 ghost use Rattle.run_laws.specs.ReadLines.{TellsValues};
-ghost use Rattle.run_laws.specs.Looks.{ShowsTaps};
+ghost use Rattle.run_laws.specs.Looks.{ShowsTaps, ShowsLast};
 
 use run_book::Book;
 
@@ -41,10 +41,12 @@ pub fn law_value_lines(book: &Book)
     ensures sections { (script : Script) → IsSectionRunOf script book.now → TellsValues book.now (setup_of script) }
 {}
 
-/// Each line of a look is of the client in whose log it stands, and shows what the tap of its centre has of the object
-/// where the section of the line begins: what the last feed in an earlier section found, and where none did the opening.
-/// So it is of a run on one thread (`turns`) and of one section by section (`sections`).
+/// Each line of a look is of the client in whose log it stands, and shows what the tap of its centre has of the object in
+/// one of the shows of that centre: the opening one, or what a feed found. In a run section by section (`sections`) that is
+/// a show that is there by the end of the line's section, no earlier one than the last of the earlier sections, and no
+/// earlier one than the client saw there before. In a run on one thread (`turns`) it is the last show in front of the
+/// line's step: of an earlier section, or of an earlier step of its own.
 pub fn law_looks(book: &Book)
-    ensures turns { (script : Script) → IsInRange script → IsRunOf script book.now → ShowsTaps script book.now }
+    ensures turns { (script : Script) → IsInRange script → IsRunOf script book.now → ShowsLast script book.now }
     ensures sections { (script : Script) → IsInRange script → IsSectionRunOf script book.now → ShowsTaps script book.now }
 {}

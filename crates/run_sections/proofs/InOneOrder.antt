@@ -1,6 +1,6 @@
 -- A script without a phase that was played section by section: its steps happened one after another.
 use Rattle.std.proofs.Common.{◌≡◌, ◌≢◌, ◌≤◌, ◌<◌, ℕ, zero, suc, ◌+◌, ◌*◌, inl, inr, ⊎_elim, List, [], ◌∷◌, ◌++◌, map, length, Option, Some, None, false, refl, sym, ap, ◌∙◌, subst, arith}
-use Rattle.std.specs.Prelude.{All, cond, flat_map, ◌==◌}
+use Rattle.std.specs.Prelude.{All, cond, flat_map}
 use Rattle.std.specs.List.{filter_map, cons_option}
 use Rattle.std.proofs.lemmas.Bool.{cases_eq, cases_lt, eq-eqb, ne_eqb, false≢true}
 use Rattle.std.proofs.lemmas.List.{append-nil}
@@ -12,16 +12,12 @@ use Rattle.list_core.proofs.Members.{In_either, In_from_map}
 use Rattle.list_core.proofs.Passing.{In_filter_map, In_from_filter_map}
 use Rattle.dc_talk.specs.declared.ask.Ask.{Ask}
 use Rattle.dc_talk.specs.declared.say.Say.{Say}
-use Rattle.dc_talk.specs.declared.log.Deed.{Deed}
 use Rattle.dc_talk.specs.declared.log.Note.{Note}
 use Rattle.dc_talk.specs.Entries.{Entry}
 use Rattle.dc_talk.specs.Logs.{Logged, entry_for}
 use Rattle.script_core.specs.declared.script.Script.{Script}
-use Rattle.script_core.specs.declared.taps.TapState.{TapState}
 use Rattle.script_core.specs.declared.steps.ClientStep.{ClientStep}
-use Rattle.script_core.specs.declared.steps.ClientStep.TheVariants.{Look}
 use Rattle.script_core.specs.declared.steps.OperatorStep.{OperatorStep}
-use Rattle.script_core.specs.declared.steps.OperatorStep.TheVariants.{Feed}
 use Rattle.script_core.specs.declared.steps.Step.{Step}
 use Rattle.script_core.specs.declared.steps.Step.TheVariants.{Client, Operator}
 use Rattle.script_core.specs.declared.steps.Section.{Section}
@@ -32,8 +28,7 @@ use Rattle.script_core.specs.Rounds.{worker_of}
 use Rattle.script_core.specs.Rows.{section_of, IsSection}
 use Rattle.script_core.specs.Scripts.{header_of, IsInRange}
 use Rattle.script_core.specs.Steps.{IsCount, IsStep, IsOperatorStep, IsStepOf}
-use Rattle.script_core.specs.Feeds.{FeedDeeds, show_in}
-use Rattle.script_core.specs.Taps.{fed_tap, feed_in, FeedsSo, taps_fed, seen_through, looks, LooksSo}
+use Rattle.script_core.specs.Taps.{feed_in, FeedsSo, taps_then, LooksSo}
 use Rattle.run_book.specs.declared.book.Book.{Book}
 use Rattle.run_book.specs.Parts.{trail_of, idle_log, notes_of, exchanged, entries_by}
 use Rattle.run_book.specs.Happenings.{Happened, note_by, notes_by, entry_in, trail_in, happening}
@@ -43,10 +38,11 @@ use Rattle.run_book.specs.Scripted.{HasSteps}
 use Rattle.run_book.proofs.Pairing.{entry_by}
 use Rattle.run_book.proofs.Happenings.Entries.{made_by, own_note, note_made, own_then, other_then, paired_in}
 use Rattle.run_sections.specs.Orders.{deeds_of, InOrder, none_left, one_first, ClientGoes, OperatorGoes}
-use Rattle.run_sections.specs.Taps.{OneLooks}
+use Rattle.run_sections.specs.Taps.{shows_at, tap_behind, Looks}
 use Rattle.run_sections.specs.Sections.{actors_of, Between, first_between, Left, PlaysSection}
 use Rattle.run_sections.specs.Runs.{PlaysSections, no_sections, next_section, IsSectionRunOf, HasNoPhase}
 use Rattle.run_sections.proofs.Actors.{by_actor}
+use Rattle.run_sections.proofs.Tapping.{looks_as, feeds_as, fed_as, none_fed, one_fed, one_looked}
 
 -- ---- what is done one after another
 
@@ -134,25 +130,6 @@ record StandsAs (script : Script) (stage : Stage) (between : Between) : Type 0 w
   come : (client : ℕ) → IsCount script.clients client → stage.come client ≡ between.come client
   taps : (i : ℕ) → IsCount script.n i → stage.taps i ≡ between.taps i
 
--- taps that show the same at each of n centres
-abbrev pub AreAs : ℕ → (ℕ → TapState) → (ℕ → TapState) → Type 0
-AreAs n taps others = (i : ℕ) → IsCount n i → taps i ≡ others i
-
--- a look through the one is a look through the other
-looks_as : (n client : ℕ) (taps others : ℕ → TapState) (step : ClientStep) (deeds : List Deed) → IsStep n step → AreAs n taps others → LooksSo taps client step deeds → LooksSo others client step deeds
-looks_as n client taps others (Look centre object) deeds is same look = subst (λ (tap : TapState). deeds ≡ looks client centre object (seen_through tap object)) (same centre is.0) look
-looks_as n client taps others _ deeds is same look = tt
-
--- so is a feed
-feeds_as : (n : ℕ) (taps others : ℕ → TapState) (step : OperatorStep) (deeds : List Deed) → IsOperatorStep n step → AreAs n taps others → FeedsSo taps step deeds → FeedsSo others step deeds
-feeds_as n taps others (Feed centre) deeds is same feed = subst (λ (tap : TapState). FeedDeeds centre tap.objects deeds) (same centre is) feed
-feeds_as n taps others _ deeds is same feed = tt
-
--- and behind it they show the same
-pub fed_as : (fed : Option ℕ) (deeds : List Deed) (taps others : ℕ → TapState) (i : ℕ) → taps i ≡ others i → taps_fed fed deeds taps i ≡ taps_fed fed deeds others i
-fed_as None deeds taps others i same = same
-fed_as (Some centre) deeds taps others i same = ap (λ (tap : TapState). cond (i == centre) (fed_tap (show_in deeds) tap) tap) same
-
 -- one actor took the step of a section, and nothing else was done
 record IsStepped (script : Script) (number : ℕ) (does : Does) (old : Between) (left : Left) (new : Between) : Type 0 where
   pub mine : List Note
@@ -189,7 +166,7 @@ client_stepped script number c does old left new client is plays = record {
   entries = alone_trails script number left (c + 1) mine refl others (λ i entry centre there. plays.callers i entry centre there) (λ i a centre there. plays.paired i a centre there) actor;
   did = λ stage stands. subst (λ (p : Progress). StepDeeds p does (deeds_of mine)) (sym (stands.come c client)) one.does.0;
   tapped = λ stage stands. looks_as script.n c old.taps stage.taps does (deeds_of mine) is (λ i there. sym (stands.taps i there)) looked;
-  then_is = λ stage stands. record { come = later stage stands.come; taps = λ i there. stands.taps i there ∙ sym (plays.taps.behind i there) };
+  then_is = λ stage stands. record { come = later stage stands.come; taps = λ i there. stands.taps i there ∙ sym (shown i there) };
 }
   where
     mine : List Note
@@ -201,8 +178,14 @@ client_stepped script number c does old left new client is plays = record {
     one : IsOne ClientGoes number (old.come c) does mine (new.come c)
     one = one_done ClientGoes number (old.come c) (new.come c) (client_steps c (section_of (Client c does))) does mine (own_steps c does) (plays.clients c client)
 
+    stay : (centre : ℕ) → plays.taps.shows centre ≡ shows_at old.taps centre
+    stay = none_fed old.taps number (left.notes 1) plays.taps.shows plays.taps.feeds
+
+    shown : (i : ℕ) → IsCount script.n i → new.taps i ≡ old.taps i
+    shown i there = plays.taps.behind i there ∙ ap (tap_behind (old.taps i)) (stay i)
+
     looked : LooksSo old.taps c does (deeds_of mine)
-    looked = subst (λ steps. OneLooks old.taps c steps (deeds_of mine)) (own_steps c does) (plays.taps.looks c client refl)
+    looked = one_looked old.taps number c plays.taps.shows does mine stay (subst (λ steps. Looks old.taps plays.taps.shows c number steps mine) (own_steps c does) (plays.taps.looks c client))
 
     idle : (other : ℕ) → IsCount script.clients other → c ≢ other → (left.notes (other + 1) ≡ []) × (new.come other ≡ old.come other)
     idle other range differs = none_done ClientGoes number (old.come other) (new.come other) (client_steps other (section_of (Client c does))) (left.notes (other + 1)) (other_steps other c does differs) (plays.clients other range)
@@ -233,10 +216,10 @@ operator_stepped script number does old left new is plays = record {
   notes = alone_notes script number left 1 mine refl others;
   entries = alone_trails script number left 1 mine refl others (λ i entry centre there. plays.callers i entry centre there) (λ i a centre there. plays.paired i a centre there) actor;
   did = λ stage stands. one.does;
-  tapped = λ stage stands. feeds_as script.n old.taps stage.taps does (deeds_of mine) is (λ i there. sym (stands.taps i there)) (plays.taps.feeds refl);
+  tapped = λ stage stands. feeds_as script.n old.taps stage.taps does (deeds_of mine) is (λ i there. sym (stands.taps i there)) fed.0;
   then_is = λ stage stands. record {
     come = λ other there. stands.come other there ∙ sym (idle other there).1;
-    taps = λ i there. fed_as (feed_in does) (deeds_of mine) stage.taps old.taps i (stands.taps i there) ∙ sym (plays.taps.behind i there);
+    taps = λ i there. fed_as (feed_in does) (deeds_of mine) stage.taps old.taps i (stands.taps i there) ∙ sym (plays.taps.behind i there ∙ fed.1 i);
   };
 }
   where
@@ -248,6 +231,9 @@ operator_stepped script number does old left new is plays = record {
 
     one : IsOne (OperatorGoes script.n) number tt does mine tt
     one = one_done (OperatorGoes script.n) number tt tt (does ∷ []) does mine refl plays.operator
+
+    fed : FeedsSo old.taps does (deeds_of mine) × ((i : ℕ) → tap_behind (old.taps i) (plays.taps.shows i) ≡ taps_then does (deeds_of mine) old.taps i)
+    fed = one_fed old.taps number does mine plays.taps.shows plays.taps.feeds
 
     idle : (other : ℕ) → IsCount script.clients other → (left.notes (other + 1) ≡ []) × (new.come other ≡ old.come other)
     idle other range = none_done ClientGoes number (old.come other) (new.come other) [] (left.notes (other + 1)) refl (plays.clients other range)

@@ -8,4 +8,8 @@ pub mod Carried
 pub mod Reaching
 pub mod Sectioning
 pub mod Running
+pub mod Tapping
+pub mod ShowsBehind
+pub mod Lookers
+pub mod Turns
 pub mod InOneOrder

@@ -1,12 +1,13 @@
 -- What a section of a script leaves where its actors act at once. No order is said between two actors, nor between two
 -- centres.
-use Rattle.std.specs.Prelude.{◌≡◌, ◌≢◌, ℕ, ◌+◌, ◌*◌, ◌==◌, ◌&&◌, true, false, cond, replicate, List, [], ◌∷◌, ◌++◌}
+use Rattle.std.specs.Prelude.{◌≡◌, ◌≢◌, ℕ, ◌+◌, ◌*◌, ◌==◌, ◌&&◌, true, cond, replicate, List, [], ◌∷◌, ◌++◌}
 use Rattle.std.specs.List.{range_with_len}
 use Rattle.list_core.specs.Members.{In}
 use Rattle.dc_talk.specs.declared.sent.Sent.{Sent}
 use Rattle.dc_talk.specs.declared.log.Note.{Note}
 use Rattle.dc_talk.specs.Entries.{Entry}
 use Rattle.script_core.specs.declared.script.Script.{Script}
+use Rattle.script_core.specs.declared.taps.Show.{Show}
 use Rattle.script_core.specs.declared.taps.TapState.{TapState}
 use Rattle.script_core.specs.declared.steps.OperatorStep.{OperatorStep}
 use Rattle.script_core.specs.declared.steps.OperatorStep.TheVariants.{Link}
@@ -21,7 +22,7 @@ use Rattle.run_book.specs.Parts.{exchanged, entries_by}
 use Rattle.run_book.specs.Moves.{client_steps, operator_steps}
 use Rattle.run_book.specs.Played.{new_progress}
 use Rattle.run_sections.specs.Orders.{deeds_of, InOrder, ClientGoes, OperatorGoes, SenderGoes, ReporterGoes, PrunerGoes, Intake, intake, Receipt, takes_some, takes_rest, ReceiverGoes}
-use Rattle.run_sections.specs.Taps.{OneLooks, OneFeeds, taps_behind}
+use Rattle.run_sections.specs.Taps.{shows_at, FeedGoes, tap_behind, Looks}
 
 -- ---- between two sections
 
@@ -74,12 +75,13 @@ pub record Receives (script : Script) (number : ℕ) (section : Section) (old : 
   pub all : (from : ℕ) → IsCount script.n from → from ≢ j → section.phase ≡ true → (last from).taken ≡ mail_left script left from j
   pub inlets : (from : ℕ) → IsCount script.n from → from ≢ j → new.inlets from j ≡ (last from).inlet
 
--- in a section that is no phase a look sees what its tap shows, and a feed asks for the objects of its tap, which shows
--- behind it what was found; a phase leaves the taps
-pub record PlaysTaps (script : Script) (section : Section) (old : Between) (left : Left) (new : Between) : Type 0 where
-  pub looks : (client : ℕ) → IsCount script.clients client → section.phase ≡ false → OneLooks old.taps client (client_steps client section) (deeds_of (left.notes (client + 1)))
-  pub feeds : section.phase ≡ false → OneFeeds old.taps (operator_steps section) (deeds_of (left.notes 1))
-  pub behind : (i : ℕ) → IsCount script.n i → new.taps i ≡ cond section.phase (old.taps i) (taps_behind (operator_steps section) (deeds_of (left.notes 1)) old.taps i)
+-- the operator feeds the taps in its order; each client's looks see shows of the section, in the order of the shows; and
+-- each tap shows the last one behind it
+pub record PlaysTaps (script : Script) (number : ℕ) (section : Section) (old : Between) (left : Left) (new : Between) : Type 0 where
+  pub shows : ℕ → List Show
+  pub feeds : InOrder (FeedGoes old.taps) number 1 (shows_at old.taps) (operator_steps section) (left.notes 1) shows
+  pub looks : (client : ℕ) → IsCount script.clients client → Looks old.taps shows client number (client_steps client section) (left.notes (client + 1))
+  pub behind : (i : ℕ) → IsCount script.n i → new.taps i ≡ tap_behind (old.taps i) (shows i)
 
 -- each actor does what is its part of the section of a number, one thing after another; and at each centre the entries
 -- of each actor are what it exchanged there, in its order, with no others
@@ -90,6 +92,6 @@ pub record PlaysSection (script : Script) (number : ℕ) (section : Section) (ol
   pub receivers : (j : ℕ) → IsCount script.n j → Receives script number section old left new j
   pub reporters : (i : ℕ) → IsCount script.n i → InOrder (ReporterGoes script.n i) number 1 tt (rounds_in script section) (left.notes (worker_of script.clients i Reporter)) tt
   pub pruners : (i : ℕ) → IsCount script.n i → InOrder (PrunerGoes i) number 1 tt (rounds_in script section) (left.notes (worker_of script.clients i Pruner)) tt
-  pub taps : PlaysTaps script section old left new
+  pub taps : PlaysTaps script number section old left new
   pub callers : (i : ℕ) (entry : Entry) → IsCount script.n i → In entry (left.entries i) → IsCount (actors_of script) entry.caller
   pub paired : (i a : ℕ) → IsCount script.n i → IsCount (actors_of script) a → entries_by a (left.entries i) ≡ exchanged i (left.notes a)

@@ -43,7 +43,7 @@ shown_later objects states object d place within differs =
 -- ---- steps
 
 -- a step that looks at an object through the tap of a centre
-is_look : (step : ClientStep) (centre : ℕ) (object : ObjectId) → Some (centre, object) ≡ look_in step → step ≡ Look centre object
+pub is_look : (step : ClientStep) (centre : ℕ) (object : ObjectId) → Some (centre, object) ≡ look_in step → step ≡ Look centre object
 is_look (Look other one) centre object is =
     let same : (other, one) ≡ (centre, object) = same_Some (other, one) (centre, object) (sym is) in
     λ k. Look (same k).0 (same k).1
@@ -54,7 +54,7 @@ pub look_within : (n centre : ℕ) (object : ObjectId) (step : ClientStep) → S
 look_within n centre object step is fits = let fit : IsStep n (Look centre object) = subst (IsStep n) (is_look step centre object is) fits in fit.0.0
 
 -- the deeds of a look are a line, where there is one
-told_seen : (client centre : ℕ) (object : ObjectId) (seen : Option Seen) → told (option_map (line.Look client centre object) seen) ≡ looks client centre object seen
+pub told_seen : (client centre : ℕ) (object : ObjectId) (seen : Option Seen) → told (option_map (line.Look client centre object) seen) ≡ looks client centre object seen
 told_seen client centre object None = refl
 told_seen client centre object (Some seen) = refl
 

@@ -107,7 +107,7 @@ put_back taps new place tap later found same put =
 -- ---- steps
 
 -- a step that feeds the tap of a centre
-is_feed : (step : OperatorStep) (centre : ℕ) → Some centre ≡ feed_in step → step ≡ Feed centre
+pub is_feed : (step : OperatorStep) (centre : ℕ) → Some centre ≡ feed_in step → step ≡ Feed centre
 is_feed (Feed other) centre is = ap Feed (same_Some other centre (sym is))
 is_feed _ centre is = absurd (none-some centre (sym is))
 

@@ -59,8 +59,8 @@ fn feed_one<D: Door>(
     feed_tap(alloc, door, &mut taps[place], centre, log)
 }
 
-// The centre whose tap a step feeds, where it does.
-fn feed_in(step: &OperatorStep) -> Option<u8>
+/// The centre whose tap a step feeds, where it does.
+pub fn feed_in(step: &OperatorStep) -> Option<u8>
     ensures { result ≡ feed_in step.now }
 {
     match step {

@@ -11,6 +11,8 @@ mod trails;
 mod works;
 
 pub use dealing::{Dealt, deal};
+pub use feeding::feed_in;
+pub use looking::{look_in, seen_at, tell_seen};
 pub use table::Table;
 pub use trails::trails_of;
 pub use works::{Work, prune};

@@ -43,8 +43,8 @@ fn seen_through(alloc: Global, tap: &TapState, object: &ObjectId) -> Result<Opti
     }
 }
 
-// What a look through the tap of a centre sees of an object, where there is such a tap that has it.
-fn seen_at(
+/// What a look through the tap of a centre sees of an object, where there is such a tap that has it.
+pub fn seen_at(
     alloc: Global,
     taps: &[TapState],
     centre: u8,
@@ -56,6 +56,33 @@ fn seen_at(
     match taps.get((centre - 1) as usize) {
         Some(tap) => seen_through(alloc, tap, object),
         None => Ok(None),
+    }
+}
+
+/// Tells what a client sees of an object through the tap of a centre, where it sees something. Nothing changes where
+/// memory is refused.
+pub fn tell_seen(
+    alloc: Global,
+    client: u32,
+    centre: u8,
+    object: ObjectId,
+    seen: Option<Seen>,
+    log: &mut Log,
+) -> Result<(), NoMemory>
+    ensures ok { OnOk result (log.new ≡ noted_all log.old (looks client centre object seen)) }
+    ensures err { OnErr result (log.new ≡ log.old) }
+{
+    match seen {
+        Some(seen) => {
+            let seen = NotedSeen::new(alloc, seen)?;
+            log.push(Deed::Told(Line::Look {
+                client,
+                centre,
+                object,
+                seen,
+            }))
+        }
+        None => Ok(()),
     }
 }
 
@@ -73,22 +100,12 @@ fn look(
     ensures ok { OnOk result (log.new ≡ noted_all log.old (looks client centre object (seen_through (taps_of taps.now centre) object))) }
     ensures err { OnErr result (log.new ≡ log.old) }
 {
-    match seen_at(alloc, taps, centre, &object)? {
-        Some(seen) => {
-            let seen = NotedSeen::new(alloc, seen)?;
-            log.push(Deed::Told(Line::Look {
-                client,
-                centre,
-                object,
-                seen,
-            }))
-        }
-        None => Ok(()),
-    }
+    let seen = seen_at(alloc, taps, centre, &object)?;
+    tell_seen(alloc, client, centre, object, seen, log)
 }
 
-// The centre of the tap and the object of a look, where a step is one.
-fn look_in(step: &ClientStep) -> Option<(u8, ObjectId)>
+/// The centre of the tap and the object of a look, where a step is one.
+pub fn look_in(step: &ClientStep) -> Option<(u8, ObjectId)>
     ensures { result ≡ look_in step.now }
 {
     match step {

@@ -110,10 +110,6 @@ pub fn odd_place_of(
         _ if reading.header().is_none() => early_line(alloc, reading, form),
         _ if is_setting(form) => odd_setting(alloc, reading, form, first.as_str()),
         Form::Tap => odd_tap(alloc, reading, words),
-        Form::Look => {
-            let second = quoted(alloc, word_at(words, 1))?;
-            odd_in_phase(alloc, before, second.as_str())
-        }
         _ => odd_in_phase(alloc, before, first.as_str()),
     }
 }

@@ -3,10 +3,8 @@ use Rattle.std.specs.Prelude.{◌≡◌, ◌≤◌, ◌⊎◌, Bool, true, false
 use Rattle.script_core.specs.Steps.{IsStepOf}
 use Rattle.script_core.specs.declared.limits.TheConstants.{MAX_LINES}
 use Rattle.script_core.specs.declared.script.Header.{Header}
-use Rattle.script_core.specs.declared.steps.ClientStep.{ClientStep}
-use Rattle.script_core.specs.declared.steps.ClientStep.TheVariants.{Look}
 use Rattle.script_core.specs.declared.steps.OperatorStep.{OperatorStep}
-use Rattle.script_core.specs.declared.steps.OperatorStep.TheVariants.{Link, Settle, Feed}
+use Rattle.script_core.specs.declared.steps.OperatorStep.TheVariants.{Link, Settle}
 use Rattle.script_core.specs.declared.steps.Step.{Step}
 use Rattle.script_core.specs.declared.steps.Step.TheVariants.{Client, Operator}
 use Rattle.script_core.specs.declared.steps.Section.{Section}
@@ -23,21 +21,15 @@ phase_of steps = record { phase = true; steps = steps }
 abbrev pub IsLine : Header → Section → Type 0
 IsLine header section = (step : Step) × (section ≡ section_of step) × IsStepOf header step
 
--- whether a step of a client may stand in a phase: it looks through no tap
-abbrev pub may_go_in_phase : ClientStep → Bool
-may_go_in_phase (Look centre object) = false
-may_go_in_phase step = true
-
--- whether a step of the operator may stand in a phase: it settles nothing, sets no link, and feeds no tap
+-- whether a step of the operator may stand in a phase: it settles nothing, and sets no link
 abbrev pub may_order_in_phase : OperatorStep → Bool
 may_order_in_phase (Link from to fault) = false
 may_order_in_phase Settle = false
-may_order_in_phase (Feed centre) = false
 may_order_in_phase step = true
 
--- whether a step may stand in a phase
+-- whether a step may stand in a phase: each one of a client may
 abbrev pub may_do_in_phase : Step → Bool
-may_do_in_phase (Client client step) = may_go_in_phase step
+may_do_in_phase (Client client step) = true
 may_do_in_phase (Operator step) = may_order_in_phase step
 
 -- it may

@@ -327,10 +327,6 @@ a_feed_of_no_tap_in_a_phase : RefusedAt 5 (codes "tap 1 c.a\nphase\nfeed 2\nend\
 unfolding script_read words_of number_in delta_in object_named form_among said_word row_of row_in_text row_in may_stand read_more
 a_feed_of_no_tap_in_a_phase = refl
 
-a_feed_in_a_phase : RefusedAt 5 (codes "tap 1 c.a\nphase\nfeed 1\nend\n") cause.Place
-unfolding script_read words_of number_in delta_in object_named form_among said_word row_of row_in_text row_in may_stand read_more
-a_feed_in_a_phase = refl
-
 a_look_at_another_object : RefusedAt 4 (codes "tap 1 c.a\nc1 tap 1 c.b\n") cause.Range
 unfolding script_read words_of number_in delta_in object_named form_among said_word row_of row_in_text row_in may_stand read_more
 a_look_at_another_object = refl
@@ -343,9 +339,9 @@ a_look_at_no_object : RefusedAt 4 (codes "tap 1 c.a\nc1 tap 2 a\n") cause.Name
 unfolding script_read words_of number_in delta_in object_named form_among said_word row_of row_in_text row_in may_stand read_more
 a_look_at_no_object = refl
 
-a_look_in_a_phase : RefusedAt 5 (codes "tap 1 c.a\nphase\nc1 tap 1 c.a\nend\n") cause.Place
+a_look_at_another_object_in_a_phase : RefusedAt 5 (codes "tap 1 c.a\nphase\nc1 tap 1 c.b\nend\n") cause.Range
 unfolding script_read words_of number_in delta_in object_named form_among said_word row_of row_in_text row_in may_stand read_more
-a_look_in_a_phase = refl
+a_look_at_another_object_in_a_phase = refl
 
 a_feed_before_the_clients : script_read (codes "centres 2 k 1\nfeed 1\n") ≡ Err (Refused 2 cause.Place)
 unfolding script_read words_of number_in delta_in object_named form_among said_word row_of row_in_text row_in may_stand read_more
@@ -416,3 +412,7 @@ tap_of centre name = record { centre = centre; object = counter_of name }
 steps_on_taps : script_read (codes "centres 2 k 1\nclients 1\ntap 1 c.a\ntap 2 c.a\nrounds 5\ntap 1 c.b\nfeed 2\nc1 tap 1 c.b\n") ≡ Ok (record (plain_script (section_of (Operator (Feed 2)) ∷ does 1 (Look 1 (counter_of (codes "b"))) ∷ [])) { rounds = 5; taps = tap_of 1 (codes "a") ∷ tap_of 2 (codes "a") ∷ tap_of 1 (codes "b") ∷ [] })
 unfolding script_read words_of number_in delta_in object_named form_among said_word row_of row_in_text row_in may_stand read_more
 steps_on_taps = refl
+
+steps_on_taps_in_a_phase : script_read (codes "centres 2 k 1\nclients 1\ntap 1 c.a\nphase\nfeed 1\nc1 tap 1 c.a\nend\n") ≡ Ok (record (plain_script (phase_of (Operator (Feed 1) ∷ Client 1 (Look 1 (counter_of (codes "a"))) ∷ []) ∷ [])) { taps = tap_of 1 (codes "a") ∷ [] })
+unfolding script_read words_of number_in delta_in object_named form_among said_word row_of row_in_text row_in may_stand read_more
+steps_on_taps_in_a_phase = refl

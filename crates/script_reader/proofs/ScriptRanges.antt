@@ -4,7 +4,7 @@ use Rattle.std.specs.Prelude.{cond, ◌==◌, ◌&&◌, not, nat_lt, is_some, is
 use Rattle.std.specs.Option.{unwrap_or}
 use Rattle.std.proofs.lemmas.Bool.{and_parts, eqb-true}
 use Rattle.std.proofs.lemmas.List.{length_push}
-use Rattle.std.proofs.lemmas.List.Elements.{All-nil, All-push, All-cons, All-head, All-tail}
+use Rattle.std.proofs.lemmas.List.Elements.{All-nil, All-push, All-cons}
 use Rattle.list_core.proofs.Choices.{is_none_true}
 use Rattle.ids_core.specs.declared.limits.TheConstants.{MOST_CENTRES, MOST_CLIENTS, MOST_CACHED, MOST_RECORDS}
 use Rattle.script_core.specs.Steps.{IsCount, IsHeader, IsStepOf}
@@ -34,7 +34,7 @@ use Rattle.script_reader.specs.Lines.{taken, line_taken}
 use Rattle.script_reader.specs.Scripts.{script_with, ended, ended_in, lines_read, script_read}
 use Rattle.script_reader.specs.Taps.{shows}
 use Rattle.script_reader.proofs.Onward.{line_in_time}
-use Rattle.script_reader.proofs.Tapping.{AreTapsOf, IsTapOf, in_phase_on, step_on, tap_more, taps_headed}
+use Rattle.script_reader.proofs.Tapping.{AreTapsOf, IsTapOf, step_on, tap_more, taps_headed}
 use Rattle.script_reader.proofs.RowRanges.{IsRowInRange, row_in_range}
 
 -- a group in range
@@ -72,16 +72,17 @@ record IsPlaced (header : Option Header) (number : ℕ) (sections : List Section
   few : length sections < number
   few_open : IfSome phase (λ steps. length steps < number)
 
--- the taps are those of a script with this header, and the steps of the sections are on them
-record IsTapped (header : Option Header) (taps : List Tapped) (sections : List Section) : Type 0 where
+-- the taps are those of a script with this header, and the steps of the sections and of an open phase are on them
+record IsTapped (header : Option Header) (taps : List Tapped) (sections : List Section) (phase : Option (List Step)) : Type 0 where
   taps_fit : AreTapsOf header taps
   steps_on : All (λ section. All (IsOnTap taps) section.steps) sections
+  open_on : IfSome phase (λ steps. All (IsOnTap taps) steps)
 
 -- what was read of the lines before the one of this number is in range
 record IsRead (number : ℕ) (reading : Reading) : Type 0 where
   set : IsSet reading
   placed : IsPlaced (header_in reading) number reading.sections reading.phase
-  tapped : IsTapped (header_in reading) reading.taps reading.sections
+  tapped : IsTapped (header_in reading) reading.taps reading.sections reading.phase
   time : number ≤ MAX_LINES + 1
 
 -- the header that was read is in range
@@ -150,17 +151,12 @@ placed_end None number sections steps time is = absurd is.phase_fits
 placed_end (Some h) number sections steps time is = placed_section (Some h) number sections (Some steps) (phase_of steps) refl (inr (record { phase = refl; steps = is.phase_fits; few = let few = is.few_open in omega arith })) is
 
 -- one section more, whose steps are on the taps
-tapped_more : (header : Option Header) (taps : List Tapped) (sections : List Section) (section : Section) → IsTapped header taps sections → All (IsOnTap taps) section.steps → IsTapped header taps (sections ++ section ∷ [])
-tapped_more header taps sections section is on = record { taps_fit = is.taps_fit; steps_on = All-push (λ one. All (IsOnTap taps) one.steps) sections section is.steps_on on }
+tapped_more : (header : Option Header) (taps : List Tapped) (sections : List Section) (section : Section) (old new : Option (List Step)) → IsTapped header taps sections old → All (IsOnTap taps) section.steps → IfSome new (λ steps. All (IsOnTap taps) steps) → IsTapped header taps (sections ++ section ∷ []) new
+tapped_more header taps sections section old new is on open_on = record { taps_fit = is.taps_fit; steps_on = All-push (λ one. All (IsOnTap taps) one.steps) sections section is.steps_on on; open_on = open_on }
 
--- the steps of a phase are on all taps
-all_on : (h : Header) (taps : List Tapped) (steps : List Step) → AreInPhase h steps → All (IsOnTap taps) steps
-all_on h taps [] are = All-nil (IsOnTap taps)
-all_on h taps (step ∷ steps) are = All-cons (IsOnTap taps) step steps (in_phase_on taps step (All-head (λ one. IsStepOf h one × IsInPhase one) step steps are).1) (all_on h taps steps (All-tail (λ one. IsStepOf h one × IsInPhase one) step steps are))
-
-phase_on : (header : Option Header) (taps : List Tapped) (steps : List Step) → IsOpen header (Some steps) → All (IsOnTap taps) steps
-phase_on None taps steps are = absurd are
-phase_on (Some h) taps steps are = all_on h taps steps are
+-- the steps of the phase that is open
+open_steps : (header : Option Header) (taps : List Tapped) (sections : List Section) (phase : Option (List Step)) (steps : List Step) → phase ≡ Some steps → IsTapped header taps sections phase → All (IsOnTap taps) steps
+open_steps header taps sections phase steps here is = subst (λ phase. IfSome phase (λ steps. All (IsOnTap taps) steps)) here is.open_on
 
 -- without sections no step is on a tap
 none_on : (taps : List Tapped) (sections : List Section) → length sections ≡ 0 → All (λ section. All (IsOnTap taps) section.steps) sections
@@ -168,16 +164,19 @@ none_on taps [] none = All-nil (λ section. All (IsOnTap taps) section.steps)
 none_on taps (section ∷ sections) none = absurd (omega arith)
 
 -- one more object on a tap
-tap_taken : (header : Option Header) (taps : List Tapped) (sections : List Section) (phase_none : Bool) (tapped : Tapped) → IsTapped header taps sections → IfSome header (λ h. IsTapOf h tapped)
-    → (is_some header && (length sections == 0 && (phase_none && true))) && (nat_lt (length taps) MOST_TAPPED && not (shows taps tapped.centre tapped.object)) ≡ true
-    → IsTapped header (taps ++ tapped ∷ []) sections
-tap_taken header taps sections phase_none tapped is fits may =
+tap_taken : (header : Option Header) (taps : List Tapped) (sections : List Section) (phase : Option (List Step)) (tapped : Tapped) → IsTapped header taps sections phase → IfSome header (λ h. IsTapOf h tapped)
+    → (is_some header && (length sections == 0 && (is_none phase && true))) && (nat_lt (length taps) MOST_TAPPED && not (shows taps tapped.centre tapped.object)) ≡ true
+    → IsTapped header (taps ++ tapped ∷ []) sections phase
+tap_taken header taps sections phase tapped is fits may =
     let parts = and_parts _ _ may in
     let set = and_parts _ _ parts.0 in
     let new = and_parts _ _ parts.1 in
+    let places = and_parts _ _ set.1 in
+    let closed : phase ≡ None = is_none_true phase (and_parts _ _ places.1).0 in
     record {
       taps_fit = tap_more header taps tapped set.0 is.taps_fit fits new.0 new.1;
-      steps_on = none_on (taps ++ tapped ∷ []) sections (eqb-true _ _ (and_parts _ _ set.1).0);
+      steps_on = none_on (taps ++ tapped ∷ []) sections (eqb-true _ _ places.0);
+      open_on = subst (λ phase. IfSome phase (λ steps. All (IsOnTap (taps ++ tapped ∷ [])) steps)) (sym closed) tt;
     }
 
 -- a step is taken
@@ -185,13 +184,13 @@ step_taken : (number : ℕ) (reading : Reading) (step : Step) (phase : Option (L
 step_taken number reading step None here is time fits may on = record {
   set = record { centres = is.set.centres; clients = is.set.clients; cache = is.set.cache; limit = is.set.limit; threads = is.set.threads; rounds = is.set.rounds };
   placed = subst (IsPlaced (header_in reading) (number + 1) (reading.sections ++ section_of step ∷ [])) (sym here) (placed_section (header_in reading) number reading.sections reading.phase (section_of step) (and_parts _ _ may).0 (line_fits (header_in reading) step fits) is.placed);
-  tapped = tapped_more (header_in reading) reading.taps reading.sections (section_of step) is.tapped (All-cons (IsOnTap reading.taps) step [] on (All-nil (IsOnTap reading.taps)));
+  tapped = tapped_more (header_in reading) reading.taps reading.sections (section_of step) reading.phase reading.phase is.tapped (All-cons (IsOnTap reading.taps) step [] on (All-nil (IsOnTap reading.taps))) is.tapped.open_on;
   time = omega arith;
 }
 step_taken number reading step (Some steps) here is time fits may on = record {
   set = record { centres = is.set.centres; clients = is.set.clients; cache = is.set.cache; limit = is.set.limit; threads = is.set.threads; rounds = is.set.rounds };
   placed = placed_step (header_in reading) number reading.sections steps step fits (and_parts _ _ may).1 (subst (IsPlaced (header_in reading) number reading.sections) here is.placed);
-  tapped = is.tapped;
+  tapped = record { taps_fit = is.tapped.taps_fit; steps_on = is.tapped.steps_on; open_on = All-push (IsOnTap reading.taps) steps step (open_steps (header_in reading) reading.taps reading.sections reading.phase steps here is.tapped) on };
   time = omega arith;
 }
 
@@ -201,7 +200,7 @@ end_taken number reading None here is time some = absurd (cc)
 end_taken number reading (Some steps) here is time some = record {
   set = record { centres = is.set.centres; clients = is.set.clients; cache = is.set.cache; limit = is.set.limit; threads = is.set.threads; rounds = is.set.rounds };
   placed = placed_end (header_in reading) number reading.sections steps time (subst (IsPlaced (header_in reading) number reading.sections) here is.placed);
-  tapped = tapped_more (header_in reading) reading.taps reading.sections (phase_of steps) is.tapped (phase_on (header_in reading) reading.taps steps (subst (λ phase. IsOpen (header_in reading) phase) here is.placed.phase_fits));
+  tapped = tapped_more (header_in reading) reading.taps reading.sections (phase_of steps) reading.phase None is.tapped (open_steps (header_in reading) reading.taps reading.sections reading.phase steps here is.tapped) tt;
   time = omega arith;
 }
 
@@ -210,13 +209,13 @@ unfolding may_stand read_more
 row_taken number reading (row.Centres n k) is time within on may = record {
   set = record { centres = within.sets; clients = is.set.clients; cache = is.set.cache; limit = is.set.limit; threads = is.set.threads; rounds = is.set.rounds };
   placed = placed_headed (header_in reading) (header_said (Some (record { n = n; k = k })) reading.clients) number reading.sections reading.phase (ap (λ g. header_said g reading.clients) (is_none_true reading.centres may)) is.placed;
-  tapped = record { taps_fit = taps_headed (header_in reading) (header_said (Some (record { n = n; k = k })) reading.clients) reading.taps (ap (λ g. header_said g reading.clients) (is_none_true reading.centres may)) is.tapped.taps_fit; steps_on = is.tapped.steps_on };
+  tapped = record { taps_fit = taps_headed (header_in reading) (header_said (Some (record { n = n; k = k })) reading.clients) reading.taps (ap (λ g. header_said g reading.clients) (is_none_true reading.centres may)) is.tapped.taps_fit; steps_on = is.tapped.steps_on; open_on = is.tapped.open_on };
   time = omega arith;
 }
 row_taken number reading (row.Clients clients) is time within on may = record {
   set = record { centres = is.set.centres; clients = within.sets; cache = is.set.cache; limit = is.set.limit; threads = is.set.threads; rounds = is.set.rounds };
   placed = placed_headed (header_in reading) (header_said reading.centres (Some clients)) number reading.sections reading.phase (ap (header_said reading.centres) (is_none_true reading.clients (and_parts _ _ may).1) ∙ no_clients reading.centres) is.placed;
-  tapped = record { taps_fit = taps_headed (header_in reading) (header_said reading.centres (Some clients)) reading.taps (ap (header_said reading.centres) (is_none_true reading.clients (and_parts _ _ may).1) ∙ no_clients reading.centres) is.tapped.taps_fit; steps_on = is.tapped.steps_on };
+  tapped = record { taps_fit = taps_headed (header_in reading) (header_said reading.centres (Some clients)) reading.taps (ap (header_said reading.centres) (is_none_true reading.clients (and_parts _ _ may).1) ∙ no_clients reading.centres) is.tapped.taps_fit; steps_on = is.tapped.steps_on; open_on = is.tapped.open_on };
   time = omega arith;
 }
 row_taken number reading (row.Cache objects) is time within on may = record { set = record { centres = is.set.centres; clients = is.set.clients; cache = within.sets; limit = is.set.limit; threads = is.set.threads; rounds = is.set.rounds }; placed = placed_on (header_in reading) number reading.sections reading.phase is.placed; tapped = is.tapped; time = omega arith }
@@ -226,14 +225,14 @@ row_taken number reading (row.Rounds rounds) is time within on may = record { se
 row_taken number reading (row.Tap tapped) is time within on may = record {
   set = record { centres = is.set.centres; clients = is.set.clients; cache = is.set.cache; limit = is.set.limit; threads = is.set.threads; rounds = is.set.rounds };
   placed = placed_on (header_in reading) number reading.sections reading.phase is.placed;
-  tapped = tap_taken (header_in reading) reading.taps reading.sections (is_none reading.phase) tapped is.tapped within.does may;
+  tapped = tap_taken (header_in reading) reading.taps reading.sections reading.phase tapped is.tapped within.does may;
   time = omega arith;
 }
 row_taken number reading (row.Does step) is time within on may = step_taken number reading step reading.phase refl is time within.does may (step_on (header_in reading) reading.taps step (and_parts _ _ may).0 on)
 row_taken number reading row.Phase is time within on may = record {
   set = record { centres = is.set.centres; clients = is.set.clients; cache = is.set.cache; limit = is.set.limit; threads = is.set.threads; rounds = is.set.rounds };
   placed = placed_phase (header_in reading) number reading.sections reading.phase (and_parts _ _ may).0 is.placed;
-  tapped = is.tapped;
+  tapped = record { taps_fit = is.tapped.taps_fit; steps_on = is.tapped.steps_on; open_on = All-nil (IsOnTap reading.taps) };
   time = omega arith;
 }
 row_taken number reading row.End is time within on may = end_taken number reading reading.phase refl is time may
@@ -294,4 +293,4 @@ lines_in_range number reading (line ∷ lines) script is e = further number line
 -- a script that is read is in range
 pub script_in_range : (bytes : List ℕ) (script : Script) → Ok script ≡ script_read bytes → IsInRange script
 unfolding script_read
-script_in_range bytes script is = lines_in_range 1 nothing_read (lines_of bytes) script (record { set = record { centres = tt; clients = tt; cache = tt; limit = tt; threads = tt; rounds = tt }; placed = record { sections_fit = refl; phase_fits = tt; few = omega arith; few_open = tt }; tapped = record { taps_fit = refl; steps_on = All-nil (λ section. All (IsOnTap []) section.steps) }; time = omega arith }) (sym is)
+script_in_range bytes script is = lines_in_range 1 nothing_read (lines_of bytes) script (record { set = record { centres = tt; clients = tt; cache = tt; limit = tt; threads = tt; rounds = tt }; placed = record { sections_fit = refl; phase_fits = tt; few = omega arith; few_open = tt }; tapped = record { taps_fit = refl; steps_on = All-nil (λ section. All (IsOnTap []) section.steps); open_on = tt }; time = omega arith }) (sym is)

@@ -12,7 +12,6 @@ use Rattle.ids_core.specs.Ids.{same_object}
 use Rattle.ids_core.specs.Name.{IsName}
 use Rattle.ids_core.specs.Same.{same_object-true, same_object-itself}
 use Rattle.ids_core.specs.declared.object.ObjectId.{ObjectId}
-use Rattle.script_core.specs.Rows.{IsInPhase}
 use Rattle.script_core.specs.Steps.{IsCount}
 use Rattle.script_core.specs.Taps.{AreOnce, AreTaps, IsOnTap, objects_on}
 use Rattle.script_core.specs.declared.script.Header.{Header}
@@ -56,13 +55,6 @@ on_tap taps (Operator step) is = tt
 pub step_on : (header : Option Header) (taps : List Tapped) (step : Step) → is_some header ≡ true → (is_on_tap taps step || is_none header) ≡ true → IsOnTap taps step
 step_on None taps step some on = absurd (false≢true some)
 step_on (Some h) taps step some on = ⊎_elim (λ is. on_tap taps step is) (λ bad. absurd (false≢true bad)) (or_cases (is_on_tap taps step) false on)
-
--- a step that may stand in a phase feeds no tap, and looks through none
-pub in_phase_on : (taps : List Tapped) (step : Step) → IsInPhase step → IsOnTap taps step
-in_phase_on taps (Client client (Look centre object)) may = absurd (false≢true may)
-in_phase_on taps (Client client step) may = tt
-in_phase_on taps (Operator (Feed centre)) may = absurd (false≢true may)
-in_phase_on taps (Operator step) may = tt
 
 -- ---- one object more
 

@@ -7,7 +7,7 @@ ghost use Rattle.script_reader.specs.Lines.{line_taken, taken};
 ghost use Rattle.script_reader.specs.Readings.{header_in, is_tapped, may_do, may_set, may_stand, may_tap, nothing_read, phase_read, read_more, step_read};
 ghost use Rattle.script_reader.specs.Rows.{row_behind};
 ghost use Rattle.script_reader.specs.Words.{is_plain_text, texts_of, words_of};
-ghost use Rattle.script_core.specs.Rows.{may_do_in_phase, may_go_in_phase, may_order_in_phase, section_of};
+ghost use Rattle.script_core.specs.Rows.{may_do_in_phase, may_order_in_phase, section_of};
 
 use crate::fault::Cause;
 use crate::row::{Row, row_in, row_in_cut};
@@ -250,21 +250,11 @@ impl Reading {
     }
 }
 
-// Whether a step of a client may stand in a phase.
-fn may_go_in_phase(step: &ClientStep) -> bool
-    ensures { result ≡ may_go_in_phase step.now }
-{
-    !matches!(step, ClientStep::Look { .. })
-}
-
 // Whether a step of the operator may stand in a phase.
 fn may_order_in_phase(step: &OperatorStep) -> bool
     ensures { result ≡ may_order_in_phase step.now }
 {
-    !matches!(
-        step,
-        OperatorStep::Link { .. } | OperatorStep::Settle | OperatorStep::Feed { .. }
-    )
+    !matches!(step, OperatorStep::Link { .. } | OperatorStep::Settle)
 }
 
 // Whether a step may stand in a phase.
@@ -272,7 +262,7 @@ fn may_do_in_phase(step: &Step) -> bool
     ensures { result ≡ may_do_in_phase step.now }
 {
     match step {
-        Step::Client { step, .. } => may_go_in_phase(step),
+        Step::Client { .. } => true,
         Step::Operator { step } => may_order_in_phase(step),
     }
 }

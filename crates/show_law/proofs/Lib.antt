@@ -1,6 +1,6 @@
 mod Staying
 mod Rising
-mod Subsequences
+pub mod Subsequences
 mod Fronts
-mod Feeding
+pub mod Feeding
 mod Showing

@@ -145,7 +145,7 @@ module _ (script : Script) (number actor : ℕ) (deeds : List Deed) (old new : T
     worker_none i Reporter centre = left_none (worker_of script.clients i Reporter) (λ same. omega (arith, same, low))
     worker_none i Pruner centre = left_none (worker_of script.clients i Pruner) (λ same. omega (arith, same, low))
 
-    module _ (clients : (client : ℕ) → IsCount script.clients client → InOrder ClientGoes number 1 ((between_of script old).come client) (client_steps client (section_of step)) (left.notes (client + 1)) ((between_of script new).come client)) (operator : InOrder (OperatorGoes script.n) number 1 tt (operator_steps (section_of step)) (left.notes 1) tt) (inlets : (from to : ℕ) → IsCount script.n from → IsCount script.n to → (post_at new.posts from to).inlet ≡ linked (operator_steps (section_of step)) from to (post_at old.posts from to).inlet) (taps : PlaysTaps script (section_of step) (between_of script old) left (between_of script new)) where
+    module _ (clients : (client : ℕ) → IsCount script.clients client → InOrder ClientGoes number 1 ((between_of script old).come client) (client_steps client (section_of step)) (left.notes (client + 1)) ((between_of script new).come client)) (operator : InOrder (OperatorGoes script.n) number 1 tt (operator_steps (section_of step)) (left.notes 1) tt) (inlets : (from to : ℕ) → IsCount script.n from → IsCount script.n to → (post_at new.posts from to).inlet ≡ linked (operator_steps (section_of step)) from to (post_at old.posts from to).inlet) (taps : PlaysTaps script number (section_of step) (between_of script old) left (between_of script new)) where
       -- nor does a receiver
       line_receives : (j : ℕ) → IsCount script.n j → Receives script number (section_of step) (between_of script old) left (between_of script new) j
       line_receives j centre =

@@ -1,6 +1,6 @@
 -- What the calls that begin a phase require.
 use Rattle.std.proofs.Common.{◌≡◌, ℕ, ◌+◌, ◌-◌, ◌*◌, ◌≤◌, List, [], length, Option, Some, None, refl, sym, ap, ◌∙◌, subst, arith}
-use Rattle.std.specs.Prelude.{slice_get, unwrap_or, All, IfSome}
+use Rattle.std.specs.Prelude.{slice_get, unwrap_or, min, All, IfSome}
 use Rattle.std.specs.Option.{option_map}
 use Rattle.std.specs.List.{AllZip}
 use Rattle.std.specs.Global.{Vec}
@@ -47,14 +47,18 @@ use Rattle.phase_play.specs.declared.threads.Cast.{Cast}
 use Rattle.phase_actors.specs.Scenes.{IsScene}
 use Rattle.phase_actors.specs.Playing.{seen_by}
 use Rattle.phase_actors.specs.Actors.{IsCallerOf, IsSenderOf, IsReceiverOf, IsPlayerOf}
-use Rattle.phase_play.specs.Casts.{IsCrewOf, IsCast}
+use Rattle.phase_play.specs.Casts.{IsCrewOf, IsCast, AreOpen}
 use Rattle.thread_run.specs.declared.parts.Parts.{Parts}
 use Rattle.thread_run.specs.Casts.{IsCastOf}
 use Rattle.thread_run.specs.Lending.{AreInlets}
-use Rattle.thread_run.specs.Tables.{notes_at, come_of, between_of, IsTableOf, AreLinked}
+use Rattle.read_tap.specs.declared.limits.TheConstants.{MOST_READERS}
+use Rattle.read_tap.specs.Shows.{ShowsView, FeederView}
+use Rattle.thread_run.specs.Tables.{notes_at, come_of, between_of, IsTableOf, AreLinked, AreNumbered}
+use Rattle.thread_run.specs.Taps.{AreOpenFor}
 use Rattle.thread_run.proofs.Zips.{get_image}
 use Rattle.thread_run.proofs.Callers.{Stands, caller_as, player_stands, worker_stands}
 use Rattle.thread_run.proofs.Redeeming.{rows_in, new_at}
+use Rattle.thread_run.proofs.PhaseTaps.{feeders_open, rows_open, rows_many}
 use Rattle.thread_run.proofs.Carrying.{row_there}
 use Rattle.thread_run.proofs.Playing.{IsPhaseBegun, numbered, count_of, centres_count, before, log_before}
 
@@ -70,17 +74,22 @@ steps_dealt script section phase = All-weaker (λ step. IsStepOf (header_of scri
 pub actors_few : (script : Script) → IsInRange script → (1 ≤ actors_of script) × (actors_of script ≤ 4096)
 actors_few script range = (omega arith, omega (arith, range.header.clients.1, range.header.n.1))
 
+-- the clients of a phase play in some threads, and in no more than a tap has readers
+pub threads_some : (script : Script) (threads : ℕ) → IsInRange script → threads ≡ min script.clients script.threads → (1 ≤ threads) × (threads ≤ MOST_READERS)
+threads_some script threads range is = (omega (arith, is, range.header.clients.0, range.threads.0), omega (arith, is, range.threads.1))
+
 -- a link to one of so many centres is behind a door to all of them
 link_behind : (n : ℕ) (door : DoorView) (link : Option Connection) → door.centres ≡ n → IsLinkWithin n link → IfSome link (λ link. IsBehind door link.centre)
 link_behind n door None count within = tt
 link_behind n door (Some link) count within = (within.0, omega (arith, within.1, count))
 
 -- a phase is begun with what its calls gave, where so many centres are counted as another number says
-abbrev pub begun_of : (scene : Scene) (old : Table) (seen : List CentreTrail) (from : ℕ) (parts : Parts) (cast : Cast) → IsCastOf scene.script.now.n scene.script.now.clients parts cast → from ≡ scene.script.now.n → IsInRange scene.script.now → IsPhase (header_of scene.script.now) scene.section.now → IsDealt scene.script.now.clients scene.section.now.steps scene.dealt.now → IsTableOf scene.script.now old → AreLinked scene.script.now old
+abbrev pub begun_of : (scene : Scene) (old : Table) (seen : List CentreTrail) (from : ℕ) (parts : Parts) (cast : Cast) → IsCastOf scene.script.now.n scene.script.now.clients parts cast → from ≡ scene.script.now.n → IsInRange scene.script.now → IsPhase (header_of scene.script.now) scene.section.now → IsDealt scene.script.now.clients scene.section.now.steps scene.dealt.now → IsTableOf scene.script.now old → AreLinked scene.script.now old → AreNumbered scene.script.now old
     → seen ≡ old.door.centres → AllZip IsHostOf seen scene.hosts.now.hosts → scene.hosts.now.callers ≡ 1 + scene.script.now.clients + 4 * from → AreFor (1 + scene.script.now.clients + 4 * from) scene.hosts.now.hosts → rows_of parts.rows.items ≡ new_rows scene.hosts.now.hosts 1 (1 + scene.script.now.clients + 4 * from)
     → length scene.links.now ≡ scene.script.now.n → AreGiverRows scene.links.now (ends_of parts.givers.items) → AreTakerRows scene.links.now (ends_of parts.takers.items) → ((from to : ℕ) → put_between (ends_of parts.givers.items) from to ≡ []) → ((from to : ℕ) → taken_between (ends_of parts.takers.items) from to ≡ []) → AreInlets old.posts scene.script.now.n parts.inlets.items
-    → parts.logs.items ≡ old.logs.items → parts.stubs.items ≡ old.stubs.items → IsPhaseBegun scene old
-begun_of scene old seen from parts cast cast_is same range phase dealt table linked centres opened callers each rows links givers takers put taken lent logs stubs =
+    → parts.logs.items ≡ old.logs.items → parts.stubs.items ≡ old.stubs.items → scene.taps.now ≡ old.taps.items
+    → (threads : ℕ) (feeders : List FeederView) (readers : List (Vec ShowsView)) → threads ≡ min scene.script.now.clients scene.script.now.threads → AreOpenFor scene.script.now.n threads scene.taps.now feeders readers → IsPhaseBegun scene old
+begun_of scene old seen from parts cast cast_is same range phase dealt table linked own centres opened callers each rows links givers takers put taken lent logs stubs taps threads feeders readers many all_open =
     let count : 1 + scene.script.now.clients + 4 * from ≡ actors_of scene.script.now = ap (λ k. 1 + scene.script.now.clients + 4 * k) same in
     record {
       range = range;
@@ -88,6 +97,7 @@ begun_of scene old seen from parts cast cast_is same range phase dealt table lin
       dealt = dealt;
       table = table;
       linked = linked;
+      numbered = own;
       opened = subst (λ centres. AllZip IsHostOf centres scene.hosts.now.hosts) centres opened;
       callers = callers ∙ count;
       each = subst (λ k. AreFor k scene.hosts.now.hosts) count each;
@@ -103,6 +113,12 @@ begun_of scene old seen from parts cast cast_is same range phase dealt table lin
       lent = lent;
       cast = cast;
       cast_is = cast_is;
+      taps_are = taps;
+      threads = threads;
+      threads_are = many;
+      feeders = feeders;
+      rows = readers;
+      taps_open = all_open;
     }
 
 -- there is a row of passes for each actor
@@ -165,6 +181,7 @@ module _ (scene : Scene) (old : Table) (b : IsPhaseBegun scene old) where
       let count : length player.caller.row.items ≡ scene.script.now.n = ap length (begins_new (client + 1) player.caller (omega arith) stands) ∙ (length-map scene.hosts.now.hosts _ ∙ hosts_count) in
       record {
         client = subst (IsCount scene.script.now.clients) (sym number) range;
+        own = sym (ap (λ (c : Progress). c.client.client) come) ∙ (b.numbered client range ∙ sym number);
         caller = caller_is (client + 1) player.caller (client_acts scene.script.now client range) stands;
         linked = link_behind scene.script.now.n (seen_by player.caller).door player.stub.client.link count link;
       }
@@ -183,4 +200,14 @@ module _ (scene : Scene) (old : Table) (b : IsPhaseBegun scene old) where
         let count = count_of (λ (c : Crew). c.centre) b.cast.crews.items scene.script.now.n b.cast_is.crews.numbers in
         let place : at.0 ≡ at.0 + 1 - 1 = omega arith in
         crew_is (at.0 + 1) crew (omega arith, omega (arith, slice_get_within b.cast.crews.items at.0 crew at.1, count)) (subst (λ k. slice_get b.cast.crews.items k ≡ Some crew) place at.1));
+  }
+
+  -- its taps
+  pub is_open : AreOpen scene b.cast b.feeders b.rows
+  is_open = record {
+    feeders_are = feeders_open scene.script.now.n b.threads scene.taps.now b.feeders b.rows b.taps_open;
+    rows_are = rows_open scene.script.now.n b.threads scene.taps.now b.feeders b.rows b.taps_open;
+    number =
+        let count = count_of (λ (p : Player). p.client) b.cast.clients.items scene.script.now.clients b.cast_is.numbers in
+        rows_many scene.script.now.n b.threads scene.taps.now b.feeders b.rows b.taps_open ∙ (b.threads_are ∙ ap (λ many. min many scene.script.now.threads) (sym count));
   }

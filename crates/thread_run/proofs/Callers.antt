@@ -2,6 +2,7 @@
 use Rattle.std.proofs.Common.{◌≡◌, ℕ, zero, suc, ◌+◌, ◌-◌, ◌*◌, ◌≤◌, List, [], ◌∷◌, ◌++◌, map, length, Some, refl, sym, ap, ◌∙◌, subst, append_assoc, arith}
 use Rattle.std.specs.Prelude.{slice_get, flat_map}
 use Rattle.std.specs.List.{AllZip}
+use Rattle.std.specs.Global.{Vec}
 use Rattle.std.proofs.lemmas.List.{map-append, length-map}
 use Rattle.std.proofs.lemmas.Option.{none-some, same_Some}
 use Rattle.list_core.proofs.Gets.{get_in_front}
@@ -15,14 +16,15 @@ use Rattle.script_core.specs.declared.rounds.Role.{Role}
 use Rattle.script_core.specs.declared.rounds.Role.TheVariants.{Sender, Receiver, Reporter, Pruner}
 use Rattle.script_core.specs.Rounds.{worker_of}
 use Rattle.run_sections.specs.Orders.{deeds_of}
+use Rattle.read_tap.specs.Shows.{ShowsView, FeederView}
 use Rattle.phase_actors.specs.declared.callers.Caller.{Caller}
 use Rattle.phase_actors.specs.declared.receivers.ReceiverEnd.{ReceiverEnd}
 use Rattle.phase_play.specs.declared.crews.Crew.{Crew}
 use Rattle.phase_actors.specs.declared.clients.Player.{Player}
 use Rattle.phase_actors.specs.declared.scene.Scene.{Scene}
 use Rattle.phase_actors.specs.Playing.{Acted, seen_by, IsSameCaller}
-use Rattle.phase_actors.specs.Actors.{HasSent, HasReceived, HasClosed, HasOperated, HasReported, HasPruned, HasTakenSteps}
-use Rattle.phase_play.specs.Casts.{HasCrewPlayed}
+use Rattle.phase_actors.specs.Actors.{HasSent, HasReceived, HasClosed, HasOperated, HasReported, HasPruned}
+use Rattle.phase_play.specs.Casts.{HasCrewPlayed, HasTakenStepsBy}
 use Rattle.thread_run.specs.Casts.{crew_callers, callers_among, HasCrewClosed}
 use Rattle.thread_run.proofs.Zips.{zip_append, zip_map, zip_flat, zip_then, get_image, get_behind}
 
@@ -133,22 +135,22 @@ module _ (scene : Scene) (givers : List (List (GiverView Sent))) where
   crew_acted old new done = (worker_acted Sender old new done, (worker_acted Receiver old new done, (worker_acted Reporter old new done, (worker_acted Pruner old new done, tt))))
 
 -- a client acted
-abbrev pub player_acted : (scene : Scene) (old new : Player) → HasTakenSteps scene old new → HasActed old.caller new.caller
-player_acted scene old new taken = record { mine = taken.plays.plays.mine; same = taken.same; acted = taken.plays.plays.acted }
+abbrev pub player_acted : (scene : Scene) (rows : List (Vec ShowsView)) (old new : Player) → HasTakenStepsBy scene rows old new → HasActed old.caller new.caller
+player_acted scene rows old new by = record { mine = by.taken.plays.plays.mine; same = by.taken.same; acted = by.taken.plays.plays.acted }
 
 -- the operator acted
-abbrev pub operator_acted : (scene : Scene) (old new : Caller) → HasOperated scene old new → HasActed old new
-operator_acted scene old new operated = record { mine = operated.plays.mine; same = operated.same; acted = operated.plays.acted }
+abbrev pub operator_acted : (scene : Scene) (old : Caller) (feeders : List FeederView) (new : Caller) (later : List FeederView) → HasOperated scene old feeders new later → HasActed old new
+operator_acted scene old feeders new later operated = record { mine = operated.plays.mine; same = operated.same; acted = operated.plays.acted }
 
 -- the workers of all centres acted
 pub crews_done : (scene : Scene) (givers : List (List (GiverView Sent))) (before played closed : List Crew) → AllZip (HasCrewPlayed scene) before played → AllZip (HasCrewClosed scene givers) played closed → AllZip (HasCrewDone scene givers) before closed
 crews_done scene givers before played closed first later = zip_then (HasCrewPlayed scene) (HasCrewClosed scene givers) (HasCrewDone scene givers) before played closed (crew_done scene givers) first later
 
 -- so did all
-pub all_acted : (scene : Scene) (givers : List (List (GiverView Sent))) (operator : Caller) (players : List Player) (crews : List Crew) (operator' : Caller) (players' : List Player) (crews' : List Crew) → HasOperated scene operator operator' → AllZip (HasTakenSteps scene) players players' → AllZip (HasCrewDone scene givers) crews crews' → AllZip HasActed (callers_among operator players crews) (callers_among operator' players' crews')
-all_acted scene givers operator players crews operator' players' crews' operated taken done = (
-  operator_acted scene operator operator' operated,
+pub all_acted : (scene : Scene) (givers : List (List (GiverView Sent))) (feeders later : List FeederView) (rows : List (Vec ShowsView)) (operator : Caller) (players : List Player) (crews : List Crew) (operator' : Caller) (players' : List Player) (crews' : List Crew) → HasOperated scene operator feeders operator' later → AllZip (HasTakenStepsBy scene rows) players players' → AllZip (HasCrewDone scene givers) crews crews' → AllZip HasActed (callers_among operator players crews) (callers_among operator' players' crews')
+all_acted scene givers feeders later rows operator players crews operator' players' crews' operated taken done = (
+  operator_acted scene operator feeders operator' later operated,
   zip_append HasActed (map (λ (p : Player). p.caller) players) (flat_map crew_callers crews) (map (λ (p : Player). p.caller) players') (flat_map crew_callers crews')
-      (zip_map (HasTakenSteps scene) HasActed (λ (p : Player). p.caller) (λ (p : Player). p.caller) players players' (player_acted scene) taken)
+      (zip_map (HasTakenStepsBy scene rows) HasActed (λ (p : Player). p.caller) (λ (p : Player). p.caller) players players' (player_acted scene rows) taken)
       (zip_flat (HasCrewDone scene givers) HasActed crew_callers crew_callers crews crews' (crew_acted scene givers) done),
 )

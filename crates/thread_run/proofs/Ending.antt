@@ -20,8 +20,9 @@ use Rattle.phase_play.specs.declared.crews.Crew.{Crew}
 use Rattle.phase_actors.specs.declared.clients.Player.{Player}
 use Rattle.phase_actors.specs.declared.scene.Scene.{Scene}
 use Rattle.phase_play.specs.declared.threads.Cast.{Cast}
-use Rattle.phase_actors.specs.Actors.{IsSenderOf, IsReceiverOf, HasTakenSteps}
-use Rattle.phase_play.specs.Casts.{IsCrewOf, HasCrewPlayed, HaveAllPlayed}
+use Rattle.read_tap.specs.Shows.{ShowsView, FeederView}
+use Rattle.phase_actors.specs.Actors.{IsSenderOf, IsReceiverOf}
+use Rattle.phase_play.specs.Casts.{IsCrewOf, HasCrewPlayed, HasTakenStepsBy, HaveAllPlayed}
 use Rattle.phase_actors.proofs.Passing.{caller_stays}
 use Rattle.thread_run.proofs.Zips.{zip_same}
 use Rattle.thread_run.proofs.Callers.{HasCrewDone}
@@ -29,6 +30,8 @@ use Rattle.thread_run.proofs.Redeeming.{rows_stay, as_many, all_kept}
 use Rattle.thread_run.proofs.Carrying.{row_there}
 use Rattle.thread_run.proofs.Playing.{IsPhaseBegun, IsPhaseRun, count_of, centres_count, before, behind, done, did, put_then, crew_of}
 use Rattle.thread_run.proofs.Beginning.{is_cast}
+use Rattle.thread_run.proofs.PhaseTaps.{rows_behind}
+use Rattle.thread_run.specs.Taps.{row_lists, AreReadsOf}
 
 -- what holds of elements holds so of their partners
 all_partners : {X Y : Type 0} (R : X → Y → Type 0) (P : X → Type 0) (Q : Y → Type 0) (xs : List X) (ys : List Y) → ((x : X) (y : Y) → P x → R x y → Q y) → All P xs → AllZip R xs ys → All Q ys
@@ -39,7 +42,7 @@ all_partners R P Q (x ∷ xs) (y ∷ ys) each all z = All-cons Q y ys (each x y 
 
 -- ---- behind the threads
 
-module _ (scene : Scene) (old : Table) (b : IsPhaseBegun scene old) (acted : Cast) (played : HaveAllPlayed scene b.cast acted) where
+module _ (scene : Scene) (old : Table) (b : IsPhaseBegun scene old) (acted : Cast) (fed : List FeederView) (seen : List (Vec ShowsView)) (played : HaveAllPlayed scene b.cast b.feeders b.rows acted fed seen) where
   -- the workers are still those of the scene
   pub crews_are : All (IsCrewOf scene) acted.crews.items
   crews_are = all_partners (HasCrewPlayed scene) (IsCrewOf scene) (IsCrewOf scene) b.cast.crews.items acted.crews.items still (is_cast scene old b).crews played.crews
@@ -59,7 +62,11 @@ module _ (scene : Scene) (old : Table) (b : IsPhaseBegun scene old) (acted : Cas
 
   -- and the clients are the same
   pub clients_are : map (λ (p : Player). p.client) acted.clients.items ≡ range_with_len 1 scene.script.now.clients
-  clients_are = zip_same (HasTakenSteps scene) (λ (p : Player). p.client) (λ (p : Player). p.client) b.cast.clients.items acted.clients.items (λ x y did. did.plays.client) played.clients ∙ b.cast_is.numbers
+  clients_are = zip_same (HasTakenStepsBy scene seen) (λ (p : Player). p.client) (λ (p : Player). p.client) b.cast.clients.items acted.clients.items (λ x y did. did.taken.plays.client) played.clients ∙ b.cast_is.numbers
+
+  -- each reader is still one of its feeder's tap
+  pub readers_are : All (AreReadsOf fed) (row_lists seen)
+  readers_are = rows_behind scene.script.now.n b.threads scene.taps.now b.feeders b.rows b.taps_open fed seen played.operator.fed played.rows_read
 
 -- ---- behind the closing rounds
 

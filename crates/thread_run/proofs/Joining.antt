@@ -53,9 +53,9 @@ use Rattle.run_table.proofs.Reading.{new_trails, new_settings, new_notes, new_ac
 use Rattle.run_table.proofs.Numbered.{get_below}
 use Rattle.run_sections.specs.Apart.{AreApart, StandsAt, IsBookWith, notes_then, trails_then}
 use Rattle.run_sections.specs.Orders.{deeds_of, InOrder, ClientGoes, intake}
-use Rattle.run_sections.specs.Taps.{OneLooks, OneFeeds, taps_behind}
+use Rattle.run_sections.proofs.Tapping.{taps_alike}
 use Rattle.run_sections.specs.Runs.{no_sections, IsSectionRunOf}
-use Rattle.run_sections.specs.Sections.{actors_of, Between, first_between, Left, PlaysTaps, PlaysSection, linked}
+use Rattle.run_sections.specs.Sections.{actors_of, Between, first_between, Left, PlaysSection, linked}
 use Rattle.run_sections.proofs.Actors.{client_acts, carrier_acts}
 use Rattle.run_sections.proofs.Fits.{fits_apart}
 use Rattle.run_sections.proofs.Reaching.{client_sound, operator_sound, link_there}
@@ -63,7 +63,9 @@ use Rattle.run_sections.proofs.Orders.{sections_more}
 use Rattle.run_sections.proofs.Sectioning.{none_apart, none_stands, section_apart}
 use Rattle.run_steps.proofs.Who.{behind_who}
 use Rattle.thread_run.specs.Played.{AreAlike, HasRun}
-use Rattle.thread_run.specs.Tables.{notes_at, between_of, AreLinked, AreNumbered, IsTableOf, HasPlayed}
+use Rattle.thread_run.specs.Tables.{notes_at, between_of, AreLinked, AreNumbered, AreWide, IsTableOf, HasPlayed}
+use Rattle.thread_run.specs.Taps.{IsWide}
+use Rattle.thread_run.proofs.Wide.{wide_sections, wide_first}
 use Rattle.thread_run.proofs.Taking.{centres_many, come_at}
 
 -- ---- the trails of a table
@@ -120,49 +122,6 @@ module _ (script : Script) (notes other : ℕ → List Note) (same : (a : ℕ) �
 alike_itself : (script : Script) (here : Between) → AreAlike script here here
 alike_itself script here = record { come = λ client range. refl; inlets = λ from to f t. refl; taps = λ i range. refl }
 
--- ---- taps that show the same
-
-module _ (script : Script) (one two : ℕ → TapState) (alike : (i : ℕ) → IsCount script.n i → one i ≡ two i) where
-  -- a look sees the same
-  look_alike : (client : ℕ) (step : ClientStep) (deeds : List Deed) → IsStep script.n step → LooksSo two client step deeds → LooksSo one client step deeds
-  look_alike client (Look centre object) deeds is looked = subst (λ (tap : TapState). deeds ≡ looks client centre object (seen_through tap object)) (sym (alike centre is.0)) looked
-  look_alike client step deeds is looked = tt
-
-  -- a feed asks for the same
-  feed_alike : (step : OperatorStep) (deeds : List Deed) → IsOperatorStep script.n step → FeedsSo two step deeds → FeedsSo one step deeds
-  feed_alike (Feed centre) deeds is fed = subst (λ (tap : TapState). FeedDeeds centre tap.objects deeds) (sym (alike centre is)) fed
-  feed_alike step deeds is fed = tt
-
-  -- so does the one look of a client
-  looks_alike : (client : ℕ) (steps : List ClientStep) (deeds : List Deed) → ((step : ClientStep) → In step steps → IsStep script.n step) → OneLooks two client steps deeds → OneLooks one client steps deeds
-  looks_alike client [] deeds each looked = tt
-  looks_alike client (step ∷ []) deeds each looked = look_alike client step deeds (each step (inl refl)) looked
-  looks_alike client (step ∷ next ∷ rest) deeds each looked = tt
-
-  -- and the one feed of the operator
-  feeds_alike : (steps : List OperatorStep) (deeds : List Deed) → ((step : OperatorStep) → In step steps → IsOperatorStep script.n step) → OneFeeds two steps deeds → OneFeeds one steps deeds
-  feeds_alike [] deeds each fed = tt
-  feeds_alike (step ∷ []) deeds each fed = feed_alike step deeds (each step (inl refl)) fed
-  feeds_alike (step ∷ next ∷ rest) deeds each fed = tt
-
-  -- behind one step they show the same
-  step_alike : (step : OperatorStep) (deeds : List Deed) (i : ℕ) → IsCount script.n i → taps_then step deeds one i ≡ taps_then step deeds two i
-  step_alike (Feed centre) deeds i range = ap (λ (tap : TapState). cond (i == centre) (fed_tap (show_in deeds) tap) tap) (alike i range)
-  step_alike step deeds i range = alike i range
-
-  behind_alike : (steps : List OperatorStep) (deeds : List Deed) (i : ℕ) → IsCount script.n i → taps_behind steps deeds one i ≡ taps_behind steps deeds two i
-  behind_alike [] deeds i range = alike i range
-  behind_alike (step ∷ []) deeds i range = step_alike step deeds i range
-  behind_alike (step ∷ next ∷ rest) deeds i range = alike i range
-
--- what a section has to do with taps is the same from there on
-taps_alike : (script : Script) (section : Section) (one two new : Between) (left : Left) → IsSection (header_of script) section → AreAlike script one two → PlaysTaps script section two left new → PlaysTaps script section one left new
-taps_alike script section one two new left sound alike plays = record {
-  looks = λ client range line. looks_alike script one.taps two.taps alike.taps client (client_steps client section) (deeds_of (left.notes (client + 1))) (client_sound script section sound client) (plays.looks client range line);
-  feeds = λ line. feeds_alike script one.taps two.taps alike.taps (operator_steps section) (deeds_of (left.notes 1)) (operator_sound script section sound) (plays.feeds line);
-  behind = λ i range. plays.behind i range ∙ sym (λ k. cond section.phase (alike.taps i range k) (behind_alike script one.taps two.taps alike.taps (operator_steps section) (deeds_of (left.notes 1)) i range k));
-}
-
 -- a section that was played from there on
 plays_alike : (script : Script) (number : ℕ) (section : Section) (one two new : Between) (left : Left) → IsSection (header_of script) section → AreAlike script one two → PlaysSection script number section two left new → PlaysSection script number section one left new
 plays_alike script number section one two new left sound alike plays = record {
@@ -181,7 +140,7 @@ plays_alike script number section one two new left sound alike plays = record {
       };
   reporters = plays.reporters;
   pruners = plays.pruners;
-  taps = taps_alike script section one two new left sound alike plays.taps;
+  taps = taps_alike script number section one two new left sound (λ i range. sym (alike.taps i range)) plays.taps;
   callers = plays.callers;
   paired = plays.paired;
 }
@@ -275,6 +234,10 @@ module _ (script : Script) (front : List Section) (table : Table) (run : HasRun 
   -- each client has its own number
   pub run_numbered : AreNumbered script table
   run_numbered client range = ap (λ (s : Client). s.client) (run.stands.clients client range) ∙ behind_who (new_client script.n client script.cache) (notes_at table (client + 1))
+
+  -- each tap shows a state of each of its objects
+  pub run_wide : AreWide script table
+  run_wide i range = subst IsWide (run.alike.taps i range) (wide_sections script 1 (first_between script) run.last front run.lefts i range run.plays (wide_first script i))
 
   -- one section more was played
   pub run_more : (number : ℕ) (section : Section) (new : Table) → number ≡ 1 + length front → IsSection (header_of script) section → HasPlayed script number section table new → HasRun script (front ++ section ∷ []) new

@@ -13,3 +13,5 @@ pub mod Halving
 pub mod Alone
 pub mod Taking
 pub mod Joining
+pub mod PhaseTaps
+pub mod Wide

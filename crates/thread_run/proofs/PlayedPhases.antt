@@ -1,8 +1,10 @@
 -- A phase that was played with threads was played as a section.
-use Rattle.std.proofs.Common.{◌≡◌, ℕ, suc, ◌+◌, ◌-◌, ◌≤◌, ◌<◌, ◌==◌, ⊎_elim, Bool, true, false, cond, List, [], ◌++◌, length, drop, Some, None, refl, sym, ap, ◌∙◌, subst, arith}
+use Rattle.std.proofs.Common.{◌≡◌, ℕ, zero, suc, ◌+◌, ◌-◌, ◌≤◌, ◌<◌, ◌==◌, ⊎_elim, Bool, true, false, cond, List, [], ◌∷◌, ◌++◌, length, drop, Some, None, refl, sym, ap, ◌∙◌, subst, arith}
+use Rattle.std.specs.Prelude.{All}
 use Rattle.std.proofs.lemmas.Bool.{cases_lt, eq-eqb, false≢true}
 use Rattle.std.proofs.lemmas.Option.{same_Some}
 use Rattle.std.proofs.lemmas.List.{length-map}
+use Rattle.std.proofs.lemmas.Slice.Zip.{AllZip-long}
 use Rattle.list_core.specs.Members.{In}
 use Rattle.list_core.proofs.Gets.{get_within, all_get}
 use Rattle.list_core.proofs.Members.{In_right, In_from_map}
@@ -23,16 +25,16 @@ use Rattle.dc_host.specs.HostDoors.{CentreHost, CentrePass}
 use Rattle.dc_host.specs.Hosts.{rows_of, new_rows, column}
 use Rattle.dc_door.specs.KeptDoors.{trail_at, settings_of}
 use Rattle.dc_host.proofs.Passes.{zip_long}
-use Rattle.script_core.specs.declared.taps.TapState.{TapState}
+use Rattle.script_core.specs.declared.taps.Show.{Show}
 use Rattle.script_core.specs.declared.rounds.Role.TheVariants.{Sender}
 use Rattle.script_core.specs.Steps.{IsCount}
 use Rattle.script_core.specs.Rounds.{worker_of}
 use Rattle.run_book.specs.Parts.{entries_by, exchanged}
 use Rattle.run_book.specs.Happenings.{GoesToOneOf}
-use Rattle.run_book.specs.Moves.{operator_steps}
+use Rattle.run_book.specs.Moves.{client_steps, operator_steps}
 use Rattle.run_book.proofs.Happenings.WorkerRounds.{worker_carries, sender_go}
-use Rattle.run_sections.specs.Orders.{deeds_of, SenderGoes}
-use Rattle.run_sections.specs.Taps.{taps_behind}
+use Rattle.run_sections.specs.Orders.{deeds_of, InOrder, SenderGoes}
+use Rattle.run_sections.specs.Taps.{shows_at, FeedGoes, LookGoes, Looks, tap_behind}
 use Rattle.run_sections.specs.Sections.{PlaysTaps, PlaysSection, actors_of, rounds_in}
 use Rattle.run_sections.proofs.Actors.{carrier_acts}
 use Rattle.run_sections.proofs.InTurn.{order_each, deed_holds}
@@ -43,13 +45,19 @@ use Rattle.run_table.proofs.Framing.{mailed_framed, trail_fit}
 use Rattle.phase_actors.specs.declared.callers.Caller.{Caller}
 use Rattle.phase_actors.specs.declared.clients.Player.{Player}
 use Rattle.phase_actors.specs.declared.scene.Scene.{Scene}
+use Rattle.read_tap.specs.Shows.{IsFront, ShowsView}
+use Rattle.phase_actors.specs.Taps.{shows_read, shows_kept, HasFed}
+use Rattle.phase_actors.proofs.Reading.{looks_more}
+use Rattle.phase_actors.proofs.Feeders.{kept_grows}
+use Rattle.thread_run.specs.Taps.{row_lists, AreFrontsOf}
+use Rattle.thread_run.proofs.PhaseTaps.{opened_few, kept_one, kept_first, rows_behind, closed_fronts, closed_taps, row_fronts}
 use Rattle.thread_run.specs.Tables.{notes_at, between_of, IsTableOf, HasPlayed}
 use Rattle.thread_run.proofs.Joining.{trail_past}
 use Rattle.thread_run.proofs.Zips.{zip_get, drop_front}
 use Rattle.thread_run.proofs.Callers.{Stands, HasActed}
 use Rattle.thread_run.proofs.Redeeming.{rows_in, calls_noted, calls_paired, called_within, HasGrown, grown, trail_grown, all_histories, same_settings}
-use Rattle.thread_run.proofs.Playing.{IsPhasePlayed, left_between, count_of, centres_count, callers_count, before, behind, did, log_before, log_behind, notes_grown, left_is}
-use Rattle.thread_run.proofs.Sectioning.{AreMailsFramed, operator_plays, senders_play, receivers_play, reporters_play, pruners_play, clients_play, clients_allowed}
+use Rattle.thread_run.proofs.Playing.{IsPhasePlayed, left_between, count_of, centres_count, callers_count, before, behind, did, log_before, log_behind, notes_grown, left_is, player_of, operator_left, player_left}
+use Rattle.thread_run.proofs.Sectioning.{AreMailsFramed, feeds_in, operator_plays, senders_play, receivers_play, reporters_play, pruners_play, clients_play, clients_allowed}
 
 module _ (scene : Scene) (old new : Table) (h : IsPhasePlayed scene old new) where
   -- ---- an actor
@@ -156,15 +164,63 @@ module _ (scene : Scene) (old new : Table) (h : IsPhasePlayed scene old new) whe
         ap (λ (log : Logged). log.actor) (log_behind scene old new h a c.last range.0 c.is) ∙ (c.acted.same.0 ∙ c.actor);
   }
 
-  -- the taps stay
-  taps_then : PlaysTaps scene.script.now scene.section.now (between_of scene.script.now old) (left_between old new) (between_of scene.script.now new)
-  taps_then = record {
-    looks = λ client range none. absurd (false≢true (sym none ∙ h.run.begun.phase.phase));
-    feeds = λ none. absurd (false≢true (sym none ∙ h.run.begun.phase.phase));
-    behind = λ i range.
-        let fed : TapState = taps_behind (operator_steps scene.section.now) (deeds_of ((left_between old new).notes 1)) (taps_of old.taps.items) i in
-        ap (λ taps. taps_of taps i) h.taps_stay ∙ sym (ap (λ (phase : Bool). cond phase (taps_of old.taps.items i) fed) h.run.begun.phase.phase);
-  }
+  -- ---- the taps
+
+  -- what the feeders keep at first is what the taps show
+  first_shows : shows_kept scene.taps.now h.run.begun.feeders ≡ shows_at (taps_of old.taps.items)
+  first_shows = kept_first scene.script.now.n h.run.begun.threads scene.taps.now h.run.begun.feeders h.run.begun.rows h.run.begun.taps_open ∙ ap (λ taps. shows_at (taps_of taps)) h.run.begun.taps_are
+
+  -- no more taps were opened than there are
+  fed_few : length h.run.fed ≤ length old.taps.items
+  fed_few =
+      let first = opened_few scene.script.now.n h.run.begun.threads scene.taps.now h.run.begun.feeders h.run.begun.rows h.run.begun.taps_open in
+      omega (arith, first, AllZip-long HasFed h.run.begun.feeders h.run.fed h.run.played.operator.fed, ap length h.run.begun.taps_are)
+
+  -- each reader has seen the first shows of its feeder
+  seen_fronts : All (AreFrontsOf h.run.fed) (row_lists h.run.seen)
+  seen_fronts = closed_fronts old.taps.items h.run.fed (row_lists h.run.seen) new.taps.items fed_few
+      (rows_behind scene.script.now.n h.run.begun.threads scene.taps.now h.run.begun.feeders h.run.begun.rows h.run.begun.taps_open h.run.fed h.run.seen h.run.played.operator.fed h.run.played.rows_read) h.taps_closed
+
+  -- so has each row of them
+  row_seen : (row : List ShowsView) → In row ([] ∷ row_lists h.run.seen) → (centre : ℕ) → IsFront (shows_read scene.taps.now row centre) (shows_kept scene.taps.now h.run.fed centre)
+  row_seen row there = row_fronts scene.taps.now h.run.fed h.run.seen row
+      (λ centre. subst (λ shows. IsFront shows (shows_kept scene.taps.now h.run.fed centre)) (kept_one scene.script.now.n h.run.begun.threads scene.taps.now h.run.begun.feeders h.run.begun.rows h.run.begun.taps_open centre) (kept_grows scene.taps.now h.run.begun.feeders h.run.fed h.run.played.operator.fed centre))
+      seen_fronts there
+
+  -- the operator fed the taps
+  feeds_then : InOrder (FeedGoes (taps_of old.taps.items)) scene.number 1 (shows_at (taps_of old.taps.items)) (operator_steps scene.section.now) ((left_between old new).notes 1) (shows_kept scene.taps.now h.run.fed)
+  feeds_then =
+      let last : ℕ → List Show = shows_kept scene.taps.now h.run.fed in
+      let steps = operator_steps scene.section.now in
+      subst (λ notes. InOrder (FeedGoes (taps_of old.taps.items)) scene.number 1 (shows_at (taps_of old.taps.items)) steps notes last) (sym (operator_left scene old new h))
+      (subst (λ shows. InOrder (FeedGoes (taps_of old.taps.items)) scene.number 1 shows steps h.run.played.operator.plays.mine last) first_shows
+      (subst (λ taps. InOrder (FeedGoes (taps_of taps)) scene.number 1 (shows_kept scene.taps.now h.run.begun.feeders) steps h.run.played.operator.plays.mine last) h.run.begun.taps_are
+      (feeds_in scene.taps.now scene.script.now.n scene.number 1 (shows_kept scene.taps.now h.run.begun.feeders) last steps h.run.played.operator.plays.mine h.run.played.operator.plays.order)))
+
+  -- each client looked at their shows
+  looks_then : (client : ℕ) → IsCount scene.script.now.clients client → Looks (taps_of old.taps.items) (shows_kept scene.taps.now h.run.fed) client scene.number (client_steps client scene.section.now) ((left_between old new).notes (client + 1))
+  looks_then client range =
+      let p = player_of scene old h.run client range in
+      let shows : ℕ → List Show = shows_kept scene.taps.now h.run.fed in
+      let plays = p.by.taken.plays in
+      let own = looks_more (taps_of scene.taps.now) (shows_read scene.taps.now p.by.row) shows p.player.client scene.number 1 (row_seen p.by.row p.by.there) (λ centre. 0) plays.last (client_steps p.player.client scene.section.now) plays.plays.mine plays.looks in
+      record {
+        last = plays.last;
+        order =
+            subst (λ notes. InOrder (LookGoes (taps_of old.taps.items) shows client) scene.number 1 (λ centre. 0) (client_steps client scene.section.now) notes plays.last) (sym (player_left scene old new h client range))
+            (subst (λ c. InOrder (LookGoes (taps_of old.taps.items) shows c) scene.number 1 (λ centre. 0) (client_steps c scene.section.now) plays.plays.mine plays.last) p.number
+            (subst (λ taps. InOrder (LookGoes (taps_of taps) shows p.player.client) scene.number 1 (λ centre. 0) (client_steps p.player.client scene.section.now) plays.plays.mine plays.last) h.run.begun.taps_are own));
+      }
+
+  -- and each tap shows the last of its shows then
+  behind_then : (i : ℕ) → IsCount scene.script.now.n i → taps_of new.taps.items i ≡ tap_behind (taps_of old.taps.items i) (shows_kept scene.taps.now h.run.fed i)
+  behind_then zero range = absurd (omega (arith, range.0))
+  behind_then (suc place) range =
+      closed_taps old.taps.items h.run.fed (row_lists h.run.seen) new.taps.items fed_few h.taps_closed place
+      ∙ ap (λ taps. tap_behind (taps_of old.taps.items (suc place)) (shows_kept taps h.run.fed (suc place))) (sym h.run.begun.taps_are)
+
+  taps_then : PlaysTaps scene.script.now scene.number scene.section.now (between_of scene.script.now old) (left_between old new) (between_of scene.script.now new)
+  taps_then = record { shows = shows_kept scene.taps.now h.run.fed; feeds = feeds_then; looks = looks_then; behind = behind_then }
 
   -- ---- what the senders mailed
 

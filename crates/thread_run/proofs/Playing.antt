@@ -1,7 +1,8 @@
 -- A phase that was played with threads, as a section.
 use Rattle.std.proofs.Common.{◌≡◌, ℕ, suc, ◌+◌, ◌-◌, ◌≤◌, ◌<◌, List, [], ◌++◌, map, length, drop, Some, refl, sym, ap, ◌∙◌, subst, arith}
-use Rattle.std.specs.Prelude.{slice_get}
+use Rattle.std.specs.Prelude.{slice_get, min}
 use Rattle.std.specs.List.{AllZip, range_with_len}
+use Rattle.std.specs.Global.{Vec}
 use Rattle.std.proofs.lemmas.List.{length-map}
 use Rattle.std.proofs.lemmas.List.FromFn.{length-range_with_len, length-map-range_with_len, get_or-range_with_len}
 use Rattle.std.proofs.lemmas.Option.{same_Some, slice_get-get_or, get_or_from_slice_get}
@@ -29,12 +30,13 @@ use Rattle.phase_play.specs.declared.crews.Crew.{Crew}
 use Rattle.phase_actors.specs.declared.clients.Player.{Player}
 use Rattle.phase_actors.specs.declared.scene.Scene.{Scene}
 use Rattle.phase_play.specs.declared.threads.Cast.{Cast}
-use Rattle.phase_actors.specs.Actors.{HasTakenSteps}
-use Rattle.phase_play.specs.Casts.{HaveAllPlayed}
+use Rattle.read_tap.specs.Shows.{ShowsView, FeederView}
+use Rattle.phase_play.specs.Casts.{HasTakenStepsBy, HaveAllPlayed}
 use Rattle.thread_run.specs.declared.parts.Parts.{Parts}
 use Rattle.thread_run.specs.Casts.{callers_among, IsCastOf, HaveParted}
 use Rattle.thread_run.specs.Lending.{AreInlets, HaveInlets}
-use Rattle.thread_run.specs.Tables.{notes_at, IsTableOf, AreLinked}
+use Rattle.thread_run.specs.Tables.{notes_at, IsTableOf, AreLinked, AreNumbered}
+use Rattle.thread_run.specs.Taps.{row_lists, AreOpenFor, HaveClosed}
 use Rattle.thread_run.proofs.Zips.{zip_get, get_image, drop_front}
 use Rattle.thread_run.proofs.Callers.{Stands, caller_as, player_stands, worker_stands, HasActed, HasCrewDone, worker_acted, player_acted, operator_acted, crews_done, all_acted}
 
@@ -45,6 +47,7 @@ pub record IsPhaseBegun (scene : Scene) (old : Table) : Type 0 where
   pub dealt : IsDealt scene.script.now.clients scene.section.now.steps scene.dealt.now
   pub table : IsTableOf scene.script.now old
   pub linked : AreLinked scene.script.now old
+  pub numbered : AreNumbered scene.script.now old
   pub opened : AllZip IsHostOf old.door.centres scene.hosts.now.hosts
   pub callers : scene.hosts.now.callers ≡ actors_of scene.script.now
   pub each : AreFor (actors_of scene.script.now) scene.hosts.now.hosts
@@ -60,12 +63,20 @@ pub record IsPhaseBegun (scene : Scene) (old : Table) : Type 0 where
   pub lent : AreInlets old.posts scene.script.now.n parts.inlets.items
   pub cast : Cast
   pub cast_is : IsCastOf scene.script.now.n scene.script.now.clients parts cast
+  pub taps_are : scene.taps.now ≡ old.taps.items
+  pub threads : ℕ
+  pub threads_are : threads ≡ min scene.script.now.clients scene.script.now.threads
+  pub feeders : List FeederView
+  pub rows : List (Vec ShowsView)
+  pub taps_open : AreOpenFor scene.script.now.n threads scene.taps.now feeders rows
 
 -- they did their parts, and were taken apart
 pub record IsPhaseRun (scene : Scene) (old : Table) : Type 0 where
   pub begun : IsPhaseBegun scene old
   pub acted : Cast
-  pub played : HaveAllPlayed scene begun.cast acted
+  pub fed : List FeederView
+  pub seen : List (Vec ShowsView)
+  pub played : HaveAllPlayed scene begun.cast begun.feeders begun.rows acted fed seen
   pub later : Parts
   pub parted : HaveParted scene scene.script.now.n scene.script.now.clients acted later
 
@@ -79,7 +90,7 @@ pub record IsPhasePlayed (scene : Scene) (old new : Table) : Type 0 where
   pub door_is : new.door.centres ≡ all_seen kept
   pub stubs_new : new.stubs.items ≡ run.later.stubs.items
   pub logs_new : new.logs.items ≡ run.later.logs.items
-  pub taps_stay : new.taps.items ≡ old.taps.items
+  pub taps_closed : HaveClosed old.taps.items run.fed (row_lists run.seen) new.taps.items
 
 -- what stands in one table behind what stood in the other
 unfoldable pub left_between : Table → Table → Left
@@ -141,7 +152,7 @@ module _ (scene : Scene) (old : Table) (run : IsPhaseRun scene old) where
 
   -- each actor acted
   pub did : AllZip HasActed (before scene old run.begun) behind
-  did = all_acted scene put_then run.begun.cast.operator run.begun.cast.clients.items run.begun.cast.crews.items run.acted.operator run.acted.clients.items run.parted.closed run.played.operator run.played.clients done
+  did = all_acted scene put_then run.begun.feeders run.fed run.seen run.begun.cast.operator run.begun.cast.clients.items run.begun.cast.crews.items run.acted.operator run.acted.clients.items run.parted.closed run.played.operator run.played.clients done
 
   -- the workers of a centre
   pub record HasCrew (i : ℕ) : Type 0 where
@@ -174,21 +185,21 @@ module _ (scene : Scene) (old : Table) (run : IsPhaseRun scene old) where
     pub number : player.client ≡ client
     pub later : Player
     pub is : slice_get run.acted.clients.items (client - 1) ≡ Some later
-    pub taken : HasTakenSteps scene player later
+    pub by : HasTakenStepsBy scene run.seen player later
 
   -- each client plays
   pub player_of : (client : ℕ) → IsCount scene.script.now.clients client → HasPlayer client
   player_of client range =
       let count = count_of (λ (p : Player). p.client) run.begun.cast.clients.items scene.script.now.clients run.begun.cast_is.numbers in
       let player = get_within run.begun.cast.clients.items (client - 1) (omega (arith, range.0, range.1, count)) in
-      let pair = zip_get (HasTakenSteps scene) run.begun.cast.clients.items run.acted.clients.items (client - 1) player.0 run.played.clients player.1 in
+      let pair = zip_get (HasTakenStepsBy scene run.seen) run.begun.cast.clients.items run.acted.clients.items (client - 1) player.0 run.played.clients player.1 in
       record {
         player = player.0;
         there = player.1;
         number = numbered (λ (p : Player). p.client) run.begun.cast.clients.items scene.script.now.clients client player.0 run.begun.cast_is.numbers range player.1;
         later = pair.partner;
         is = pair.there;
-        taken = pair.related;
+        by = pair.related;
       }
 
 module _ (scene : Scene) (old new : Table) (h : IsPhasePlayed scene old new) where
@@ -211,13 +222,13 @@ module _ (scene : Scene) (old new : Table) (h : IsPhasePlayed scene old new) whe
 
   -- so it is of the operator, of each client and of each worker
   pub operator_left : (left_between old new).notes 1 ≡ h.run.played.operator.plays.mine
-  operator_left = left_is 1 h.run.begun.cast.operator h.run.acted.operator (operator_acted scene h.run.begun.cast.operator h.run.acted.operator h.run.played.operator) (omega arith) refl refl
+  operator_left = left_is 1 h.run.begun.cast.operator h.run.acted.operator (operator_acted scene h.run.begun.cast.operator h.run.begun.feeders h.run.acted.operator h.run.fed h.run.played.operator) (omega arith) refl refl
 
   -- of a client
-  pub player_left : (client : ℕ) → (range : IsCount scene.script.now.clients client) → (left_between old new).notes (client + 1) ≡ (player_of scene old h.run client range).taken.plays.plays.mine
+  pub player_left : (client : ℕ) → (range : IsCount scene.script.now.clients client) → (left_between old new).notes (client + 1) ≡ (player_of scene old h.run client range).by.taken.plays.plays.mine
   player_left client range =
       let p = player_of scene old h.run client range in
-      left_is (client + 1) p.player.caller p.later.caller (player_acted scene p.player p.later p.taken) (omega arith)
+      left_is (client + 1) p.player.caller p.later.caller (player_acted scene h.run.seen p.player p.later p.by) (omega arith)
       (player_stands h.run.begun.cast.operator h.run.begun.cast.clients.items h.run.begun.cast.crews.items client p.player range.0 p.there)
       (player_stands h.run.acted.operator h.run.acted.clients.items h.run.parted.closed client p.later range.0 p.is)
 

@@ -1,5 +1,5 @@
 -- What a phase that was played with threads left, as a section.
-use Rattle.std.proofs.Common.{◌≡◌, ◌≢◌, ℕ, ◌+◌, ◌-◌, Bool, cond, List, [], ◌++◌, length, Some, sym, ap, ◌∙◌, subst, arith}
+use Rattle.std.proofs.Common.{◌≡◌, ◌≢◌, ℕ, ◌+◌, ◌-◌, Bool, cond, List, [], ◌∷◌, ◌++◌, length, Some, sym, ap, ◌∙◌, subst, arith}
 use Rattle.std.specs.Prelude.{slice_get, unwrap_or}
 use Rattle.std.specs.Option.{option_map}
 use Rattle.std.specs.List.{range_with_len}
@@ -8,6 +8,9 @@ use Rattle.dc_talk.specs.Logs.{Logged}
 use Rattle.dc_links.specs.Links.{rows_of as ends_of, put_to, put_between, taken_from, taken_between, inlet_from}
 use Rattle.dc_mail.specs.Posts.{post_at}
 use Rattle.script_core.specs.declared.rounds.Role.TheVariants.{Sender, Receiver, Reporter, Pruner}
+use Rattle.script_core.specs.declared.taps.Show.{Show}
+use Rattle.script_core.specs.declared.taps.TapState.{TapState}
+use Rattle.script_core.specs.declared.steps.OperatorStep.{OperatorStep}
 use Rattle.script_core.specs.Deeds.{Progress}
 use Rattle.script_core.specs.Steps.{IsCount}
 use Rattle.link_frames.specs.Frames.{framed}
@@ -19,25 +22,41 @@ use Rattle.run_book.specs.Played.{new_progress}
 use Rattle.run_table.specs.declared.table.Table.{Table}
 use Rattle.run_table.specs.Framing.{AreFramed}
 use Rattle.run_table.specs.Tables.{log_at}
-use Rattle.run_sections.specs.Orders.{deeds_of, InOrder, ClientGoes, OperatorGoes, SenderGoes, ReporterGoes, PrunerGoes, ReceiverGoes, intake}
+use Rattle.run_sections.specs.Taps.{FeedGoes}
+use Rattle.run_sections.specs.Orders.{deeds_of, InOrder, none_left, one_first, ClientGoes, OperatorGoes, SenderGoes, ReporterGoes, PrunerGoes, ReceiverGoes, intake}
 use Rattle.run_sections.specs.Sections.{rounds_in, receipts_in, linked, mail_left, Receives}
 use Rattle.phase_play.specs.declared.crews.Crew.{Crew}
 use Rattle.phase_actors.specs.declared.clients.Player.{Player}
 use Rattle.phase_actors.specs.declared.scene.Scene.{Scene}
 use Rattle.phase_actors.specs.Clients.{seat_of, seated, come_to}
-use Rattle.phase_actors.specs.Workers.{intakes_of, receiving}
+use Rattle.run_table.specs.Taps.{taps_of}
+use Rattle.phase_actors.specs.Taps.{shows_kept}
+use Rattle.phase_actors.specs.Workers.{OrderGoes, intakes_of, receiving}
+use Rattle.phase_actors.proofs.Reading.{order_as}
 use Rattle.thread_run.specs.Tables.{notes_at, come_of, between_of}
 use Rattle.thread_run.proofs.Zips.{get_image}
 use Rattle.thread_run.proofs.Callers.{player_stands}
 use Rattle.thread_run.proofs.Carrying.{receiver_order, none_set, row_there}
 use Rattle.thread_run.proofs.Playing.{IsPhasePlayed, left_between, put_then, crew_of, player_of, log_before, log_behind, operator_left, player_left, worker_left}
 
+-- ---- the operator's steps and its feeds
+
+-- its steps by themselves
+orders_in : (taps : List TapState) (n section step : ℕ) (shows last : ℕ → List Show) (steps : List OperatorStep) (notes : List Note) → InOrder (OrderGoes taps n) section step shows steps notes last → InOrder (OperatorGoes n) section step tt steps notes tt
+orders_in taps n section step shows last [] notes none_left = none_left
+orders_in taps n section step shows last (does ∷ steps) notes (one_first next mine later whole at goes rest) = one_first tt mine later whole at goes.orders (orders_in taps n section (step + 1) next last steps later rest)
+
+-- its feeds by themselves
+pub feeds_in : (taps : List TapState) (n section step : ℕ) (shows last : ℕ → List Show) (steps : List OperatorStep) (notes : List Note) → InOrder (OrderGoes taps n) section step shows steps notes last → InOrder (FeedGoes (taps_of taps)) section step shows steps notes last
+feeds_in taps n section step shows last steps notes order = order_as (OrderGoes taps n) (FeedGoes (taps_of taps)) section (λ s next step does mine goes. goes.feeds) step shows last steps notes order
+
 module _ (scene : Scene) (old new : Table) (h : IsPhasePlayed scene old new) where
   -- ---- the operator and the workers that keep nothing in mind
 
   -- the operator took its steps
   pub operator_plays : InOrder (OperatorGoes scene.script.now.n) scene.number 1 tt (operator_steps scene.section.now) ((left_between old new).notes 1) tt
-  operator_plays = subst (λ notes. InOrder (OperatorGoes scene.script.now.n) scene.number 1 tt (operator_steps scene.section.now) notes tt) (sym (operator_left scene old new h)) h.run.played.operator.plays.order
+  operator_plays = subst (λ notes. InOrder (OperatorGoes scene.script.now.n) scene.number 1 tt (operator_steps scene.section.now) notes tt) (sym (operator_left scene old new h))
+      (orders_in scene.taps.now scene.script.now.n scene.number 1 (shows_kept scene.taps.now h.run.begun.feeders) (shows_kept scene.taps.now h.run.fed) (operator_steps scene.section.now) h.run.played.operator.plays.mine h.run.played.operator.plays.order)
 
   -- the rounds of a worker of centre i, which has this number
   rounds_play : (Does : ℕ → Unit {0} → ℕ → ℕ → List Note → Unit {0} → Type 0) (i centre a : ℕ) (mine : List Note) → centre ≡ i → (left_between old new).notes a ≡ mine → InOrder (Does centre) scene.number 1 tt (range_with_len 1 scene.script.now.rounds) mine tt → InOrder (Does i) scene.number 1 tt (rounds_in scene.script.now scene.section.now) ((left_between old new).notes a) tt
@@ -133,11 +152,11 @@ module _ (scene : Scene) (old new : Table) (h : IsPhasePlayed scene old new) whe
   pub clients_play : (client : ℕ) → IsCount scene.script.now.clients client → InOrder ClientGoes scene.number 1 ((between_of scene.script.now old).come client) (client_steps client scene.section.now) ((left_between old new).notes (client + 1)) ((between_of scene.script.now new).come client)
   clients_play client range =
       let p = player_of scene old h.run client range in
-      let mine : List Note = p.taken.plays.plays.mine in
+      let mine : List Note = p.by.taken.plays.plays.mine in
       subst (λ (first : Progress). InOrder ClientGoes scene.number 1 first (client_steps client scene.section.now) ((left_between old new).notes (client + 1)) ((between_of scene.script.now new).come client)) (sym (come_before client range))
       (subst (λ (last : Progress). InOrder ClientGoes scene.number 1 (come_to (seated (seat_of p.player))) (client_steps client scene.section.now) ((left_between old new).notes (client + 1)) last) (sym (come_behind client range))
       (subst (λ notes. InOrder ClientGoes scene.number 1 (come_to (seated (seat_of p.player))) (client_steps client scene.section.now) notes (come_to (seated (seat_of p.later)))) (sym (player_left scene old new h client range))
-      (subst (λ c. InOrder ClientGoes scene.number 1 (come_to (seated (seat_of p.player))) (client_steps c scene.section.now) mine (come_to (seated (seat_of p.later)))) p.number p.taken.plays.plays.order)))
+      (subst (λ c. InOrder ClientGoes scene.number 1 (come_to (seated (seat_of p.player))) (client_steps c scene.section.now) mine (come_to (seated (seat_of p.later)))) p.number p.by.taken.plays.plays.order)))
 
   -- each step as the session rule allows
   pub clients_allowed : (client : ℕ) → IsCount scene.script.now.clients client → ClientDoes ((between_of scene.script.now old).come client).client (notes_at old (client + 1)) ((left_between old new).notes (client + 1))
@@ -146,4 +165,4 @@ module _ (scene : Scene) (old new : Table) (h : IsPhasePlayed scene old new) whe
       let log : log_at old.logs.items (client + 1) ≡ p.player.caller.log = log_before scene old h.run.begun (client + 1) p.player.caller (omega arith) (player_stands h.run.begun.cast.operator h.run.begun.cast.clients.items h.run.begun.cast.crews.items client p.player range.0 p.there) in
       subst (λ (first : Progress). ClientDoes first.client (notes_at old (client + 1)) ((left_between old new).notes (client + 1))) (sym (come_before client range))
       (subst (λ (log : Logged). ClientDoes p.player.stub.client log.notes ((left_between old new).notes (client + 1))) (sym log)
-      (subst (λ notes. ClientDoes p.player.stub.client p.player.caller.log.notes notes) (sym (player_left scene old new h client range)) p.taken.plays.allowed))
+      (subst (λ notes. ClientDoes p.player.stub.client p.player.caller.log.notes notes) (sym (player_left scene old new h client range)) p.by.taken.plays.allowed))

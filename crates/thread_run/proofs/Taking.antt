@@ -1,6 +1,6 @@
 -- A step of a client or of the operator, as a section of its own.
 use Rattle.std.proofs.Common.{◌≡◌, ◌≢◌, ⊎_elim, ℕ, ◌+◌, ◌-◌, Bool, true, false, cond, fold, List, [], ◌∷◌, ◌++◌, map, length, Option, Some, None, refl, sym, ap, ◌∙◌, subst, arith}
-use Rattle.std.specs.Prelude.{slice_get, slice_set, IfSome, Result, OnOk, unwrap_or, ◌==◌, ◌&&◌}
+use Rattle.std.specs.Prelude.{All, slice_get, slice_set, IfSome, Result, OnOk, unwrap_or, ◌==◌, ◌&&◌}
 use Rattle.std.specs.Option.{option_map}
 use Rattle.std.specs.List.{cons_option}
 use Rattle.std.proofs.lemmas.Bool.{cases_eq, eq-eqb, ne_eqb}
@@ -41,7 +41,7 @@ use Rattle.client_stub.specs.Playing.{StubView, IsLinkBehind}
 use Rattle.run_book.specs.Setups.{setup_of, settings_among}
 use Rattle.run_book.specs.Happenings.{ClientDoes, IsLinkWithin}
 use Rattle.run_book.specs.Moves.{client_steps, operator_does}
-use Rattle.run_book.specs.Played.{new_progress, post_after}
+use Rattle.run_book.specs.Played.{IsAt, new_progress, post_after}
 use Rattle.run_book.proofs.Happenings.Entries.{deeds_marked}
 use Rattle.run_book.proofs.Happenings.Playing.{all_at}
 use Rattle.run_table.specs.declared.table.Table.{Table}
@@ -50,7 +50,7 @@ use Rattle.run_table.specs.Taps.{taps_of}
 use Rattle.run_table.proofs.Allowing.{allows_does}
 use Rattle.run_sections.specs.Orders.{deeds_of, InOrder, ClientGoes, OperatorGoes}
 use Rattle.run_sections.specs.Sections.{actors_of, Left, PlaysTaps, linked}
-use Rattle.run_sections.specs.Taps.{OneLooks}
+use Rattle.run_sections.proofs.Tapping.{look_taps, feed_taps}
 use Rattle.thread_run.specs.Tables.{notes_at, come_of, between_of, AreLinked, AreNumbered, IsTableOf, HasPlayed}
 use Rattle.thread_run.proofs.Alone.{order_none, order_one, turn_in, notes_of_deeds, left_alone, HasDoneAlone, left_own, left_none, alone_notes, line_played}
 
@@ -142,31 +142,20 @@ module _ (script : Script) (number client : ℕ) (step : ClientStep) (old new : 
       none (come_same script old new other stubs notes)
 
   -- it looks at what the taps show, where it does so
-  sees : (other : ℕ) → OneLooks (between_of script old).taps other (client_steps other (section_of (ByClient client step))) (deeds_of (theirs.notes (other + 1)))
-  sees other = ⊎_elim own none (cases_eq other client)
-    where
-      -- the client's own step
-      own : other ≡ client → OneLooks (between_of script old).taps other (client_steps other (section_of (ByClient client step))) (deeds_of (theirs.notes (other + 1)))
-      own same =
-          let mine : h.stub.client.client ≡ client = sym (ap (λ (p : Progress). p.client.client) (come_at script old client h.stub there)) ∙ numbered client range in
-          let looked : LooksSo (taps_of old.taps.items) client step (deeds_of (theirs.notes (client + 1))) =
-          subst (λ notes. LooksSo (taps_of old.taps.items) client step (deeds_of notes)) (sym (left_own script number (client + 1) done old new is acts alone))
-          (subst (LooksSo (taps_of old.taps.items) client step) (sym (deeds_marked number 1 done))
-          (subst (λ c. LooksSo (taps_of old.taps.items) c step done) mine h.looks)) in
-          subst (λ c. OneLooks (between_of script old).taps c (client_steps c (section_of (ByClient client step))) (deeds_of (theirs.notes (c + 1)))) (sym same)
-          (subst (λ steps. OneLooks (taps_of old.taps.items) client steps (deeds_of (theirs.notes (client + 1)))) (sym (ap (λ test. cons_option (when test step) []) (eq-eqb client client refl))) looked)
-
-      -- another one has none
-      none : other ≢ client → OneLooks (between_of script old).taps other (client_steps other (section_of (ByClient client step))) (deeds_of (theirs.notes (other + 1)))
-      none differs = subst (λ steps. OneLooks (taps_of old.taps.items) other steps (deeds_of (theirs.notes (other + 1)))) (sym (ap (λ test. cons_option (when test step) []) (ne_eqb client other (λ same. differs (sym same))))) tt
+  looked : LooksSo (taps_of old.taps.items) client step (deeds_of (theirs.notes (client + 1)))
+  looked =
+      let mine : h.stub.client.client ≡ client = sym (ap (λ (p : Progress). p.client.client) (come_at script old client h.stub there)) ∙ numbered client range in
+      subst (λ notes. LooksSo (taps_of old.taps.items) client step (deeds_of notes)) (sym (left_own script number (client + 1) done old new is acts alone))
+      (subst (LooksSo (taps_of old.taps.items) client step) (sym (deeds_marked number 1 done))
+      (subst (λ c. LooksSo (taps_of old.taps.items) c step done) mine h.looks))
 
   -- the taps stay
-  leaves_taps : PlaysTaps script (section_of (ByClient client step)) (between_of script old) theirs (between_of script new)
-  leaves_taps = record {
-    looks = λ other high line. sees other;
-    feeds = λ line. tt;
-    behind = λ i among. ap (λ taps. taps_of taps i) h.taps;
-  }
+  leaves_taps : PlaysTaps script number (section_of (ByClient client step)) (between_of script old) theirs (between_of script new)
+  leaves_taps = look_taps script number (between_of script old) theirs (between_of script new) client step
+      (left_none script number (client + 1) done old new is acts alone 1 (λ same. omega (arith, same, range.0)))
+      (λ other high differs. left_none script number (client + 1) done old new is acts alone (other + 1) (λ same. differs (omega (arith, same))))
+      (subst (All (IsAt number 1)) (sym (left_own script number (client + 1) done old new is acts alone)) (all_at number 1 done))
+      looked (λ i among. ap (λ taps. taps_of taps i) h.taps)
 
   allowed_own : ClientDoes ((between_of script old).come client).client (notes_at old (client + 1)) (theirs.notes (client + 1))
   allowed_own =
@@ -237,12 +226,11 @@ module _ (script : Script) (number : ℕ) (step : OperatorStep) (old new : Table
   its_deeds = ap deeds_of (left_own script number 1 ordered old new is it_acts it_alone) ∙ deeds_marked number 1 ordered
 
   -- the taps show what it fed
-  feeds_taps : PlaysTaps script (section_of (ByOperator step)) (between_of script old) its (between_of script new)
-  feeds_taps = record {
-    looks = λ client range line. tt;
-    feeds = λ line. subst (FeedsSo (taps_of old.taps.items) step) (sym its_deeds) h.feeds;
-    behind = λ i range. h.taps i ∙ ap (λ deeds. taps_then step deeds (taps_of old.taps.items) i) (sym its_deeds);
-  }
+  feeds_taps : PlaysTaps script number (section_of (ByOperator step)) (between_of script old) its (between_of script new)
+  feeds_taps = feed_taps script number (between_of script old) its (between_of script new) step client_none
+      (subst (All (IsAt number 1)) (sym (left_own script number 1 ordered old new is it_acts it_alone)) (all_at number 1 ordered))
+      (subst (FeedsSo (taps_of old.taps.items) step) (sym its_deeds) h.feeds)
+      (λ i range. h.taps i ∙ ap (λ deeds. taps_then step deeds (taps_of old.taps.items) i) (sym its_deeds))
 
   -- its step was played
   pub order_line : HasPlayed script number (section_of (ByOperator step)) old new

@@ -3,3 +3,4 @@ pub mod Closing
 pub mod Lending
 pub mod Tables
 pub mod Played
+pub mod Taps

@@ -17,6 +17,7 @@ use Rattle.run_table.specs.declared.table.Table.{Table}
 use Rattle.run_table.specs.Tables.{log_at, AreHistories}
 use Rattle.run_table.specs.Taps.{taps_of}
 use Rattle.run_sections.specs.Sections.{Between, Left, PlaysSection, actors_of}
+use Rattle.thread_run.specs.Taps.{IsWide}
 
 -- the notes of an actor
 abbrev pub notes_at : Table → ℕ → List Note
@@ -37,6 +38,10 @@ between_of script table = record {
 -- each client is linked to no centre, or to one that there is
 abbrev pub AreLinked : Script → Table → Type 0
 AreLinked script table = (client : ℕ) → IsCount script.clients client → IsLinkWithin script.n ((between_of script table).come client).client.link
+
+-- each tap shows a state of each of its objects
+abbrev pub AreWide : Script → Table → Type 0
+AreWide script table = (i : ℕ) → IsCount script.n i → IsWide (taps_of table.taps.items i)
 
 -- each client has its own number
 abbrev pub AreNumbered : Script → Table → Type 0

@@ -7,5 +7,6 @@ mod lending;
 mod parts;
 mod phases;
 mod sections;
+mod tapping;
 
 pub use sections::run;

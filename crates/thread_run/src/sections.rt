@@ -6,7 +6,7 @@ ghost use Rattle.script_core.specs.Scripts.{header_of, IsInRange};
 ghost use Rattle.script_core.specs.Steps.{IsStepOf};
 ghost use Rattle.run_sections.specs.Apart.{IsBookWith};
 ghost use Rattle.run_sections.specs.Runs.{IsSectionRunOf};
-ghost use Rattle.thread_run.specs.Tables.{notes_at, IsTableOf, AreLinked, AreNumbered, HasPlayed};
+ghost use Rattle.thread_run.specs.Tables.{notes_at, IsTableOf, AreLinked, AreNumbered, AreWide, HasPlayed};
 ghost use Rattle.thread_run.specs.Played.{HasRun};
 
 use crate::phases::play_phase;
@@ -80,6 +80,7 @@ fn play_section<R: Threads + Wait + Sync, G: Gate>(
     requires table { IsTableOf script.now table }
     requires linked { AreLinked script.now table }
     requires numbered { AreNumbered script.now table }
+    requires wide { AreWide script.now table }
     ensures { IfOk result (HasPlayed script.now number section.now table) }
 {
     if section.phase {

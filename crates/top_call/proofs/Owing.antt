@@ -9,7 +9,12 @@ use Rattle.script_reader.specs.declared.fault.Cause.{Cause}
 use Rattle.script_reader.specs.declared.fault.ScriptFault.TheVariants.{Refused as RefusedAt}
 use Rattle.script_core.specs.declared.script.Script.{Script}
 use Rattle.script_reader.specs.Scripts.{script_read}
+use Rattle.script_core.specs.Scripts.{IsInRange}
 use Rattle.script_reader.proofs.CutOff.{cut_off, past_is_none}
+use Rattle.script_reader.proofs.ScriptRanges.{script_in_range}
+use Rattle.load_maker.specs.Made.{made_script}
+use Rattle.run_laws.proofs.SectionLooks.{section_looks}
+use Rattle.run_laws.proofs.TurnLooks.{turn_looks}
 use Rattle.run_book.specs.Fit.{FitsWith}
 use Rattle.run_book.specs.Setups.{setup_of}
 use Rattle.run_book.proofs.Causal.Theorem.{causal as book_causal}
@@ -21,7 +26,7 @@ use Rattle.top_call.specs.declared.engine.Owed.{Owed}
 use Rattle.top_call.specs.declared.input.Task.{Task}
 use Rattle.top_call.specs.declared.input.Task.TheVariants.{Play, Refuse}
 use Rattle.top_call.specs.declared.ending.Ended.{Ended}
-use Rattle.top_call.specs.Runs.{Given, AsksThreads, IsAnswerable, IsAsked, IsBookOf, IsDone, IsFitAndCausal, IsRefusedFor, IsOwed, IsPlay, IsRead, IsScriptIn, IsServed, IsTask, IsTaskIn, IsTaskOf, IsThreaded, IsToPlay, Played, Made, Told, Done, Refused, Misused, IsPlayed, IsSomeScript, IsStatus, EndsSo, HasText, Plays, Reads, Wrote, empty_book, given_form, told_text}
+use Rattle.top_call.specs.Runs.{Given, AsksThreads, IsAnswerable, IsAsked, IsBookOf, IsDone, IsFitAndCausal, IsRefusedFor, IsOwed, IsPlay, IsRead, IsScriptIn, IsServed, IsTask, IsTaskIn, IsTaskOf, IsThreaded, IsToPlay, Played, Made, Told, Done, Refused, Misused, IsPlayed, IsSomeScript, IsStatus, EndsSo, HasText, Plays, Reads, Wrote, ShowsBy, empty_book, given_form, told_text}
 use Rattle.command_line.specs.declared.form.Form.{Form}
 use Rattle.command_line.specs.declared.form.Form.TheVariants.{Run, Serial, Journal, Make, Load, Help, Version}
 use Rattle.command_line.specs.Forms.{IsForm, spelled}
@@ -377,6 +382,26 @@ record WasPlayed (given : Given) (ended : Ended) (form : Form) : Type 0 where
   run : IsBookOf form script ended.book
   causal : IsFitAndCausal script ended.book
 
+-- the numbers of a script that a form plays are in range
+asked_range : (form : Form) (left : Option (List ℕ)) (script : Script) → IsAsked form left script → IsInRange script
+asked_range (Run trail) left script is = script_in_range is.bytes script (sym is.spelled)
+asked_range (Serial trail) left script is = script_in_range is.bytes script (sym is.spelled)
+asked_range Journal left script is = script_in_range is.bytes script (sym is.spelled)
+asked_range (Load num) left script is = script_in_range (made_script num) script (sym is)
+asked_range (Make num) left script is = absurd is
+asked_range Help left script is = absurd is
+asked_range Version left script is = absurd is
+
+-- the looks of the book that it leaves show what they are to show
+looks_by : (form : Form) (script : Script) (book : Book) → IsInRange script → IsBookOf form script book → ShowsBy form script book
+looks_by (Run trail) script book range run = section_looks script book range run.steps
+looks_by (Serial trail) script book range run = turn_looks script book range run.steps
+looks_by Journal script book range run = turn_looks script book range run.steps
+looks_by (Load num) script book range run = section_looks script book range run.steps
+looks_by (Make num) script book range run = absurd run
+looks_by Help script book range run = absurd run
+looks_by Version script book range run = absurd run
+
 module _ (given : Given) (ended : Ended) (taken : Option (List ℕ)) (ends : EndsSo given ended taken) (zero : ended.status ≡ 0) (play : Plays given.words) where
   -- where a script was to be played and the run ended well, it was played
   was_played : WasPlayed given ended play.asked
@@ -404,6 +429,10 @@ module _ (given : Given) (ended : Ended) (taken : Option (List ℕ)) (ends : End
   -- it is one that the form leaves of the script
   pub ends_run : IsSomeAnd ended.script (λ script. IsBookOf play.asked script ended.book)
   ends_run = subst (λ kept. IsSomeAnd kept (λ script. IsBookOf play.asked script ended.book)) (sym was_played.kept) was_played.run
+
+  -- its looks show shows of the taps
+  pub ends_taps : IsSomeAnd ended.script (λ script. ShowsBy play.asked script ended.book)
+  ends_taps = subst (λ kept. IsSomeAnd kept (λ script. ShowsBy play.asked script ended.book)) (sym was_played.kept) (looks_by play.asked was_played.script ended.book (asked_range play.asked given.left was_played.script was_played.input) was_played.run)
 
   -- which is the one that is asked for
   pub ends_input : IsSomeAnd ended.script (IsAsked play.asked given.left)

@@ -27,6 +27,7 @@ use Rattle.load_text.specs.LastReads.{load_text}
 use Rattle.load_maker.specs.Made.{made_script}
 use Rattle.run_sections.specs.Runs.{IsSectionRunOf}
 use Rattle.run_sections.specs.OneThread.{IsRunOf}
+use Rattle.run_laws.specs.Looks.{ShowsTaps, ShowsLast}
 use Rattle.top_call.specs.declared.engine.Fault.{Fault}
 use Rattle.top_call.specs.declared.engine.Owed.{Owed}
 use Rattle.top_call.specs.declared.input.Task.{Task}
@@ -114,6 +115,15 @@ IsBookOf (Serial trail) script book = IsRunOf script book
 IsBookOf Journal script book = IsRunOf script book
 IsBookOf (Load num) script book = IsSectionRunOf script book
 IsBookOf _ script book = ⊥
+
+-- what the looks of a book that a form leaves of a script show: in a run section by section shows of their centres in order, and
+-- on one thread the last one in front of each
+abbrev pub ShowsBy : Form → Script → Book → Type 0
+ShowsBy (Run trail) script book = ShowsTaps script book
+ShowsBy (Serial trail) script book = ShowsLast script book
+ShowsBy Journal script book = ShowsLast script book
+ShowsBy (Load num) script book = ShowsTaps script book
+ShowsBy _ script book = ⊥
 
 -- what words are answered with that ask for neither a script nor an input: help and the version
 abbrev pub told_text : Form → Option (List ℕ)

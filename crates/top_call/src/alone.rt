@@ -2,7 +2,7 @@
 ghost use Rattle.std.specs.Prelude.{◌≡◌, ◌≢◌, ◌⊎◌, ℕ, List, Option, None, [], Err, IfOk, IfSome, IsSomeAnd};
 ghost use Rattle.command_line.specs.Forms.{IsForm, spelled};
 ghost use Rattle.io_edge.specs.Streams.{HasRisen};
-ghost use Rattle.top_call.specs.Runs.{AsksThreads, EndsSo, Given, IsAnswerable, IsAsked, IsBookOf, IsDone, IsFitAndCausal, IsOwed, IsRead, IsRefusal, IsStatus, IsThreaded, IsUsage, Plays, Reads, Wrote, WroteFront, WroteNothing, WroteShort, given_by, texts};
+ghost use Rattle.top_call.specs.Runs.{AsksThreads, EndsSo, Given, IsAnswerable, IsAsked, IsBookOf, IsDone, IsFitAndCausal, IsOwed, IsRead, IsRefusal, IsStatus, IsThreaded, IsUsage, Plays, Reads, ShowsBy, Wrote, WroteFront, WroteNothing, WroteShort, given_by, texts};
 
 use crate::ending::{Ended, ended_empty, write_owed};
 use crate::engine::{Owed, answer, played, refusal, usage};
@@ -150,6 +150,7 @@ pub fn swift_alone<S: Source, W: Sink, G: Progress>(
     ensures unread { (Reads (texts words.now) → ⊥) → S.left source.new ≡ S.left source.old }
     ensures causal { result.status ≡ 0 → Plays (texts words.now) → IsSomeAnd result.script (λ script. IsFitAndCausal script result.book) }
     ensures run { result.status ≡ 0 → (play : Plays (texts words.now)) → IsSomeAnd result.script (λ script. IsBookOf play.asked script result.book) }
+    ensures taps { result.status ≡ 0 → (play : Plays (texts words.now)) → IsSomeAnd result.script (λ script. ShowsBy play.asked script result.book) }
     ensures input { result.status ≡ 0 → (play : Plays (texts words.now)) → IsSomeAnd result.script (IsAsked play.asked (S.left source.old)) }
     ensures words { result.status ≡ 2 → Wrote IsUsage (given_by words.now (S.left source.old) (W.taken sink.old)) result (W.taken sink.new) }
     ensures refused { result.status ≡ 3 → Wrote IsRefusal (given_by words.now (S.left source.old) (W.taken sink.old)) result (W.taken sink.new) }

@@ -1,7 +1,7 @@
 // The top call.
 ghost use Rattle.std.specs.Prelude.{◌≡◌, ◌≢◌, ◌⊎◌, None, [], IfSome, IsSomeAnd};
 ghost use Rattle.io_edge.specs.Streams.{HasRisen};
-ghost use Rattle.top_call.specs.Runs.{IsAnswerable, IsAsked, IsBookOf, IsDone, IsFitAndCausal, IsRefusal, IsStatus, IsUsage, Plays, Reads, Wrote, WroteFront, WroteNothing, WroteShort, given_by, texts};
+ghost use Rattle.top_call.specs.Runs.{IsAnswerable, IsAsked, IsBookOf, IsDone, IsFitAndCausal, IsRefusal, IsStatus, IsUsage, Plays, Reads, ShowsBy, Wrote, WroteFront, WroteNothing, WroteShort, given_by, texts};
 
 use crate::alone::swift_alone;
 use crate::ending::{Ended, ended_empty};
@@ -62,6 +62,11 @@ pub fn swift_main<R: Threads + Wait + Sync, S: Source, W: Sink, G: Gate + Progre
 
     // The book is one that the form leaves of the script: it has its steps.
     ensures run { result.status ≡ 0 → (play : Plays (texts words.now)) → IsSomeAnd result.script (λ script. IsBookOf play.asked script result.book) }
+
+    // Each line of a look shows one of the shows of the centre's tap: the opening one, or what a feed found. On one thread it
+    // is the last one in front of the line's step. In a phase with threads it is there by the end of the phase, it is no
+    // earlier one than the last of the sections before, and no earlier one than the client's last look there showed.
+    ensures taps { result.status ≡ 0 → (play : Plays (texts words.now)) → IsSomeAnd result.script (λ script. ShowsBy play.asked script result.book) }
 
     // The script is the one that the source had, or for `load` the one that is made of its number.
     ensures input { result.status ≡ 0 → (play : Plays (texts words.now)) → IsSomeAnd result.script (IsAsked play.asked (S.left source.old)) }

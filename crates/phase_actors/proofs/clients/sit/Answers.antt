@@ -11,6 +11,7 @@ returns-clause-is g c =
     let made = c.new-door.ensures in
     record {
       client = is.client;
+      own = is.own;
       centres = door_width c.args.scene.hosts.now.hosts caller c.args.scene.script.now.n c.new-door.result.passes is.caller c.requires.scene.hosts made.passes;
       linked = subst (λ (seen : Acting). IsLinkBehind seen.door c.args.player.stub.client) (sym (seen_before caller c.new-door.result (made.actor ∙ c.actor.ensures) made.passes)) is.linked;
     }

@@ -1,6 +1,6 @@
 use Rattle.std.proofs.Common.{◌≡◌, ◌+◌, refl, subst, arith}
 use Rattle.thread_run.specs.Tables.{HasPlayed}
-use Rattle.thread_run.proofs.Joining.{none_run, run_linked, run_numbered, section_at, run_next}
+use Rattle.thread_run.proofs.Joining.{none_run, run_linked, run_numbered, run_wide, section_at, run_next}
 use Rattle.thread_run.proofs.sections.play_all.Goals as goal
 
 pub sections-init : goal.sections-init
@@ -14,6 +14,9 @@ play_section-requires-clause-linked g c κs within = run_linked c.args.script.no
 
 pub play_section-requires-clause-numbered : goal.play_section-requires-clause-numbered
 play_section-requires-clause-numbered g c κs within = run_numbered c.args.script.now _ c.sections.table c.sections.invariant.run
+
+pub play_section-requires-clause-wide : goal.play_section-requires-clause-wide
+play_section-requires-clause-wide g c κs within = run_wide c.args.script.now _ c.sections.table c.sections.invariant.run
 
 pub sections-preserved : goal.sections-preserved
 sections-preserved g c =

@@ -1,6 +1,6 @@
 use Rattle.std.proofs.Common.{refl, subst}
 use Rattle.top_call.specs.Runs.{IsThreadedForm, given_by, texts}
-use Rattle.top_call.proofs.Owing.{ends_causal, ends_complete, ends_input, ends_run, play_known, read_of, threaded_plays}
+use Rattle.top_call.proofs.Owing.{ends_causal, ends_complete, ends_input, ends_run, ends_taps, play_known, read_of, threaded_plays}
 use Rattle.top_call.proofs.top.swift_main.Goals as goal
 
 pub returns-in-Ok-Some-clause-statuses : goal.returns-in-Ok-Some-clause-statuses
@@ -20,6 +20,9 @@ returns-in-Ok-Some-clause-causal g c = ends_causal _ _ _ (c.run_with_threads.ens
 
 pub returns-in-Ok-Some-clause-run : goal.returns-in-Ok-Some-clause-run
 returns-in-Ok-Some-clause-run g c = ends_run _ _ _ (c.run_with_threads.ensures.ends (given_by c.args.words.now (g.S.Source.left c.args.source.now) (g.W.Sink.taken c.args.sink.now)) (subst (IsThreadedForm (texts c.args.words.now)) c.in-Ok-Some.field-0-is c.in-Ok-Some.ensures).1 refl refl)
+
+pub returns-in-Ok-Some-clause-taps : goal.returns-in-Ok-Some-clause-taps
+returns-in-Ok-Some-clause-taps g c = ends_taps _ _ _ (c.run_with_threads.ensures.ends (given_by c.args.words.now (g.S.Source.left c.args.source.now) (g.W.Sink.taken c.args.sink.now)) (subst (IsThreadedForm (texts c.args.words.now)) c.in-Ok-Some.field-0-is c.in-Ok-Some.ensures).1 refl refl)
 
 pub returns-in-Ok-Some-clause-input : goal.returns-in-Ok-Some-clause-input
 returns-in-Ok-Some-clause-input g c = ends_input _ _ _ (c.run_with_threads.ensures.ends (given_by c.args.words.now (g.S.Source.left c.args.source.now) (g.W.Sink.taken c.args.sink.now)) (subst (IsThreadedForm (texts c.args.words.now)) c.in-Ok-Some.field-0-is c.in-Ok-Some.ensures).1 refl refl)

@@ -1,0 +1,4 @@
+mod Feeds
+mod Sections
+mod Turns
+mod Books
