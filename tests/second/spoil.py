@@ -469,9 +469,9 @@ def steps_exchanged(pick, lines, script):
 
 @kind("an entry of a step behind a phase put into it")
 def into_phase(pick, lines, script):
-    """Of a script that ends with one step of a client behind a phase."""
+    """Of a script that ends with a refresh of a client behind a phase: of a step that asks nothing there is no entry."""
     last = script.sections[-2:]
-    if len(last) < 2 or not last[0].phase or last[1].phase or not last[1].steps[0][0]:
+    if len(last) < 2 or not last[0].phase or last[1].phase or last[1].steps[0][1] != "refresh":
         return None
     found = [entry for entry in entries(lines) if entry[2] == last[1].steps[0][0] + 1]
     place = found[-1][0] if found else None
