@@ -6,6 +6,7 @@ import objects
 from words import Record
 
 MOST_HOPS = 7
+MOST_CHANGES = 64
 MOST_RECORDS = 1000000
 
 
@@ -56,6 +57,14 @@ class Centre:
                 ops += some
         return objects.fold(thing, objects.empty(thing), ops)
 
+    def ops_since(self, thing, before, vector):
+        """The operations on an object of the transactions within the vector, and not within the one before."""
+        ops = []
+        for dot, some in self.acts.get(thing, ()):
+            if self.inside(dot, vector) and not self.inside(dot, before):
+                ops += some
+        return ops
+
     def rows(self):
         return [self.have if place + 1 == self.me else row for place, row in enumerate(self.told)]
 
@@ -97,6 +106,13 @@ class Centre:
     def on_fetch(self, thing, here):
         refusal = lack("lacks", self.have, here) or lack("pruned", here, self.base)
         return refusal or ("object", self.state_at(thing, here))
+
+    def on_delta(self, thing, before, here):
+        refusal = lack("lacks", self.have, here) or lack("pruned", before, self.base)
+        if refusal:
+            return refusal
+        ops = self.ops_since(thing, before, here)
+        return ("changes", ops) if len(ops) <= MOST_CHANGES else ("object", self.state_at(thing, here))
 
     def on_commit(self, tx):
         through = self.through.get(tx.dot[0], 0)

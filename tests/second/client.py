@@ -66,14 +66,27 @@ class Client:
         elif say[0] == "snap":
             return self.hear_snap(centre, *say[1:])
         elif say[0] == "object":
-            self.cache = [entry for entry in self.cache if entry[0] != ask[1]]
-            self.cache = ([(ask[1], ask[2], say[1])] + self.cache)[:self.capacity]
+            self.keep(ask[1], ask[-1], say[1])
+        elif say[0] == "changes":
+            [state] = [state for of, vector, state in self.cache if (of, vector) == ask[1:3]]
+            self.keep(ask[1], ask[-1], objects.fold(ask[1], state, say[1]))
+        elif say[0] == "pruned" and ask[0] == "delta":
+            self.forget(ask[1])
         elif say[0] in ("stamped", "known"):
             through = ask[1].dot[1] if say[0] == "stamped" else say[1]
             self.link = (centre, min(max(self.link[1], through), self.own))
         else:
             return False
         return True
+
+    def forget(self, thing):
+        """Takes what the cache has of an object out of it."""
+        self.cache = [entry for entry in self.cache if entry[0] != thing]
+
+    def keep(self, thing, vector, state):
+        """Puts the state of an object at a vector in front of the cache."""
+        self.forget(thing)
+        self.cache = ([(thing, vector, state)] + self.cache)[:self.capacity]
 
     def hear_snap(self, centre, vector, mine, top):
         self.events.append(("snap", centre, len(self.places[centre])))
@@ -196,15 +209,26 @@ class Client:
                 return (objects.fold(thing, state, ops),)
         return None
 
+    def ask_for(self, thing):
+        """The ask for an object: for what came to it, where the cache has it at an earlier snapshot, and else for its state."""
+        for of, vector, _ in self.cache:
+            if of == thing and vector != self.vector and all(new >= old for new, old in zip(self.vector, vector)):
+                return ("delta", thing, vector, self.vector)
+        return ("fetch", thing, self.vector)
+
     def fetch(self, word, thing, shown=None):
-        """What the client has of an object, which is fetched where it has to be, or None and a line that says why not."""
+        """What the client has of an object, which is fetched where it has to be, or None and a line that says why not.
+
+        Where what came to it is pruned the state is asked for."""
         seen = self.view(thing)
         if seen is not None:
             return seen
         start = f"{word} {shown or thing}"
         if self.link is None:
             return self.say(f"{start} unconnected")
-        say, took = yield from self.ask(self.link[0], ("fetch", thing, self.vector))
+        say, took = yield from self.ask(self.link[0], self.ask_for(thing))
+        if took and say[0] == "pruned":
+            say, took = yield from self.ask(self.link[0], self.ask_for(thing))
         if took:
             return self.view(thing)
         if say[0] == "pruned":

@@ -391,6 +391,10 @@ add_changed("another number of a welcome", ANY + r"(hello welcome )(\d+)",
             lambda pick, line: line[1] + line[2] + more(line[3]))
 add_changed("a fetch of another object", ANY + r"(fetch [crsm]\.)(\w)( .*)",
             lambda pick, line: line[1] + line[2] + ("b" if line[3] == "a" else "a") + line[4])
+add_changed("a delta of another object", ANY + r"(delta [crsm]\.)(\w)( .*)",
+            lambda pick, line: line[1] + line[2] + ("b" if line[3] == "a" else "a") + line[4])
+add_changed("another number of changes", ANY + r"(delta \S+ changes )(\d+)",
+            lambda pick, line: line[1] + line[2] + more(line[3]))
 add_changed("an answer of a stopped centre told as one of a running one", ANY + r"report down",
             lambda pick, line: f"{line[1]}report vector 0,0")
 add_changed("another number of an entry", r"(trail \d+ )(\d+)( .*)",

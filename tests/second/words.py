@@ -25,8 +25,8 @@ def lack_text(word, say):
 def ask_text(ask):
     """An ask as it stands in a trail."""
     word = ask[0]
-    if word == "fetch":
-        return f"fetch {ask[1]}"
+    if word in ("fetch", "delta"):
+        return f"{word} {ask[1]}"
     if word == "commit":
         return f"commit {pair_text(ask[1].dot, '.')}"
     if word == "deliver":
@@ -46,6 +46,7 @@ SAYS = {
     "snap": lambda say: f"snap {vector_text(say[1])} own {say[2]} top {say[3]}",
     "pruned": lambda say: f"pruned {say[1]}:{say[2]} at {say[3]}",
     "object": lambda say: "object",
+    "changes": lambda say: f"changes {len(say[1])}",
     "stamped": lambda say: f"stamped {say[1]}:{say[2]}",
     "records": lambda say: f"records {len(say[1])}",
     "orphan": lambda say: f"orphan {say[1]} has {say[2]}",

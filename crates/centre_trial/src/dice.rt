@@ -153,7 +153,8 @@ impl Dice {
     fn question(&mut self) -> Result<Ask, Fault> {
         let at = self.vector();
         let after = u64::from(self.below(9));
-        Ok(match self.below(6) {
+        let from = Vector::zero(2);
+        Ok(match self.below(7) {
             0 => Ask::Fetch {
                 object: counter("a")?,
                 at,
@@ -164,7 +165,12 @@ impl Dice {
                 need: at,
             },
             3 => Ask::Send { after, most: 9 },
-            4 => Ask::Relay {
+            4 => Ask::Delta {
+                object: counter("a")?,
+                from,
+                at,
+            },
+            5 => Ask::Relay {
                 origin: 1 + self.below(2) as u8,
                 after,
                 most: 9,

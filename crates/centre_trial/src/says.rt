@@ -42,6 +42,7 @@ fn numbers(say: &Say) -> [u64; 4] {
         } => [5, *mine, *top, 0],
         Say::Pruned { centre, base, at } => [6, u64::from(*centre), *base, *at],
         Say::Object { state: _ } => [7, 0, 0, 0],
+        Say::Changes { tail } => [24, tail.as_slice().len() as u64, 0, 0],
         Say::Known { through } => [8, *through, 0, 0],
         Say::OutOfOrder { have } => [9, *have, 0, 0],
         Say::Full { limit } => [10, *limit, 0, 0],

@@ -1,8 +1,8 @@
 -- A table of what is kept of objects, as the list of its entries.
 use Rattle.std.proofs.Common.{◌≡◌, ◌≤◌, ℕ, zero, suc, ◌+◌, ◌-◌, Bool, true, false, cond, List, [], ◌∷◌, length, take, Option, Some, None, refl, sym, ap, ◌∙◌, subst, arith}
-use Rattle.std.specs.Prelude.{slice_get}
+use Rattle.std.specs.Prelude.{is_some, slice_get}
 use Rattle.std.proofs.lemmas.Bool.{false≢true}
-use Rattle.std.specs.Option.{option_map_or}
+use Rattle.std.specs.Option.{option_map, option_map_or}
 use Rattle.std.specs.Map.{keys_of, lookup, lookup_entry, remove_entry}
 use Rattle.std.specs.List.{IsDistinct, AllByRecursion}
 use Rattle.std.proofs.lemmas.List.{take-map, length-map, take_all}
@@ -14,9 +14,10 @@ use Rattle.ids_core.specs.declared.object.ObjectId.{ObjectId}
 use Rattle.ids_core.specs.Ids.{same_object}
 use Rattle.ids_core.specs.Same.{same_object-true, same_object_equivalence}
 use Rattle.dc_talk.specs.declared.calls.Cached.{Cached}
-use Rattle.dc_talk.specs.Clients.{is_entry, same_vector, promoted, kept}
+use Rattle.dc_talk.specs.Clients.{is_entry, is_of, same_vector, cached, promoted, forgotten, kept}
 use Rattle.client_cache.specs.declared.cache.Held.{Held}
-use Rattle.client_cache.specs.Tables.{entry_of, entries_of, is_held_at}
+use Rattle.client_cache.specs.Peeks.{HasOnly, HasNone}
+use Rattle.client_cache.specs.Tables.{as_entry, entries_of, is_held_at}
 
 -- an object is found the same from either side
 turned : (a b : ObjectId) (r : Bool) → same_object a b ≡ r → same_object b a ≡ r
@@ -46,7 +47,7 @@ module _ (o : ObjectId) where
 
   -- the entry that is found, and the others
   pub record Hit (w : List ℕ) (es : List (ObjectId × Held)) (h : Held) : Type 0 where
-    pub first : first_that (is_entry o w) (entries_of es) ≡ Some (entry_of (o, h))
+    pub first : first_that (is_entry o w) (entries_of es) ≡ Some (as_entry (o, h))
     pub rest : without_first (is_entry o w) (entries_of es) ≡ entries_of (remove_entry (same_object o) es)
     pub entry : lookup_entry (same_object o) es ≡ Some (o, h)
 
@@ -61,7 +62,7 @@ module _ (o : ObjectId) where
           let here : same_vector e.1.vector w ≡ true = ap (λ x. same_vector x.vector w) held ∙ at in
           let one : e ≡ (o, h) = λ i. (key i, held i) in
           record {
-            first = rw (turned o e.0 true same, here) (ap (λ x. Some (entry_of x)) one);
+            first = rw (turned o e.0 true same, here) (ap (λ x. Some (as_entry x)) one);
             rest = rw (turned o e.0 true same, here, same) refl;
             entry = rw same (ap Some one);
           }
@@ -69,7 +70,7 @@ module _ (o : ObjectId) where
           let r = rest there in
           record {
             first = rw (turned o e.0 false same) r.first;
-            rest = rw (turned o e.0 false same, same) (ap (λ xs. entry_of e ∷ xs) r.rest);
+            rest = rw (turned o e.0 false same, same) (ap (λ xs. as_entry e ∷ xs) r.rest);
             entry = rw same r.entry;
           }
 
@@ -90,7 +91,7 @@ module _ (o : ObjectId) where
     where
       by : (b : Bool) → same_object o e.0 ≡ b → cond b (Some e) (lookup_entry (same_object o) es) ≡ None → (lookup_entry (same_object o) es ≡ None → apart (entries_of es) ≡ entries_of es) → apart (entries_of (e ∷ es)) ≡ entries_of (e ∷ es)
       by true same none rest = absurd (none-some e (sym none))
-      by false same none rest = rw (turned o e.0 false same) (ap (λ xs. entry_of e ∷ xs) (rest none))
+      by false same none rest = rw (turned o e.0 false same) (ap (λ xs. as_entry e ∷ xs) (rest none))
 
   -- the entry of the object is gone, and the others stand
   record Gone (es : List (ObjectId × Held)) (f : ObjectId × Held) : Type 0 where
@@ -113,7 +114,7 @@ module _ (o : ObjectId) where
           let r = rest there in
           let l = r.less in
           record {
-            rest = rw (turned o e.0 false same, same) (ap (λ xs. entry_of e ∷ xs) r.rest);
+            rest = rw (turned o e.0 false same, same) (ap (λ xs. as_entry e ∷ xs) r.rest);
             less = rw same (omega (arith, l));
             key = r.key;
           }
@@ -124,13 +125,67 @@ module _ (o : ObjectId) where
   front (suc n) x xs some = let less : suc n - 1 ≡ n = omega arith in rw less refl
 
   -- the table after a new state of the object was put in
-  pub put : (c : lru.LruCache ObjectId Held) (h : Held) → 1 ≤ c.cap → length c.entries ≤ c.cap → entries_of (lru.put_entries same_object c o h) ≡ kept c.cap (entry_of (o, h)) (entries_of c.entries)
+  pub put : (c : lru.LruCache ObjectId Held) (h : Held) → 1 ≤ c.cap → length c.entries ≤ c.cap → entries_of (lru.put_entries same_object c o h) ≡ kept c.cap (as_entry (o, h)) (entries_of c.entries)
   put c h some few = by (lookup_entry (same_object o) c.entries) refl
     where
-      by : (f : Option (ObjectId × Held)) → lookup_entry (same_object o) c.entries ≡ f → entries_of (option_map_or (λ e. (e.0, h) ∷ remove_entry (same_object o) c.entries) f ((o, h) ∷ take (c.cap - 1) c.entries)) ≡ kept c.cap (entry_of (o, h)) (entries_of c.entries)
-      by None is = rw (none_gone c.entries is, front c.cap (entry_of (o, h)) (entries_of c.entries) some, take-map entry_of (c.cap - 1) c.entries) refl
+      by : (f : Option (ObjectId × Held)) → lookup_entry (same_object o) c.entries ≡ f → entries_of (option_map_or (λ e. (e.0, h) ∷ remove_entry (same_object o) c.entries) f ((o, h) ∷ take (c.cap - 1) c.entries)) ≡ kept c.cap (as_entry (o, h)) (entries_of c.entries)
+      by None is = rw (none_gone c.entries is, front c.cap (as_entry (o, h)) (entries_of c.entries) some, take-map as_entry (c.cap - 1) c.entries) refl
       by (Some f) is =
           let gone = one_gone c.entries f is in
           let less = gone.less in
-          let n : length (entries_of (remove_entry (same_object o) c.entries)) ≡ length (remove_entry (same_object o) c.entries) = length-map (remove_entry (same_object o) c.entries) entry_of in
-          rw (gone.rest, front c.cap (entry_of (o, h)) (entries_of (remove_entry (same_object o) c.entries)) some, take_all (c.cap - 1) (entries_of (remove_entry (same_object o) c.entries)) (omega (arith, n, less)), gone.key) refl
+          let n : length (entries_of (remove_entry (same_object o) c.entries)) ≡ length (remove_entry (same_object o) c.entries) = length-map (remove_entry (same_object o) c.entries) as_entry in
+          rw (gone.rest, front c.cap (as_entry (o, h)) (entries_of (remove_entry (same_object o) c.entries)) some, take_all (c.cap - 1) (entries_of (remove_entry (same_object o) c.entries)) (omega (arith, n, less)), gone.key) refl
+
+  -- ---- the entry of the object, at whatever vector
+
+  -- the first entry of the object
+  found : (es : List (ObjectId × Held)) (h : Held) → lookup (same_object o) es ≡ Some h → first_that (is_of o) (entries_of es) ≡ Some (as_entry (o, h))
+  found [] h is = absurd (none-some h is)
+  found (e ∷ es) h is = by (same_object o e.0) refl is (found es h)
+    where
+      by : (b : Bool) → same_object o e.0 ≡ b → cond b (Some e.1) (lookup (same_object o) es) ≡ Some h → (lookup (same_object o) es ≡ Some h → first_that (is_of o) (entries_of es) ≡ Some (as_entry (o, h))) → first_that (is_of o) (entries_of (e ∷ es)) ≡ Some (as_entry (o, h))
+      by true same there rest =
+          let held : e.1 ≡ h = same_Some e.1 h there in
+          let key : e.0 ≡ o = sym (same_object-true o e.0 same) in
+          let one : e ≡ (o, h) = λ i. (key i, held i) in
+          rw (turned o e.0 true same) (ap (λ x. Some (as_entry x)) one)
+      by false same there rest = rw (turned o e.0 false same) (rest there)
+
+  -- there is none where none is found
+  none_found : (es : List (ObjectId × Held)) → lookup (same_object o) es ≡ None → first_that (is_of o) (entries_of es) ≡ None
+  none_found [] is = refl
+  none_found (e ∷ es) is = by (same_object o e.0) refl is (none_found es)
+    where
+      by : (b : Bool) → same_object o e.0 ≡ b → cond b (Some e.1) (lookup (same_object o) es) ≡ None → (lookup (same_object o) es ≡ None → first_that (is_of o) (entries_of es) ≡ None) → first_that (is_of o) (entries_of (e ∷ es)) ≡ None
+      by true same none rest = absurd (none-some e.1 (sym none))
+      by false same none rest = rw (turned o e.0 false same) (rest none)
+
+  -- what is found is all that the cache has of the object
+  pub peeked : (es : List (ObjectId × Held)) (h : Held) → IsDistinct same_object (keys_of es) → lookup (same_object o) es ≡ Some h → HasOnly o h.vector h.state (entries_of es)
+  peeked es h distinct is = record { entry = found es h is; only = λ w. by w (same_vector h.vector w) refl }
+    where
+      by : (w : List ℕ) (b : Bool) → same_vector h.vector w ≡ b → cached o w (entries_of es) ≡ cond b (Some h.state) None
+      by w true at = ap (option_map (λ c. c.state)) (hit w es h is at).first
+      by w false at = ap (option_map (λ c. c.state)) (missed w es distinct (ap (is_held_at w) is ∙ at))
+
+  -- where nothing is found the cache has nothing of it
+  pub peeked_none : (es : List (ObjectId × Held)) → IsDistinct same_object (keys_of es) → lookup (same_object o) es ≡ None → HasNone o (entries_of es)
+  peeked_none es distinct is = record { entry = none_found es is; none = λ w. ap (option_map (λ c. c.state)) (missed w es distinct (ap (is_held_at w) is)) }
+
+  -- the entries without that of the object
+  pub without : (es : List (ObjectId × Held)) → forgotten o (entries_of es) ≡ entries_of (remove_entry (same_object o) es)
+  without [] = refl
+  without (e ∷ es) = by (same_object o e.0) refl (without es)
+    where
+      by : (b : Bool) → same_object o e.0 ≡ b → forgotten o (entries_of es) ≡ entries_of (remove_entry (same_object o) es) → forgotten o (entries_of (e ∷ es)) ≡ entries_of (remove_entry (same_object o) (e ∷ es))
+      by true same rest = rw (turned o e.0 true same, same) refl
+      by false same rest = rw (turned o e.0 false same, same) (ap (λ xs. as_entry e ∷ xs) rest)
+
+  -- there is one exactly where one is found
+  pub there_as : (es : List (ObjectId × Held)) → is_some (first_that (is_of o) (entries_of es)) ≡ is_some (lookup (same_object o) es)
+  there_as [] = refl
+  there_as (e ∷ es) = by (same_object o e.0) refl (there_as es)
+    where
+      by : (b : Bool) → same_object o e.0 ≡ b → is_some (first_that (is_of o) (entries_of es)) ≡ is_some (lookup (same_object o) es) → is_some (first_that (is_of o) (entries_of (e ∷ es))) ≡ is_some (cond b (Some e.1) (lookup (same_object o) es))
+      by true same rest = rw (turned o e.0 true same) refl
+      by false same rest = rw (turned o e.0 false same) rest

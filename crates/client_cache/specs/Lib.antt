@@ -1,3 +1,4 @@
 pub mod Caches
+pub mod Peeks
 pub mod Tables
 pub mod CacheEnds

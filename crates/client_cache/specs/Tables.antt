@@ -6,12 +6,12 @@ use Rattle.dc_talk.specs.Clients.{same_vector}
 use Rattle.client_cache.specs.declared.cache.Held.{Held}
 
 -- an object with what is kept of it, as an entry
-abbrev pub entry_of : (ObjectId × Held) → Cached
-entry_of e = record { object = e.0; vector = e.1.vector; state = e.1.state }
+abbrev pub as_entry : (ObjectId × Held) → Cached
+as_entry e = record { object = e.0; vector = e.1.vector; state = e.1.state }
 
 -- the entries, in their order
 abbrev pub entries_of : List (ObjectId × Held) → List Cached
-entries_of = map entry_of
+entries_of = map as_entry
 
 -- whether what is kept of an object is at the vector
 abbrev pub is_held_at : List ℕ → Option Held → Bool

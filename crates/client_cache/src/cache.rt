@@ -1,10 +1,11 @@
 // The states of objects that a client keeps.
 ghost use Rattle.std.specs.Option.{option_copied};
-ghost use Rattle.std.specs.Prelude.{◌≡◌, ◌≤◌, [], is_some, option_map, slice_get, IfOk, OnOk, OnErr};
+ghost use Rattle.std.specs.Prelude.{◌≡◌, ◌≤◌, [], is_some, option_map, slice_get, IfOk, IfSome, IfNone, OnOk, OnErr};
 ghost use Rattle.std.specs.Bool.{OnTrue};
 ghost use Rattle.std.specs.Map.{lookup};
 ghost use Rattle.ids_core.specs.Ids.{same_object};
 ghost use Rattle.dc_talk.specs.Clients.{cached, promoted};
+ghost use Rattle.client_cache.specs.Peeks.{HasOnly, HasNone};
 ghost use Rattle.client_cache.specs.Tables.{entries_of, is_held_at};
 
 use ids_core::{NoMemory, ObjectId};
@@ -47,7 +48,7 @@ impl Model for Cache {
 impl Cache {
     ghost use Rattle.std.specs.Borrow.{sem};
     ghost use Rattle.std.specs.Option.{option_copied};
-    ghost use Rattle.dc_talk.specs.Clients.{kept};
+    ghost use Rattle.dc_talk.specs.Clients.{entry_of, forgotten, kept};
     ghost use Rattle.client_cache.specs.CacheEnds.{EndsAs};
 
     /// The empty cache, for `capacity` entries, 1 or more.
@@ -74,6 +75,27 @@ impl Cache {
         } else {
             None
         }
+    }
+
+    /// The vector and the state of the object's entry, where there is one. The order of the entries stays as it is. It
+    /// takes no memory.
+    pub fn peek(&self, object: &ObjectId) -> Option<(Vector, &State)>
+        ensures some { IfSome result (λ it. HasOnly object.now it.0 it.1.now self.now.entries) }
+        ensures none { IfNone result (HasNone object.now self.now.entries) }
+    {
+        let _size = self.table.len();
+        match self.table.peek(object) {
+            Some(held) => Some((held.vector, &held.state)),
+            None => None,
+        }
+    }
+
+    /// Takes the object's entry out; false exactly where there is none. It takes no memory.
+    pub fn forget(&mut self, object: &ObjectId) -> bool
+        ensures entries { self.new ≡ record self.old { entries = forgotten object.now self.old.entries } }
+        ensures there { result ≡ is_some (entry_of object.now self.old.entries) }
+    {
+        self.table.pop(object).is_some()
     }
 
     /// Keeps a state, as the most recently used, in place of the object's older one. Where that is

@@ -5,4 +5,4 @@
 mod pending;
 mod turns;
 
-pub use pending::Pending;
+pub use pending::{Pending, fold_all};

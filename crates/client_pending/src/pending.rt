@@ -99,8 +99,9 @@ impl Pending {
     }
 }
 
-// Folds marked operations into a state, in their order. Where memory is refused the first ones alone are.
-fn fold_all(marked: &[(Mark, Op)], state: &mut State) -> Result<(), NoMemory>
+/// Folds marked operations into a state, in their order. Where memory is refused the first ones alone are folded into
+/// it.
+pub fn fold_all(marked: &[(Mark, Op)], state: &mut State) -> Result<(), NoMemory>
     ensures all { OnOk result (state.new ≡ fold_of state.old marked.now) }
     ensures part { OnErr result (FoldsPart marked.now state.old state.new) }
 {

@@ -1,7 +1,7 @@
 -- What holds of every session holds after a newer snapshot.
-use Rattle.std.proofs.Common.{◌≡◌, ◌≤◌, ℕ, ◌+◌, ◌-◌, max, true, List, length, drop, Option, Some, None, arith}
+use Rattle.std.proofs.Common.{◌≡◌, ◌≤◌, ℕ, ◌+◌, ◌-◌, max, true, List, length, drop, Option, Some, None, sym, ◌∙◌, arith}
 use Rattle.std.specs.Prelude.{is_none, IfSome, All, nat_le, ◌==◌}
-use Rattle.std.proofs.lemmas.Bool.{and_parts, leb-true}
+use Rattle.std.proofs.lemmas.Bool.{and_parts, leb-true, eqb-true}
 use Rattle.std.proofs.lemmas.List.{length-drop}
 use Rattle.std.proofs.lemmas.List.Elements.{All-drop}
 use Rattle.ids_core.specs.declared.limits.TheConstants.{MOST_NUMBER, MOST_PENDING, MOST_UPDATES}
@@ -36,6 +36,8 @@ followed s vector mine top is follows =
     let low : s.mine ≤ mine = leb-true s.mine mine least.1 in
     let high : mine ≤ s.own = leb-true mine s.own most.1 in
     let rank : top ≤ MOST_NUMBER = leb-true top MOST_NUMBER ranked.1 in
+    let wide = and_parts (is_none s.draft) (length vector == length s.vector) covered.0 in
+    let same : length vector ≡ length s.vector = eqb-true (length vector) (length s.vector) wide.1 in
     let count : length s.pending + s.mine ≡ s.own = is.count in
     let own : s.own ≤ s.clock = is.own in
     let clock : s.clock ≤ MOST_NUMBER = is.clock in
@@ -52,4 +54,5 @@ followed s vector mine top is follows =
       modest = All-drop (λ tx. All IsModestUpdate tx.updates) (mine - s.mine) s.pending is.modest;
       sent = is.sent;
       draft = no_draft (max s.clock top) s.draft (follows_closed s vector mine top follows);
+      wide = λ c i. is.wide c i ∙ sym same;
     }

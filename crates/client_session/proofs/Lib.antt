@@ -1,4 +1,5 @@
 pub mod Following
 pub mod Changing
 mod Found
+mod Held
 mod Standing

@@ -10,8 +10,10 @@ use Rattle.std.proofs.lemmas.Option.{none-some, same_Some}
 use Rattle.std.proofs.lemmas.Grind.{flat_map-append}
 use Rattle.std.proofs.lemmas.List.Sums.{fold-append}
 use Rattle.list_core.proofs.Choices.{is_none_true}
-use Rattle.list_core.proofs.Firsts.{first_that_some}
+use Rattle.list_core.proofs.Firsts.{first_that_some, In_without_first, In_brought_forward}
+use Rattle.list_core.proofs.Members.{In_take}
 use Rattle.list_core.specs.Firsts.{first_that, without_first, in_front, brought_forward}
+use Rattle.list_core.specs.Members.{In}
 use Rattle.ids_core.specs.declared.limits.TheConstants.{MOST_NUMBER, MOST_PENDING, MOST_UPDATES}
 use Rattle.ids_core.specs.declared.ids.Dot.{Dot}
 use Rattle.ids_core.specs.declared.ids.Mark.{Mark}
@@ -29,7 +31,7 @@ use Rattle.dc_talk.specs.declared.calls.Connection.{Connection}
 use Rattle.dc_talk.specs.declared.calls.Refusal.{Refusal}
 use Rattle.dc_talk.specs.declared.calls.Refusal.TheVariants.{NoMemory}
 use Rattle.tx_core.specs.Operations.{mark, ops_from, ops_of}
-use Rattle.dc_talk.specs.Clients.{Client, next_dot, next_tx, draft_updates, is_entry, same_vector, cached, promoted, kept, view}
+use Rattle.dc_talk.specs.Clients.{Client, next_dot, next_tx, draft_updates, is_entry, is_of, same_vector, cached, promoted, kept, forgotten, view}
 use Rattle.dc_talk.specs.Rule.{can_follow}
 use Rattle.object_lists.proofs.Ops.{one_more, ops_from-last}
 use Rattle.client_session.specs.Sessions.{IsClient, IsDraft}
@@ -130,17 +132,21 @@ kept_on s t es follows same had o seen state there is = follows o seen state the
 
 -- ---- the cache
 
--- the client with another cache
-cached_so : (s : Client) (cache : List Cached) → IsClient s → IsClient (record s { cache = cache })
-cached_so s cache is = record { client = is.client; mine = is.mine; own = is.own; clock = is.clock; count = is.count; room = is.room; pending = is.pending; modest = is.modest; sent = is.sent; draft = is.draft }
+-- the client with another cache, whose entries are as wide
+cached_so : (s : Client) (cache : List Cached) → ((c : Cached) → In c cache → length c.vector ≡ length s.vector) → IsClient s → IsClient (record s { cache = cache })
+cached_so s cache wide is = record { client = is.client; mine = is.mine; own = is.own; clock = is.clock; count = is.count; room = is.room; pending = is.pending; modest = is.modest; sent = is.sent; draft = is.draft; wide = wide }
+
+-- the client once the cache has looked up an object
+looked_up : (s : Client) (k : ObjectId) → IsClient s → IsClient (record s { cache = promoted k s.vector s.cache })
+looked_up s k is = cached_so s (promoted k s.vector s.cache) (λ c i. is.wide c (In_brought_forward (is_entry k s.vector) s.cache c i)) is
 
 -- a look-up of an object that the cache has not
 pub missed : (s : Client) (k : ObjectId) (es : StateEntries) → Stands es s → Stands es (record s { cache = promoted k s.vector s.cache })
-missed s k es stands = (cached_so s (promoted k s.vector s.cache) stands.0, kept_on s (record s { cache = promoted k s.vector s.cache }) es stands.1 (λ o. refl) (λ o state is. sym (cached-promoted k o s.vector s.cache) ∙ is))
+missed s k es stands = (looked_up s k stands.0, kept_on s (record s { cache = promoted k s.vector s.cache }) es stands.1 (λ o. refl) (λ o state is. sym (cached-promoted k o s.vector s.cache) ∙ is))
 
 -- a look-up of an object, of which is kept then what the client has of it
 pub looked : (s : Client) (k : ObjectId) (old new : StateEntries) (base : State) (dot : Dot) (updates : List Update) → Stands old s → Some base ≡ cached k s.vector s.cache → dot ≡ next_dot s → updates ≡ draft_updates s → HadApart k old new → ((seen : State) → lookup (same_object k) new ≡ Some seen → seen ≡ fold_of base (ops_behind k s.pending (s.clock + 1) dot updates)) → Stands new (record s { cache = promoted k s.vector s.cache })
-looked s k old new base dot updates stands found dot_is updates_are apart own = (cached_so s (promoted k s.vector s.cache) stands.0, follows)
+looked s k old new base dot updates stands found dot_is updates_are apart own = (looked_up s k stands.0, follows)
   where
     follows : Follows new (record s { cache = promoted k s.vector s.cache })
     follows o seen state there is = at (cases_Bool (same_object k o))
@@ -156,9 +162,17 @@ looked s k old new base dot updates stands found dot_is updates_are apart own = 
             kept ∙ ((λ i. fold_of base (ops_behind k s.pending (s.clock + 1) (dot_is i) (updates_are i))) ∙ (λ i. view s (key i) (base_is i)))
         at (inr e) = stands.1 o seen state (apart o seen e there) was
 
+-- the client with a new entry in the cache
+kept_so : (s : Client) (new : Cached) → length new.vector ≡ length s.vector → IsClient s → IsClient (record s { cache = kept s.capacity new s.cache })
+kept_so s new same is = cached_so s (kept s.capacity new s.cache) (λ c i. by c (In_take s.capacity (new ∷ without_first (λ c. same_object c.object new.object) s.cache) c i)) is
+  where
+    by : (c : Cached) → In c (new ∷ without_first (λ c. same_object c.object new.object) s.cache) → length c.vector ≡ length s.vector
+    by c (inl is_new) = ap (λ (c : Cached). length c.vector) is_new ∙ same
+    by c (inr i) = is.wide c (In_without_first (λ c. same_object c.object new.object) s.cache c i)
+
 -- a new state of an object in the cache, where what was kept of the object is let go
-pub fetched : (s : Client) (new : Cached) (old es : StateEntries) → Stands old s → lookup (same_object new.object) es ≡ None → ((o : ObjectId) → same_object new.object o ≡ false → lookup (same_object o) es ≡ lookup (same_object o) old) → Stands es (record s { cache = kept s.capacity new s.cache })
-fetched s new old es stands gone apart = (cached_so s (kept s.capacity new s.cache) stands.0, follows)
+pub fetched : (s : Client) (new : Cached) (old es : StateEntries) → length new.vector ≡ length s.vector → Stands old s → lookup (same_object new.object) es ≡ None → ((o : ObjectId) → same_object new.object o ≡ false → lookup (same_object o) es ≡ lookup (same_object o) old) → Stands es (record s { cache = kept s.capacity new s.cache })
+fetched s new old es wide stands gone apart = (kept_so s new wide stands.0, follows)
   where
     follows : Follows es (record s { cache = kept s.capacity new s.cache })
     follows o seen state there is = at (cases_Bool (same_object new.object o))
@@ -167,11 +181,24 @@ fetched s new old es stands gone apart = (cached_so s (kept s.capacity new s.cac
         at (inl e) = absurd (none-some seen (sym gone ∙ (ap (λ q. lookup (same_object q) es) (same_object-true new.object o e) ∙ there)))
         at (inr e) = stands.1 o seen state (sym (apart o e) ∙ there) (cached-kept s.capacity new o s.vector s.cache state e is)
 
+-- an object whose entry is taken out of the cache, where what was kept of the object is let go
+pub forgot : (s : Client) (k : ObjectId) (old es : StateEntries) → Stands old s → lookup (same_object k) es ≡ None → ((o : ObjectId) → same_object k o ≡ false → lookup (same_object o) es ≡ lookup (same_object o) old) → Stands es (record s { cache = forgotten k s.cache })
+forgot s k old es stands gone apart = (cached_so s (forgotten k s.cache) (λ c i. stands.0.wide c (In_without_first (is_of k) s.cache c i)) stands.0, follows)
+  where
+    follows : Follows es (record s { cache = forgotten k s.cache })
+    follows o seen state there is = at (cases_Bool (same_object k o))
+      where
+        at : (same_object k o ≡ true) ⊎ (same_object k o ≡ false) → seen ≡ view s o state
+        at (inl e) = absurd (none-some seen (sym gone ∙ (ap (λ q. lookup (same_object q) es) (same_object-true k o e) ∙ there)))
+        at (inr e) =
+            let other : (c : Cached) → is_of k c ≡ true → is_entry o s.vector c ≡ false = λ (c : Cached) (same : is_of k c ≡ true). ap (λ b. b && same_vector c.vector s.vector) (ap (λ q. same_object q o) (same_object-true c.object k same) ∙ e) in
+            stands.1 o seen state (sym (apart o e) ∙ there) (ap (option_map (λ (c : Cached). c.state)) (sym (without-other (is_entry o s.vector) (is_of k) other s.cache)) ∙ is)
+
 -- ---- the open transaction
 
 -- the client without an open transaction
 no_draft : (s : Client) → IsClient s → IsClient (record s { draft = None })
-no_draft s is = record { client = is.client; mine = is.mine; own = is.own; clock = is.clock; count = is.count; room = is.room; pending = is.pending; modest = is.modest; sent = is.sent; draft = tt }
+no_draft s is = record { client = is.client; mine = is.mine; own = is.own; clock = is.clock; count = is.count; room = is.room; pending = is.pending; modest = is.modest; sent = is.sent; draft = tt; wide = is.wide }
 
 -- a transaction without updates is closed
 pub closed : (s : Client) (es : StateEntries) → draft_updates s ≡ [] → Stands es s → Stands es (record s { draft = None })
@@ -224,6 +251,7 @@ committed s updates tx es is tx_is place stands = subst (λ x. Stands es (record
           modest = All-push (λ tx. All IsModestUpdate tx.updates) s.pending (next_tx s updates) was.modest open_was.modest;
           sent = sent_more s.link was.sent;
           draft = tt;
+          wide = was.wide;
         }
 
     same : (o : ObjectId) → flat_map (ops_of o) (s.pending ++ next_tx s updates ∷ []) ++ [] ≡ behind s o
@@ -238,7 +266,7 @@ pushed s u old new dot place some room modest stands dot_is place_is apart own =
     was = stands.0
 
     client : IsClient (record s { draft = Some (draft_updates s ++ u ∷ []) })
-    client = record { client = was.client; mine = was.mine; own = was.own; clock = was.clock; count = was.count; room = was.room; pending = was.pending; modest = was.modest; sent = was.sent; draft = grown s.clock s.draft u some room modest was.draft }
+    client = record { client = was.client; mine = was.mine; own = was.own; clock = was.clock; count = was.count; room = was.room; pending = was.pending; modest = was.modest; sent = was.sent; draft = grown s.clock s.draft u some room modest was.draft; wide = was.wide }
 
     m : Mark
     m = mark (s.clock + 1) (next_dot s) (length (draft_updates s))

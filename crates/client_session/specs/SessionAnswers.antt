@@ -5,7 +5,7 @@ use Rattle.ids_core.specs.declared.object.ObjectId.{ObjectId}
 use Rattle.dc_talk.specs.declared.ask.Ask.{Ask}
 use Rattle.dc_talk.specs.declared.ask.Ask.TheVariants.{Commit}
 use Rattle.dc_talk.specs.declared.say.Say.{Say}
-use Rattle.dc_talk.specs.declared.say.Say.TheVariants.{Object}
+use Rattle.dc_talk.specs.declared.say.Say.TheVariants.{Object, Changes}
 use Rattle.dc_talk.specs.declared.calls.Cached.{Cached}
 use Rattle.dc_talk.specs.declared.calls.Call.{Call}
 use Rattle.dc_talk.specs.declared.calls.Call.TheVariants.{Change, Read, Commit as CommitCall}
@@ -30,7 +30,7 @@ over_link (Some link) answer = answer link
 abbrev pub refresh_ask : Client → Result (ℕ × Ask) Refusal
 refresh_ask s = over_link s.link (λ link. cond (is_some s.draft) (Err AlreadyOpen) (Ok (link.centre, refresh_of s)))
 
--- the fetch that the client asks, and the centre that it asks
+-- the ask for an object that the client makes, and the centre that it asks
 abbrev pub fetch_ask : Client → ObjectId → Result (ℕ × Ask) Refusal
 fetch_ask s o = over_link s.link (λ link. Ok (link.centre, fetch_of s o))
 
@@ -43,9 +43,10 @@ abbrev pub heard_as : Bool → Heard
 heard_as true = Took
 heard_as false = Ignored
 
--- whether the answer is the state of an object
+-- whether the answer is the state of an object, or what came to one
 abbrev pub is_object : Say → Bool
 is_object (Object state) = true
+is_object (Changes tail) = true
 is_object _ = false
 
 -- a change that is refused neither before it looks its object up nor since the object is not there

@@ -1,12 +1,14 @@
 // What a session asks of a centre.
-ghost use Rattle.std.specs.Prelude.{◌≡◌, ◌≢◌, ◌↔◌, ℕ, IfOk, IfSome};
-ghost use Rattle.dc_talk.specs.Clients.{settled};
-ghost use Rattle.dc_talk.specs.Rule.{hello_of, Gives};
+ghost use Rattle.std.specs.Prelude.{◌≡◌, ◌≢◌, ◌↔◌, ◌&&◌, ℕ, not, length, IfOk, IfSome};
+ghost use Rattle.vv_core.specs.Vectors.{covers};
+ghost use Rattle.dc_talk.specs.Clients.{same_vector, settled};
+ghost use Rattle.dc_talk.specs.Rule.{hello_of, fetch_of, Gives};
 ghost use Rattle.client_session.specs.SessionAnswers.{refresh_ask, fetch_ask, commit_ask};
 
 use crate::session::Session;
 use dc_talk::{Ask, Refusal, SharedTx};
 use ids_core::ObjectId;
+use vv_core::Vector;
 
 impl Session {
     /// The ask by which the session comes to a centre. It takes no memory.
@@ -41,8 +43,8 @@ impl Session {
         }
     }
 
-    /// The ask for the state of an object at the snapshot, and the centre that is asked. It takes
-    /// no memory.
+    /// The ask for an object at the snapshot, and the centre that is asked: for what came to it, where the cache has it at
+    /// an earlier snapshot, and else for its state. It takes no memory.
     pub fn ask_fetch(&self, object: &ObjectId) -> Result<(u8, Ask), Refusal>
         ensures ask { result ≡ fetch_ask self.now object.now }
         ensures gives { IfOk result (λ asked. Gives self.now asked.0 asked.1) }
@@ -50,12 +52,24 @@ impl Session {
     {
         match self.link {
             None => Err(Refusal::NotConnected),
-            Some(link) => {
-                let ask = Ask::Fetch {
-                    object: *object,
-                    at: self.vector,
-                };
-                Ok((link.centre, ask))
+            Some(link) => Ok((link.centre, self.fetch_of(object))),
+        }
+    }
+
+    // The ask for an object at the snapshot.
+    fn fetch_of(&self, object: &ObjectId) -> Ask
+        ensures { result ≡ fetch_of self.now object.now }
+    {
+        let (object, at) = (*object, self.vector);
+        match self.cache.peek(&object) {
+            None => Ask::Fetch { object, at },
+            Some(entry) => {
+                let from = entry.0;
+                if is_before(&from, &at) {
+                    Ask::Delta { object, from, at }
+                } else {
+                    Ask::Fetch { object, at }
+                }
             }
         }
     }
@@ -83,4 +97,12 @@ impl Session {
             }
         }
     }
+}
+
+// Whether a vector covers another one before it.
+fn is_before(from: &Vector, at: &Vector) -> bool
+    requires { length at.now ≡ length from.now }
+    ensures { result ≡ (covers at.now from.now && not (same_vector from.now at.now)) }
+{
+    at.covers(from) && *from != *at
 }

@@ -25,8 +25,8 @@ pub enum Heard {
 
 impl Session {
     /// Hears the answer of a centre to an ask. It takes an answer that it can use, and ignores all
-    /// others. Only the state of an object takes memory; where that is refused the session is as it
-    /// was.
+    /// others. Only the state of an object and what came to one take memory; where that is refused the
+    /// session is as it was.
     pub fn hear(&mut self, centre: u8, ask: &Ask, say: &Say) -> Result<Heard, NoMemory>
         ensures took { IfOk result (λ it. it ≡ heard_as (takes self.old centre ask.now say.now)) }
         ensures ok { OnOk result (self.new ≡ heard self.old centre ask.now say.now) }
@@ -45,6 +45,12 @@ impl Session {
             },
             Ask::Fetch { object, at } => match say {
                 Say::Object { state } => self.hear_object(object, at, state.as_state()),
+                _ => Ok(Heard::Ignored),
+            },
+            Ask::Delta { object, from, at } => match say {
+                Say::Object { state } => self.hear_whole(object, from, at, state.as_state()),
+                Say::Changes { tail } => self.hear_changes(object, from, at, tail.as_slice()),
+                Say::Pruned { .. } => Ok(self.hear_pruned(object, from)),
                 _ => Ok(Heard::Ignored),
             },
             Ask::Commit { tx } => {
@@ -103,12 +109,27 @@ impl Session {
     {
         if *at == self.vector && state.sort() == object.sort {
             let copy = state.copy()?;
-            self.cache.keep(object, at, copy)?;
-            let_go(&mut self.folded, object);
+            self.take(object, at, copy)?;
             Ok(Heard::Took)
         } else {
             Ok(Heard::Ignored)
         }
+    }
+
+    // Keeps the state of an object at the snapshot. What was kept folded of the object is let go.
+    pub(crate) fn take(
+        &mut self,
+        object: &ObjectId,
+        at: &Vector,
+        state: State,
+    ) -> Result<(), NoMemory>
+        requires { at.now ≡ self.old.vector }
+        ensures ok { OnOk result (self.new ≡ record self.old { cache = kept self.old.capacity (record { object = object.now; vector = at.now; state = state }) self.old.cache }) }
+        ensures err { OnErr result (self.new ≡ self.old) }
+    {
+        self.cache.keep(object, at, state)?;
+        let_go(&mut self.folded, object);
+        Ok(())
     }
 
     // To a commit: the greatest number of its client that the centre is known to have.

@@ -5,6 +5,7 @@
 mod asks;
 mod calls;
 mod changes;
+mod deltas;
 mod folded;
 mod hears;
 mod session;

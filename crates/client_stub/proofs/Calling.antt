@@ -1,5 +1,5 @@
 -- Calls of the session with their lines, as growth.
-use Rattle.std.proofs.Common.{◌≡◌, ℕ, Bool, true, false, cond, List, [], ◌∷◌, ◌++◌, Option, Some, None, refl, sym, ap, ◌∙◌, subst}
+use Rattle.std.proofs.Common.{◌≡◌, ℕ, inl, inr, Bool, true, false, cond, List, [], ◌∷◌, ◌++◌, Option, Some, None, refl, sym, ap, ◌∙◌, subst}
 use Rattle.std.specs.Prelude.{IfSome}
 use Rattle.std.specs.List.{list_any}
 use Rattle.dc_talk.specs.declared.calls.Call.{Call}
@@ -11,13 +11,15 @@ use Rattle.dc_talk.specs.declared.calls.Refusal.TheVariants.{NeedsFetch, TooMany
 use Rattle.dc_talk.specs.declared.log.Deed.{Deed}
 use Rattle.dc_talk.specs.declared.log.Deed.TheVariants.{Did, Asked, Told, Spoilt}
 use Rattle.dc_talk.specs.declared.line.Line.{Line}
+use Rattle.dc_talk.specs.declared.line.Line.TheVariants as line
+use Rattle.dc_talk.specs.declared.log.Note.{Note}
 use Rattle.dc_talk.specs.Logs.{Logged, noted}
 use Rattle.dc_talk.specs.Clients.{Client}
 use Rattle.dc_talk.specs.Doors.{DoorView, IsBehind}
 use Rattle.dc_talk.specs.Calls.{Ends, did, outcome_of}
 use Rattle.script_core.specs.declared.object_call.ObjectCall.{ObjectCall}
 use Rattle.script_core.specs.declared.steps.AskFault.{AskFault}
-use Rattle.script_core.specs.Deeds.{CallDeeds, FetchDeeds, Progress, calls, calls_on, call_line, cell_line, line_on, is_ask, is_of_rights, told}
+use Rattle.script_core.specs.Deeds.{CallDeeds, FetchDeeds, Fetches, OrTells, Progress, calls, calls_on, call_line, cell_line, line_on, is_ask, is_of_rights, told}
 use Rattle.dc_talk.specs.Acting.{noted_all}
 use Rattle.client_stub.specs.Playing.{IsLinkBehind, Playing, StubView, Grows, beside, progress}
 use Rattle.client_stub.specs.Errands.{GrowsBy, MakesCall, needs_fetch, used_by}
@@ -150,9 +152,23 @@ again_deeds : (p : Progress) (c : ObjectCall) (out : Outcome) → needs_fetch ou
 again_deeds p c (Refused (NeedsFetch o)) n rest f = record { rest = rest; whole = refl; fetch = f }
 again_deeds p c _ n rest f = cc
 
+-- what was noted before a fetch tells nothing of it
+pub fetch_from : (p : Progress) (notes : List Note) (c : ObjectCall) (ds : List Deed) → FetchDeeds p c ds → FetchDeeds (record p { notes = notes }) c ds
+fetch_from p notes c ds f = by p.client.link f
+  where
+    over : (link : Connection) → Fetches p c link ds → Fetches (record p { notes = notes }) c link ds
+    over link (inl once) = inl (record { asks = once.asks; last = once.last })
+    over link (inr twice) = inr (record { first = twice.first; rest = twice.rest; whole = twice.whole; asks = twice.asks; on = twice.on; then = twice.then })
+
+    by : (link : Option Connection) → OrTells link (line.Unconnected p.client.client c.word c.shown) (Fetches p c) ds → OrTells link (line.Unconnected p.client.client c.word c.shown) (Fetches (record p { notes = notes }) c) ds
+    by None told = told
+    by (Some link) fetches = over link fetches
+
 -- the fetch is that of the client before, since the call changed nothing
 same_fetch : (p q : Playing) (c : ObjectCall) (rest : List Deed) → q.client ≡ p.client → q.armed ≡ p.armed → FetchDeeds (progress q) c rest → FetchDeeds (progress p) c rest
-same_fetch p q c rest client armed f = subst (λ (s : Client). FetchDeeds (record { client = s; armed = p.armed; notes = p.log.notes }) c rest) client (subst (λ (armed : Option AskFault). FetchDeeds (record { client = q.client; armed = armed; notes = p.log.notes }) c rest) armed f)
+same_fetch p q c rest client armed fetch =
+    let f : FetchDeeds (record { client = q.client; armed = q.armed; notes = p.log.notes }) c rest = fetch_from (progress q) p.log.notes c rest fetch in
+    subst (λ (s : Client). FetchDeeds (record { client = s; armed = p.armed; notes = p.log.notes }) c rest) client (subst (λ (armed : Option AskFault). FetchDeeds (record { client = q.client; armed = armed; notes = p.log.notes }) c rest) armed f)
 
 -- it grows by the call, the fetch and what follows that
 pub called_again : (p q r : Playing) (c : ObjectCall) (needs : Bool) → needs ≡ true → MakesCall c p q needs → GrowsBy (FetchDeeds (progress q) c) q r → GrowsBy (CallDeeds (progress p) c (outcome_of p.client c.call)) p r

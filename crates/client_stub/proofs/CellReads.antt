@@ -20,7 +20,7 @@ use Rattle.client_stub.specs.Playing.{Playing, progress}
 use Rattle.client_stub.specs.Errands.{GrowsBy, used_by}
 use Rattle.client_stub.specs.BoundedSteps.{EndsEarly, GetsNumber, HasReadCells, ReadsAll}
 use Rattle.client_stub.proofs.Growth.{grows_none, grows_then}
-use Rattle.client_stub.proofs.Calling.{used_then}
+use Rattle.client_stub.proofs.Calling.{fetch_from, used_then}
 use Rattle.client_stub.proofs.ShareCells.{cells_count, named_cells}
 
 -- ---- how far a client is
@@ -31,7 +31,7 @@ behind_then p ds es = λ i. record { client = sym (fold-append after p.client ds
 
 -- what was noted before a call tells nothing of it
 call_from : (p : Progress) (notes : List Note) (c : ObjectCall) (out : Outcome) (ds : List Deed) → CallDeeds p c out ds → CallDeeds (record p { notes = notes }) c out ds
-call_from p notes c (Refused (NeedsFetch o)) ds are = record { rest = are.rest; whole = are.whole; fetch = are.fetch }
+call_from p notes c (Refused (NeedsFetch o)) ds are = record { rest = are.rest; whole = are.whole; fetch = fetch_from p notes c are.rest are.fetch }
 call_from p notes c _ ds are = are
 
 gets_from : (p : Progress) (notes : List Note) (c : ObjectCall) (number : Option ℤ) (ds : List Deed) → GetsNumber p c number ds → GetsNumber (record p { notes = notes }) c number ds

@@ -23,8 +23,10 @@ use Rattle.script_core.specs.declared.steps.AskFault.TheVariants.{LoseAsk, LoseR
 use Rattle.script_core.specs.declared.steps.ClientStep.TheVariants.{Flush as FlushStep}
 use Rattle.script_core.specs.Deeds.{FlushDeeds, FlushEnds, Progress, Pushes, PushesOn, after_all, copies, fate_of, goes_on, push_line, told, flush_ends, flush_goes}
 use Rattle.client_stub.specs.declared.purpose.Purpose.TheVariants as purpose
+use Rattle.client_stub.specs.declared.purpose.Next.{Next}
 use Rattle.dc_talk.specs.Acting.{noted_all}
 use Rattle.client_stub.specs.Playing.{Playing, Grows, Takes, progress}
+use Rattle.client_stub.specs.Purposes.{is_more, next_where}
 use Rattle.client_stub.specs.Errands.{FlushesOn, GrowsBy, HasPushedOn, Runs, number_in, room, room_over, used_by}
 use Rattle.client_stub.proofs.Growth.{grows_then, grows_none}
 use Rattle.client_stub.proofs.Calling.{used_then}
@@ -112,12 +114,17 @@ pushes_so p q i ask a say again ds false stops whole grows armed short = record 
   armed = armed ∙ sym (ap (used_by p.armed) whole);
 }
 
+-- it goes on where the push says so
+more_where : (goes : Bool) → is_more (next_where goes) ≡ goes
+more_where true = refl
+more_where false = refl
+
 -- a push of a commit
-pub flush_pushes : (p q : Playing) (i : ℕ) (ask : Ask) (number : ℕ) (more : Bool) → commit_ask p.client ≡ Ok (Some (i, ask)) → number ≡ number_in ask → Runs (errand (purpose.Flush number) i ask) p q more → FlushesOn p q more
-flush_pushes p q i ask number more asked is runs =
+pub flush_pushes : (p q : Playing) (i : ℕ) (ask : Ask) (number : ℕ) (next : Next) (more : Bool) → commit_ask p.client ≡ Ok (Some (i, ask)) → number ≡ number_in ask → more ≡ is_more next → Runs (errand (purpose.Flush number) i ask) p q next → FlushesOn p q more
+flush_pushes p q i ask number next more asked is goes runs =
     let a = push_asks p.client i ask asked in
-    let r = next_errand (λ n. purpose.Flush n) p q i ask number more a is runs in
-    subst (FlushesOn p q) (sym r.goes) (pushes_so p q i ask a r.asks.say r.asks.again r.deeds (goes_on (fate_of p.armed r.asks.say)) refl r.asks.whole r.grows r.armed r.short)
+    let r = next_errand (λ n. purpose.Flush n) p q i ask number next a is runs in
+    subst (FlushesOn p q) (sym (goes ∙ (ap is_more r.goes ∙ more_where (goes_on (fate_of p.armed r.asks.say))))) (pushes_so p q i ask a r.asks.say r.asks.again r.deeds (goes_on (fate_of p.armed r.asks.say)) refl r.asks.whole r.grows r.armed r.short)
 
 -- no commit is left
 pub flush_done : (p : Playing) (later : Logged) (client own : ℕ) → commit_ask p.client ≡ Ok None → client ≡ p.client.client → own ≡ p.client.own → later ≡ noted_all p.log (told (Some (line.Flushed client own))) → FlushesOn p (record p { log = later }) false

@@ -3,6 +3,7 @@ pub mod Sending
 pub mod Calling
 pub mod SessionAsks
 pub mod Stepping
+pub mod Fetching
 pub mod LateCopies
 pub mod Flushes
 pub mod Operating

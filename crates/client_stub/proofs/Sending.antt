@@ -17,13 +17,14 @@ use Rattle.script_core.specs.declared.steps.AskFault.{AskFault}
 use Rattle.script_core.specs.declared.steps.AskFault.TheVariants.{LoseAsk, LoseReply, Twice}
 use Rattle.script_core.specs.Deeds.{copies, fate_of, told, took}
 use Rattle.client_stub.specs.declared.purpose.Errand.{Errand}
-use Rattle.client_stub.specs.Purposes.{line_after, goes_after}
+use Rattle.client_stub.specs.declared.purpose.Next.{Next}
+use Rattle.client_stub.specs.Purposes.{line_after, next_after}
 use Rattle.dc_talk.specs.Acting.{Acting, Leaves, IsAskBehind, IsCutShort, acting, noted_all}
 use Rattle.dc_talk.proofs.Doors.{made_one}
 use Rattle.script_core.specs.Orders.{Orders}
 use Rattle.dc_worker.specs.Work.{AddsSuch}
 use Rattle.client_stub.specs.Playing.{Playing, StubView, Grows, beside}
-use Rattle.client_stub.specs.Errands.{AsksAgain, HasAskedFor, Runs, copied, goes_of, line_of, second_of}
+use Rattle.client_stub.specs.Errands.{AsksAgain, HasAskedFor, Runs, copied, line_of, next_of, second_of}
 use Rattle.dc_talk.proofs.Acting.{leaves_none}
 use Rattle.client_stub.proofs.Growth.{grows_leaves, grows_then, grows_told, cut_grown}
 
@@ -36,8 +37,8 @@ pub record HasReached (e : Errand) (old : Playing) (new : StubView) (later : Doo
   pub room : it.0 ≢ AskLost → length (later.made e.centre) < 2 ^ 62
 
 -- its note
-pub asked_for : (e : Errand) (p : Playing) (stub : StubView) (door : DoorView) (it : Fate × Bool) (later : Logged) (client : ℕ) (told : Option Line × Bool) → Gives p.client e.centre e.ask → IsBehind p.door e.centre → HasReached e p stub door it → later ≡ noted p.log (Asked e.centre e.ask it.0) → client ≡ p.client.client → told.0 ≡ line_after e.purpose client it.1 it.0 → told.1 ≡ goes_after e.purpose it.1 it.0 → HasAskedFor e p (beside stub door later) told
-asked_for e p stub door it later client told gives behind reached same who line goes = record {
+pub asked_for : (e : Errand) (p : Playing) (stub : StubView) (door : DoorView) (it : Fate × Bool) (later : Logged) (client : ℕ) (told : Option Line × Next) → Gives p.client e.centre e.ask → IsBehind p.door e.centre → HasReached e p stub door it → later ≡ noted p.log (Asked e.centre e.ask it.0) → client ≡ p.client.client → told.0 ≡ line_after e.purpose client it.1 it.0 → told.1 ≡ next_after e.purpose it.1 it.0 → HasAskedFor e p (beside stub door later) told
+asked_for e p stub door it later client told gives behind reached same who line next = record {
   say = reached.fate.0;
   fate = it.0;
   became = reached.fate.1;
@@ -50,12 +51,12 @@ asked_for e p stub door it later client told gives behind reached same who line 
   };
   armed = ap (λ (s : StubView). s.armed) reached.stub;
   line = line ∙ (ap (λ n. line_after e.purpose n it.1 it.0) who ∙ ap (λ took. line_after e.purpose p.client.client took it.0) reached.took);
-  goes = goes ∙ ap (λ took. goes_after e.purpose took it.0) reached.took;
+  next = next ∙ ap (λ took. next_after e.purpose took it.0) reached.took;
   short = reached.room;
 }
 
 -- an early end behind it
-pub cut_asked_for : (e : Errand) (p q : Playing) (it : Option Line × Bool) (b : Acting) → HasAskedFor e p q it → IsCutShort (acting q.door q.log) b → IsCutShort (acting p.door p.log) b
+pub cut_asked_for : (e : Errand) (p q : Playing) (it : Option Line × Next) (b : Acting) → HasAskedFor e p q it → IsCutShort (acting q.door q.log) b → IsCutShort (acting p.door p.log) b
 cut_asked_for e p q it b asked later = cut_grown p q b (Asked e.centre e.ask asked.fate ∷ []) asked.grows later
 
 -- no second copy
@@ -93,7 +94,7 @@ second_grows (Some LoseReply) q a i ask say again before last leaves = grows_lea
 second_grows None q a i ask say again before last leaves = grows_leaves q a [] leaves refl tt
 
 -- an errand: its ask, the second copy, and its line
-pub runs : (e : Errand) (p q : Playing) (a : Acting) (later : Logged) (copy : Option Ask) (it : Option Line × Bool) → HasAskedFor e p q it → copy ≡ second_of p.armed e.ask → AsksAgain e.centre copy (acting q.door q.log) a → later ≡ noted_all a.log (told it.0) → Runs e p (record q { door = a.door; log = later }) it.1
+pub runs : (e : Errand) (p q : Playing) (a : Acting) (later : Logged) (copy : Option Ask) (it : Option Line × Next) → HasAskedFor e p q it → copy ≡ second_of p.armed e.ask → AsksAgain e.centre copy (acting q.door q.log) a → later ≡ noted_all a.log (told it.0) → Runs e p (record q { door = a.door; log = later }) it.1
 runs e p q a later copy it asked copy_is again is =
     let third : Playing = record q { door = a.door; log = a.log } in
     let cs : List Deed = copies p.armed e.centre e.ask again.say in
@@ -110,6 +111,6 @@ runs e p q a later copy it asked copy_is again is =
       };
       grows = grows_then p q (record q { door = a.door; log = later }) (Asked e.centre e.ask asked.fate ∷ []) (cs ++ told it.0) asked.grows (grows_then q third (record q { door = a.door; log = later }) cs (told it.0) second last);
       armed = asked.armed;
-      goes = asked.goes ∙ ap (goes_of s e) asked.became;
+      goes = asked.next ∙ ap (next_of s e) asked.became;
       short = λ reached. again.short (asked.short (λ lost. reached (sym asked.became ∙ lost)));
     }

@@ -21,9 +21,10 @@ use Rattle.script_core.specs.declared.steps.AskFault.{AskFault}
 use Rattle.script_core.specs.declared.steps.AskFault.TheVariants.{Twice}
 use Rattle.script_core.specs.Deeds.{Asks, FlushEnds, PushesOn, calls_on, fate_of, is_ask, told, took}
 use Rattle.client_stub.specs.declared.purpose.Errand.{Errand}
+use Rattle.client_stub.specs.declared.purpose.Next.{Next}
 use Rattle.dc_talk.specs.Acting.{Acting, Leaves}
 use Rattle.client_stub.specs.Playing.{Playing, Grows, progress}
-use Rattle.client_stub.specs.Purposes.{line_after, goes_after}
+use Rattle.client_stub.specs.Purposes.{line_after, next_after}
 
 -- the fault that is armed after deeds: an ask uses it
 abbrev pub used_by : Option AskFault → List Deed → Option AskFault
@@ -70,19 +71,19 @@ copied i (Some ask) say = Asked i ask (Unheard say) ∷ []
 abbrev pub line_of : Client → Errand → Fate → Option Line
 line_of s errand fate = line_after errand.purpose s.client (took s errand.centre errand.ask fate) fate
 
--- whether the step of an errand goes on, by what became of its ask
-abbrev pub goes_of : Client → Errand → Fate → Bool
-goes_of s errand fate = goes_after errand.purpose (took s errand.centre errand.ask fate) fate
+-- what the step of an errand does then, by what became of its ask
+abbrev pub next_of : Client → Errand → Fate → Next
+next_of s errand fate = next_after errand.purpose (took s errand.centre errand.ask fate) fate
 
--- an errand whose ask was noted, with the line that is to be told and whether the step goes on
-pub record HasAskedFor (errand : Errand) (old new : Playing) (it : Option Line × Bool) : Type 0 where
+-- an errand whose ask was noted, with the line that is to be told and what the step does then
+pub record HasAskedFor (errand : Errand) (old new : Playing) (it : Option Line × Next) : Type 0 where
   pub say : Say
   pub fate : Fate
   pub became : fate ≡ fate_of old.armed say
   pub grows : Grows old new (Asked errand.centre errand.ask fate ∷ [])
   pub armed : new.armed ≡ None
   pub line : it.0 ≡ line_of old.client errand fate
-  pub goes : it.1 ≡ goes_of old.client errand fate
+  pub next : it.1 ≡ next_of old.client errand fate
   pub short : fate ≢ AskLost → length (new.door.made errand.centre) < 2 ^ 62
 
 -- a second copy of an ask of centre i, where there is one
@@ -91,13 +92,13 @@ pub record AsksAgain (i : ℕ) (copy : Option Ask) (old new : Acting) : Type 0 w
   pub leaves : Leaves old new (copied i copy say)
   pub short : length (old.door.made i) < 2 ^ 62 → length (new.door.made i) < 2 ^ 62
 
--- an errand that was made, with whether the step goes on
-pub record Runs (errand : Errand) (old new : Playing) (more : Bool) : Type 0 where
+-- an errand that was made, with what the step does then
+pub record Runs (errand : Errand) (old new : Playing) (next : Next) : Type 0 where
   pub deeds : List Deed
   pub asks : Asks old.armed errand.centre errand.ask (λ fate. told (line_of old.client errand fate)) deeds
   pub grows : Grows old new deeds
   pub armed : new.armed ≡ None
-  pub goes : more ≡ goes_of old.client errand (fate_of old.armed asks.say)
+  pub goes : next ≡ next_of old.client errand (fate_of old.armed asks.say)
   pub short : fate_of old.armed asks.say ≢ AskLost → length (new.door.made errand.centre) < 2 ^ 62
 
 -- ---- flushes

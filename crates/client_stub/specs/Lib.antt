@@ -1,4 +1,5 @@
 pub mod Purposes
 pub mod Playing
 pub mod Errands
+pub mod Fetches
 pub mod BoundedSteps

@@ -2,18 +2,15 @@
 ghost use Rattle.std.specs.Prelude.{◌≡◌, ◌≢◌, ◌↔◌, true, false, IsTrue, OnOk, OnErr};
 ghost use Rattle.dc_talk.specs.Doors.{IsBehind};
 ghost use Rattle.script_core.specs.declared.steps.ClientStep.TheVariants.{Connect, Push, Refresh};
-ghost use Rattle.script_core.specs.Deeds.{FetchDeeds};
 ghost use Rattle.dc_talk.specs.Acting.{IsCutShort, acting};
-ghost use Rattle.client_stub.specs.Playing.{IsLinkBehind, Takes, beside, progress};
-ghost use Rattle.client_stub.specs.Errands.{GrowsBy, number_in};
+ghost use Rattle.client_stub.specs.Playing.{IsLinkBehind, Takes, beside};
+ghost use Rattle.client_stub.specs.Errands.{number_in};
 
 use crate::notes::tell;
 use crate::purpose::{Errand, Purpose};
 use crate::stub::Stub;
 use dc_talk::{Ask, Door, Line, Log, Refusal};
 use ids_core::NoMemory;
-use script_core::ObjectCall;
-use std::alloc::Global;
 
 impl Stub {
     // The step `connect`.
@@ -37,47 +34,6 @@ impl Stub {
         };
         self.send(door, errand, log)?;
         Ok(())
-    }
-
-    // Fetches the object of a call, and makes the call again where its state was taken.
-    pub(crate) fn fetch<D: Door>(
-        &mut self,
-        alloc: Global,
-        door: &mut D,
-        on: &ObjectCall,
-        log: &mut Log,
-    ) -> Result<(), NoMemory>
-        requires { IsLinkBehind (D.shown door.old) self.old.client }
-        ensures place { D.place door.new ≡ D.place door.old }
-        ensures grows { OnOk result (GrowsBy (FetchDeeds (progress (beside self.old (D.shown door.old) log.old)) on.now) (beside self.old (D.shown door.old) log.old) (beside self.new (D.shown door.new) log.new)) }
-        ensures linked { IsLinkBehind (D.shown door.new) self.new.client }
-        ensures short { OnErr result (IsCutShort (acting (D.shown door.old) log.old) (acting (D.shown door.new) log.new)) }
-    {
-        let client = self.session.client();
-        match self.session.ask_fetch(&on.object) {
-            Ok((centre, ask)) => {
-                let purpose = Purpose::Fetch(*on);
-                let errand = Errand {
-                    purpose,
-                    centre,
-                    ask,
-                };
-                if self.send(door, errand, log)? {
-                    self.call(alloc, on, log)?;
-                }
-                Ok(())
-            }
-            Err(_) => {
-                let (word, object) = (on.word, on.shown);
-                let line = Line::Unconnected {
-                    client,
-                    word,
-                    object,
-                };
-                tell(log, Some(line))?;
-                Ok(())
-            }
-        }
     }
 
     // The step `push`.

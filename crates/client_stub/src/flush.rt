@@ -45,8 +45,8 @@ impl Stub {
                     centre,
                     ask,
                 };
-                let more = self.send(door, errand, log)?;
-                Ok(more)
+                let next = self.send(door, errand, log)?;
+                Ok(next.is_more())
             }
             Ok(None) => {
                 let own = self.session.facts().own;

@@ -8,6 +8,7 @@ mod again;
 mod asks;
 mod bounded;
 mod calls;
+mod fetch;
 mod flush;
 mod lines;
 mod notes;

@@ -3,7 +3,7 @@
 ghost use Rattle.std.specs.Prelude.{◌≡◌, IfOk};
 ghost use Rattle.dc_talk.specs.declared.calls.Call.TheVariants.{Begin as BeginCall, Change as ChangeCall, Read as ReadCall, Commit as CommitCall, Abort as AbortCall};
 ghost use Rattle.dc_talk.specs.declared.log.Fate.TheVariants.{Heard};
-ghost use Rattle.script_core.specs.Deeds.{lack, missed_by, miss_of, hello_line, word_of, call_line, is_of_rights, cell_line, line_on, fetch_line, answer_end, push_end, push_line, again_line, goes_on, refresh_line};
+ghost use Rattle.script_core.specs.Deeds.{lack, missed_by, miss_of, hello_line, word_of, call_line, is_of_rights, cell_line, line_on, fetch_line, is_pruned, answer_end, push_end, push_line, again_line, goes_on, refresh_line};
 
 use dc_talk::{Call, Change, Fate, Line, Miss, Outcome, PushEnd, Refusal, Say, StepWord};
 use ids_core::{NoMemory, ObjectId};
@@ -253,7 +253,7 @@ fn heard_fetch(client: u32, on: &ObjectCall, say: &Say) -> Option<Line>
             base: *base,
             at: *at,
         }),
-        Say::Object { .. } => Some(Line::FetchIgnored {
+        Say::Object { .. } | Say::Changes { .. } => Some(Line::FetchIgnored {
             client,
             word,
             object,
@@ -265,6 +265,13 @@ fn heard_fetch(client: u32, on: &ObjectCall, say: &Say) -> Option<Line>
             miss,
         }),
     }
+}
+
+/// Whether the centre answered that it has pruned what was asked for, and was heard.
+pub fn is_pruned(fate: &Fate) -> bool
+    ensures { result ≡ is_pruned fate.now }
+{
+    matches!(fate, Fate::Heard(Say::Pruned { .. }))
 }
 
 /// Whether a flush goes on after a push whose ask came to this: the commit is at the centre.

@@ -1,7 +1,8 @@
 // What a client asks a centre for.
 ghost use Rattle.std.specs.Prelude.{◌≡◌};
+ghost use Rattle.client_stub.specs.Purposes.{next_where};
 
-use crate::lines::{fetch_line, goes_on, hello_line, push_line, refresh_line};
+use crate::lines::{fetch_line, goes_on, hello_line, is_pruned, push_line, refresh_line};
 use dc_talk::{Ask, Fate, Line};
 use script_core::ObjectCall;
 
@@ -20,6 +21,17 @@ pub enum Purpose {
     Refresh,
 }
 
+/// What a step does after an ask.
+#[derive(Clone, Copy)]
+pub enum Next {
+    /// It has come to its end.
+    Done,
+    /// It goes on: with the call where a state was taken, with more pushes in a flush.
+    GoesOn,
+    /// It asks for the state of an object, since the centre has pruned what came to it.
+    AsksOn,
+}
+
 /// An ask of a centre, and what it is for.
 #[derive(Drop)]
 pub struct Errand {
@@ -29,10 +41,10 @@ pub struct Errand {
 }
 
 impl Purpose {
-    ghost use Rattle.client_stub.specs.Purposes.{goes_after, line_after};
+    ghost use Rattle.client_stub.specs.Purposes.{line_after, next_after};
 
-    /// The line that comes of what became of the ask, by whether the session took that; none where a
-    /// state was fetched, since the call is made again then, and where a flush goes on.
+    /// The line that comes of what became of the ask, by whether the session took that; none where the
+    /// session took the answer to a fetch, since the step goes on then, and where a flush goes on.
     pub fn line_after(&self, client: u32, took: bool, fate: &Fate) -> Option<Line>
         ensures { result ≡ line_after self.now client took fate.now }
     {
@@ -57,14 +69,38 @@ impl Purpose {
         }
     }
 
-    /// Whether the step goes on after the ask: with the call where a state was fetched, with more pushes
-    /// in a flush.
-    pub fn goes_after(&self, took: bool, fate: &Fate) -> bool
-        ensures { result ≡ goes_after self.now took fate.now }
+    /// What the step does after the ask, by whether the session took what became of it.
+    pub fn next_after(&self, took: bool, fate: &Fate) -> Next
+        ensures { result ≡ next_after self.now took fate.now }
     {
         match self {
-            Purpose::Flush { .. } => goes_on(fate),
-            _ => took,
+            Purpose::Fetch(_) => {
+                if took && is_pruned(fate) {
+                    Next::AsksOn
+                } else {
+                    next_where(took)
+                }
+            }
+            Purpose::Flush { .. } => next_where(goes_on(fate)),
+            _ => next_where(took),
         }
     }
+}
+
+impl Next {
+    ghost use Rattle.client_stub.specs.Purposes.{is_more};
+
+    /// Whether the step goes on in any way.
+    pub fn is_more(&self) -> bool
+        ensures { result ≡ is_more self.now }
+    {
+        !matches!(self, Next::Done)
+    }
+}
+
+// What a step does that goes on where this is so.
+fn next_where(goes: bool) -> Next
+    ensures { result ≡ next_where goes }
+{
+    if goes { Next::GoesOn } else { Next::Done }
 }

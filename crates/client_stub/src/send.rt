@@ -11,7 +11,7 @@ ghost use Rattle.client_stub.specs.Playing.{IsLinkBehind, beside};
 ghost use Rattle.client_stub.specs.Errands.{AsksAgain, HasAskedFor, Runs, second_of};
 
 use crate::notes::tell;
-use crate::purpose::Errand;
+use crate::purpose::{Errand, Next};
 use crate::stub::Stub;
 use client_session::Heard;
 use dc_talk::{Ask, Deed, Door, Fate, Line, Log, Say};
@@ -21,37 +21,37 @@ use script_core::AskFault;
 
 impl Stub {
     // Makes an errand: its ask under the fault that is armed, with its second copy where there is one, and
-    // its line. Answers whether the step goes on.
+    // its line. Answers what the step does then.
     pub(crate) fn send<D: Door>(
         &mut self,
         door: &mut D,
         errand: Errand,
         log: &mut Log,
-    ) -> Result<bool, NoMemory>
+    ) -> Result<Next, NoMemory>
         requires gives { Gives self.old.client errand.centre errand.ask }
         requires centre { IsBehind (D.shown door.old) errand.centre }
         requires behind { IsLinkBehind (D.shown door.old) self.old.client }
         ensures place { D.place door.new ≡ D.place door.old }
-        ensures runs { IfOk result (λ more. Runs errand (beside self.old (D.shown door.old) log.old) (beside self.new (D.shown door.new) log.new) more) }
+        ensures runs { IfOk result (λ next. Runs errand (beside self.old (D.shown door.old) log.old) (beside self.new (D.shown door.new) log.new) next) }
         ensures linked { IsLinkBehind (D.shown door.new) self.new.client }
         ensures short { OnErr result (IsCutShort (acting (D.shown door.old) log.old) (acting (D.shown door.new) log.new)) }
     {
         let copy = second_of(self.armed, &errand.ask)?;
         let centre = errand.centre;
-        let (line, more) = self.ask(door, errand, log)?;
+        let (line, next) = self.ask(door, errand, log)?;
         ask_again(door, centre, copy, log)?;
         tell(log, line)?;
-        Ok(more)
+        Ok(next)
     }
 
     // Asks under the fault that is armed, and notes what became of the ask. Answers the line that is to be
-    // told, and whether the step goes on.
+    // told, and what the step does then.
     fn ask<D: Door>(
         &mut self,
         door: &mut D,
         errand: Errand,
         log: &mut Log,
-    ) -> Result<(Option<Line>, bool), NoMemory>
+    ) -> Result<(Option<Line>, Next), NoMemory>
         requires gives { Gives self.old.client errand.centre errand.ask }
         requires centre { IsBehind (D.shown door.old) errand.centre }
         requires behind { IsLinkBehind (D.shown door.old) self.old.client }
@@ -68,9 +68,9 @@ impl Stub {
         let client = self.session.client();
         let (fate, took) = self.reach(door, centre, &ask)?;
         let line = purpose.line_after(client, took, &fate);
-        let more = purpose.goes_after(took, &fate);
+        let next = purpose.next_after(took, &fate);
         log.push(Deed::Asked { centre, ask, fate })?;
-        Ok((line, more))
+        Ok((line, next))
     }
 
     // What becomes of an ask under the fault that is armed, which is used. Answers also whether the session

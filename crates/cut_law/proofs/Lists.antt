@@ -17,7 +17,7 @@ use Rattle.tx_core.specs.Operations.{ops_of}
 use Rattle.join_bundle.specs.Conditions.{IsCentre}
 use Rattle.dc_talk.specs.Records.{count, guard, first_stamp, top, has, inside, mine}
 use Rattle.dc_talk.specs.Dots.{dots_of}
-use Rattle.dc_talk.specs.Objects.{state_at}
+use Rattle.dc_talk.specs.Objects.{state_at, ops_since}
 use Rattle.dc_talk.specs.Answers.{count_inside}
 use Rattle.dc_talk.specs.Laws.{HasNumber, HasNumbersBelow}
 use Rattle.dc_talk.proofs.Counts.{count_more, guard_more, guard_front, in_guard}
@@ -25,7 +25,7 @@ use Rattle.dc_talk.proofs.Dots.{In_has, has_is}
 use Rattle.dc_talk.proofs.Firsts.{first_stamp_is}
 use Rattle.cut_law.specs.Cuts.{rest_of}
 use Rattle.cut_law.proofs.Inside.{inside_stays, firsts_inside}
-use Rattle.cut_law.proofs.Rests.{rest_within, rest_beyond, rest_with, state_later, mine_later, count_later, rest_later, rest_more}
+use Rattle.cut_law.proofs.Rests.{rest_within, rest_beyond, rest_with, ops_later, state_later, mine_later, count_later, rest_later, rest_more}
 
 -- the last number of a client, as a dot
 abbrev pub last_dot : ℕ → List Record → Dot
@@ -69,6 +69,17 @@ module _ (n : ℕ) (base : List ℕ) (A B : List Record) (h : AreAlike n base A 
       ∙ ((λ i. h.folded i + length (rest_within (h.rests i) w))
       ∙ sym (count_later B base w covers))
 
+  -- the rest beside it is the same
+  rests_alike : rest_of A w ≡ rest_of B w
+  rests_alike = rest_later A base w covers ∙ ((λ i. rest_beyond (h.rests i) w) ∙ sym (rest_later B base w covers))
+
+  -- so the same operations came to an object between it and one that covers it
+  pub ops_alike : (later : List ℕ) → Covers later w → (o : ObjectId) → ops_since o A w later ≡ ops_since o B w later
+  ops_alike later more o =
+      ops_later A w later more o
+      ∙ ((λ i. flat_map (λ (x : RestPart). ops_of o x.tx) (rest_within (rests_alike i) later))
+      ∙ sym (ops_later B w later more o))
+
   -- so the lists are alike there, where the first list holds what is within
   pub alike_on : ((e : ℕ) → at w e ≤ count e A) → AreAlike n w A B
   alike_on held = record {
@@ -79,7 +90,7 @@ module _ (n : ℕ) (base : List ℕ) (A B : List Record) (h : AreAlike n base A 
     states = state_alike;
     numbers = mine_alike;
     folded = count_alike;
-    rests = rest_later A base w covers ∙ ((λ i. rest_beyond (h.rests i) w) ∙ sym (rest_later B base w covers));
+    rests = rests_alike;
     held = held;
     all_one = h.all_one;
     all_two = h.all_two;

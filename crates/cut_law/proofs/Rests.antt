@@ -1,7 +1,7 @@
 -- The rest of records beside a base: what it tells of later vectors, and what one record more makes of it.
 use Rattle.std.proofs.Common.{◌≡◌, ◌≤◌, ℕ, ◌+◌, max, Bool, true, false, cond, ⊎_elim, List, [], ◌∷◌, ◌++◌, length, map, refl, sym, ap, subst, ◌∙◌, arith}
-use Rattle.std.specs.Prelude.{not, filter, flat_map}
-use Rattle.std.proofs.lemmas.Bool.{cases_Bool, false≢true}
+use Rattle.std.specs.Prelude.{not, ◌&&◌, filter, flat_map}
+use Rattle.std.proofs.lemmas.Bool.{cases_Bool, false≢true, and_right}
 use Rattle.std.proofs.lemmas.List.{length-append, length-map, map-append}
 use Rattle.std.proofs.lemmas.List.Elements.{filter-append, filter_agree}
 use Rattle.std.proofs.lemmas.List.Folds.{flat_map-map}
@@ -13,7 +13,7 @@ use Rattle.list_core.specs.Permutations.{Perm}
 use Rattle.list_core.proofs.Apart.{apart_filter, apart_map}
 use Rattle.list_core.proofs.Blocks.{turned_order, flat_order}
 use Rattle.list_core.proofs.Images.{filter-map}
-use Rattle.list_core.proofs.Members.{In_map, In_from_map, In_filter, In_from_filter, filter_all}
+use Rattle.list_core.proofs.Members.{In_map, In_from_map, In_filter, In_from_filter, filter_all, filter-agree}
 use Rattle.list_core.proofs.Permutations.{filter_order, length_order, both_ways}
 use Rattle.ids_core.specs.declared.ids.Dot.{Dot}
 use Rattle.ids_core.specs.declared.ids.Mark.{Mark}
@@ -33,7 +33,7 @@ use Rattle.tx_core.proofs.Folds.{fold_of-order}
 use Rattle.tx_core.proofs.Operations.{distinct_ops}
 use Rattle.dc_talk.specs.Records.{has, inside, firsts, mine}
 use Rattle.dc_talk.specs.Dots.{dots_of, stamps_of}
-use Rattle.dc_talk.specs.Objects.{state_at}
+use Rattle.dc_talk.specs.Objects.{state_at, ops_since}
 use Rattle.dc_talk.specs.Answers.{count_inside}
 use Rattle.dc_talk.proofs.Dots.{has_In, In_has, in_mine, mine_bound, mine_grows}
 use Rattle.dc_talk.proofs.Firsts.{firsts_apart, firsts_has}
@@ -63,6 +63,11 @@ filter_within {X} p q (x ∷ xs) less = go (q x) refl (p x) refl (filter_within 
 not_outside : (b : Bool) → not b ≡ false → b ≡ true
 not_outside true is = refl
 not_outside false is = absurd (false≢true (sym is))
+
+-- a test beside one that passes is the test
+beside_true : (b c : Bool) → c ≡ true → (b && c) ≡ b
+beside_true true c is = is
+beside_true false c is = refl
 
 -- ---- a later vector
 
@@ -96,6 +101,18 @@ module _ (A : List Record) (base w : List ℕ) (covers : Covers w base) where
   rest_added =
       filter-map (λ (x : RestPart). is_any_within w x.stamps) (rest_part A) others
       ∙ ap (map (rest_part A)) (filter_agree (λ (r : Record). is_any_within w (stamps_of r.tx.dot A)) (λ (r : Record). has r.tx.dot (inside A w)) (λ r. any_inside w r.tx.dot A) others)
+
+  -- the first records that came between the two are those that are added
+  came : filter (λ (r : Record). has r.tx.dot (inside A w) && not (has r.tx.dot (inside A base))) (firsts A) ≡ added
+  came =
+      sym (filter_within (λ (r : Record). has r.tx.dot (inside A w) && not (has r.tx.dot (inside A base))) (λ (r : Record). not (has r.tx.dot (inside A base))) (firsts A) (λ r is. and_right (has r.tx.dot (inside A w)) (not (has r.tx.dot (inside A base))) is))
+      ∙ filter-agree (λ (r : Record). has r.tx.dot (inside A w) && not (has r.tx.dot (inside A base))) (λ (r : Record). has r.tx.dot (inside A w)) others (λ r i. beside_true (has r.tx.dot (inside A w)) (not (has r.tx.dot (inside A base))) (In_from_filter (λ (r : Record). not (has r.tx.dot (inside A base))) (firsts A) r i).1)
+
+  -- the operations that came to an object
+  pub ops_later : (o : ObjectId) → ops_since o A base w ≡ flat_map (λ (x : RestPart). ops_of o x.tx) (rest_within (rest_of A base) w)
+  ops_later o =
+      ap (flat_map (λ (r : Record). ops_of o r.tx)) came
+      ∙ sym (ap (flat_map (λ (x : RestPart). ops_of o x.tx)) rest_added ∙ flat_map-map (λ (x : RestPart). ops_of o x.tx) (rest_part A) added)
 
   -- how many transactions are within the later vector
   pub count_later : count_inside A w ≡ count_inside A base + length (rest_within (rest_of A base) w)

@@ -19,20 +19,21 @@ use Rattle.tx_core.specs.declared.state.State.{State}
 use Rattle.join_bundle.specs.Conditions.{IsCentre}
 use Rattle.dc_talk.specs.declared.ask.TheConstants.{MOST_HOPS, MOST_SENT}
 use Rattle.dc_talk.specs.declared.ask.Ask.{Ask}
-use Rattle.dc_talk.specs.declared.ask.Ask.TheVariants.{Hello, Refresh, Fetch, Commit, Send, Deliver, Relay, Report, Learn, Prune, Stop, Start}
+use Rattle.dc_talk.specs.declared.ask.Ask.TheVariants.{Hello, Refresh, Fetch, Delta, Commit, Send, Deliver, Relay, Report, Learn, Prune, Stop, Start}
 use Rattle.dc_talk.specs.declared.say.Say.{Say}
 use Rattle.dc_talk.specs.declared.say.Say.TheVariants.{Misfit, Down, Lacks, Snap, Pruned, Object, Trimmed, Records, Vector, Learned, Stamped, Waits, Applied, Base}
 use Rattle.dc_talk.specs.declared.sent.Sent.{Sent}
 use Rattle.dc_talk.specs.declared.settings.Settings.{Settings}
 use Rattle.dc_talk.specs.Records.{count, vector, guard, first_stamp, mine, joined, deps_of}
 use Rattle.dc_talk.specs.Sents.{with_hops, items, of_origin}
-use Rattle.dc_talk.specs.Objects.{state_at}
+use Rattle.dc_talk.specs.Objects.{state_at, ops_since}
 use Rattle.dc_talk.specs.Trails.{Horizon, carried_on, taught, taught_in, switched_in}
-use Rattle.dc_talk.specs.Answers.{fits, is_fit_item, lacking, is_switch, fetch_answer, commit_answer, deliver_answer, snap_at, part_of, count_inside, tells, hello_answer, refresh_answer, send_answer}
+use Rattle.dc_talk.specs.Answers.{fits, is_fit_item, lacking, is_switch, fetch_answer, told_of, delta_answer, commit_answer, deliver_answer, snap_at, part_of, count_inside, tells, hello_answer, refresh_answer, send_answer}
 use Rattle.dc_talk.proofs.Answers.{lack_none, lack_holds, commit_holds, deliver_holds}
+use Rattle.dc_talk.proofs.ClientAnswers.{delta_fits}
 use Rattle.dc_talk.proofs.PeerAnswers.{IsFitItem, item_fits}
 use Rattle.cut_law.specs.Parts.{Parts, list, rows_over, stable_over, all_known_over, pruned_over, row_over, answer_over, horizon_then, parts_then}
-use Rattle.cut_law.proofs.Lists.{AreAlike, last_dot, state_alike, mine_alike, count_alike, alike_on, alike_more}
+use Rattle.cut_law.proofs.Lists.{AreAlike, last_dot, state_alike, ops_alike, mine_alike, count_alike, alike_on, alike_more}
 use Rattle.cut_law.proofs.Timely.{IsTimely, timely_then}
 
 -- applied records with hops are alike for a horizon: without hops they are alike at the base, and of each origin the same
@@ -83,17 +84,21 @@ send_alike trimmed after most xs ys same = go (nat_le (after + 1) trimmed) refl
 
 -- ---- answers
 
--- a fetch is answered alike where the states agree at what the base does not exceed
-fetch_alike : (have base here : List ℕ) (s t : State) → (Covers here base → s ≡ t) → fetch_answer have base s here ≡ fetch_answer have base t here
-fetch_alike have base here s t same = go (lacking Lacks have here)
+-- a delta is answered alike where the same is told from what the base does not exceed
+delta_alike : (have base from here : List ℕ) (one other : Say) → (Covers from base → one ≡ other) → delta_answer have base one from here ≡ delta_answer have base other from here
+delta_alike have base from here one other same = go (lacking Lacks have here)
   where
-    pruned : (o : Option Say) → lacking Pruned here base ≡ o → first_of (o ∷ []) (Object s) ≡ first_of (o ∷ []) (Object t)
-    pruned None is = ap Object (same (lack_none Pruned here base is))
+    pruned : (o : Option Say) → lacking Pruned from base ≡ o → first_of (o ∷ []) one ≡ first_of (o ∷ []) other
+    pruned None is = same (lack_none Pruned from base is)
     pruned (Some say) is = refl
 
-    go : (o : Option Say) → first_of (o ∷ lacking Pruned here base ∷ []) (Object s) ≡ first_of (o ∷ lacking Pruned here base ∷ []) (Object t)
-    go None = pruned (lacking Pruned here base) refl
+    go : (o : Option Say) → first_of (o ∷ lacking Pruned from base ∷ []) one ≡ first_of (o ∷ lacking Pruned from base ∷ []) other
+    go None = pruned (lacking Pruned from base) refl
     go (Some say) = refl
+
+-- so is a fetch, where the states agree
+fetch_alike : (have base here : List ℕ) (s t : State) → (Covers here base → s ≡ t) → fetch_answer have base s here ≡ fetch_answer have base t here
+fetch_alike have base here s t same = delta_alike have base here here (Object s) (Object t) (λ covered. ap Object (same covered))
 
 -- a number that passes the test of centres is that of one
 pub centre_within : (n e : ℕ) (b : Bool) → (nat_le 1 e && nat_le e n) && b ≡ true → IsCentre n e
@@ -136,6 +141,15 @@ module _ (s : Settings) (P Q : Parts) (me : IsCentre s.n s.me) (h : AreParts s P
   row_alike (Fetch object here) fit =
       fetch_alike (vector s.n (list P)) P.horizon.base here (state_at object (list P) here) (state_at object (list Q) here) (λ covers. state_alike s.n P.horizon.base (list P) (list Q) lists here covers object)
       ∙ (λ i. fetch_answer (vectors i) (h.horizon i).base (state_at object (list Q) here) here)
+  row_alike (Delta object from here) fit =
+      let later : Covers here from = (delta_fits s.n object from here fit).2 in
+      delta_alike (vector s.n (list P)) P.horizon.base from here
+      (told_of (ops_since object (list P) from here) (state_at object (list P) here))
+      (told_of (ops_since object (list Q) from here) (state_at object (list Q) here))
+      (λ covered i. told_of
+      (ops_alike s.n P.horizon.base (list P) (list Q) lists from covered here later object i)
+      (state_alike s.n P.horizon.base (list P) (list Q) lists here (Covers_trans here from P.horizon.base later covered) object i))
+      ∙ (λ i. delta_answer (vectors i) (h.horizon i).base (told_of (ops_since object (list Q) from here) (state_at object (list Q) here)) from here)
   row_alike (Commit tx) fit = λ i. commit_answer s (vectors i) (lists.guards tx.dot.client i) (lists.counts s.me me i) tx
   row_alike (Send after most) fit =
       send_alike (at P.horizon.trimmed s.me) after most (of_origin s.me P.carried) (of_origin s.me Q.carried) (h.carried.kept s.me me)

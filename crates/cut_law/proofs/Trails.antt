@@ -5,7 +5,7 @@ use Rattle.std.specs.Option.{unwrap_or}
 use Rattle.std.proofs.lemmas.List.Sums.{fold_push}
 use Rattle.vv_core.specs.Vectors.{zeros}
 use Rattle.dc_talk.specs.declared.ask.Ask.{Ask}
-use Rattle.dc_talk.specs.declared.ask.Ask.TheVariants.{Hello, Refresh, Fetch, Commit, Send, Deliver, Relay, Report, Learn, Prune, Stop, Start}
+use Rattle.dc_talk.specs.declared.ask.Ask.TheVariants.{Hello, Refresh, Fetch, Delta, Commit, Send, Deliver, Relay, Report, Learn, Prune, Stop, Start}
 use Rattle.dc_talk.specs.declared.say.Say.{Say}
 use Rattle.dc_talk.specs.declared.say.Say.TheVariants.{Misfit, Down, Base}
 use Rattle.dc_talk.specs.declared.settings.Settings.{Settings}
@@ -21,6 +21,7 @@ row_parts : (s : Settings) (trail : List Entry) (ask : Ask) → row s trail ask 
 row_parts s trail (Hello client need) = refl
 row_parts s trail (Refresh client here) = refl
 row_parts s trail (Fetch object here) = refl
+row_parts s trail (Delta object from here) = refl
 row_parts s trail (Commit tx) = refl
 row_parts s trail (Send after most) = refl
 row_parts s trail (Deliver item hops) = refl

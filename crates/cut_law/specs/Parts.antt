@@ -6,7 +6,7 @@ use Rattle.list_core.specs.Moments.{Each}
 use Rattle.vv_core.specs.Vectors.{at, centres, tabulate, column, least, join_of, meet_of, kth_largest}
 use Rattle.tx_core.specs.declared.tx.Record.{Record}
 use Rattle.dc_talk.specs.declared.ask.Ask.{Ask}
-use Rattle.dc_talk.specs.declared.ask.Ask.TheVariants.{Hello, Refresh, Fetch, Commit, Send, Deliver, Relay, Report, Learn, Prune, Stop, Start}
+use Rattle.dc_talk.specs.declared.ask.Ask.TheVariants.{Hello, Refresh, Fetch, Delta, Commit, Send, Deliver, Relay, Report, Learn, Prune, Stop, Start}
 use Rattle.dc_talk.specs.declared.say.Say.{Say}
 use Rattle.dc_talk.specs.declared.say.Say.TheVariants.{Misfit, Down, Vector, Learned, Base, Stopped, Started}
 use Rattle.dc_talk.specs.declared.sent.Sent.{Sent}
@@ -14,9 +14,9 @@ use Rattle.dc_talk.specs.declared.settings.Settings.{Settings}
 use Rattle.dc_talk.specs.Entries.{Entry}
 use Rattle.dc_talk.specs.Records.{count, vector, guard}
 use Rattle.dc_talk.specs.Sents.{items}
-use Rattle.dc_talk.specs.Objects.{state_at}
+use Rattle.dc_talk.specs.Objects.{state_at, ops_since}
 use Rattle.dc_talk.specs.Trails.{Horizon, carried, carried_on, told, taught, taught_in, horizon, stopped, switched_in}
-use Rattle.dc_talk.specs.Answers.{fits, is_switch, hello_answer, refresh_answer, fetch_answer, commit_answer, send_answer, deliver_answer, snap_at, part_of, count_inside, tells}
+use Rattle.dc_talk.specs.Answers.{fits, is_switch, hello_answer, refresh_answer, fetch_answer, told_of, delta_answer, commit_answer, send_answer, deliver_answer, snap_at, part_of, count_inside, tells}
 
 -- what the answers of a centre depend on: the records that it applied, with their hops, what it was told of each centre,
 -- how far it has pruned, and whether it is stopped
@@ -51,6 +51,7 @@ abbrev pub row_over : Settings → Parts → Ask → Say
 row_over s P (Hello client need) = hello_answer (vector s.n (list P)) (guard client (list P)) need
 row_over s P (Refresh client here) = refresh_answer (vector s.n (list P)) (snap_at (list P) client (join_of here (stable_over s P))) here
 row_over s P (Fetch object here) = fetch_answer (vector s.n (list P)) P.horizon.base (state_at object (list P) here) here
+row_over s P (Delta object from here) = delta_answer (vector s.n (list P)) P.horizon.base (told_of (ops_since object (list P) from here) (state_at object (list P) here)) from here
 row_over s P (Commit tx) = commit_answer s (vector s.n (list P)) (guard tx.dot.client (list P)) (count s.me (list P)) tx
 row_over s P (Send after most) = send_answer (at P.horizon.trimmed s.me) (part_of s.me P.carried after most) after
 row_over s P (Deliver item hops) = deliver_answer s (vector s.n (list P)) (count item.stamp.centre (list P)) (guard item.tx.dot.client (list P)) item

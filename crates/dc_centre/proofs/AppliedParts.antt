@@ -31,6 +31,8 @@ use Rattle.point_log.specs.Served.{ServedEntries}
 use Rattle.point_log.specs.Mines.{MineEntries}
 use Rattle.point_log.proofs.Serving.{none_served}
 use Rattle.point_log.proofs.Telling.{none_mines}
+use Rattle.object_delta.specs.Passed.{PassedEntries}
+use Rattle.object_delta.proofs.Passing.{none_passed}
 use Rattle.centre_parts.specs.declared.part.AppliedParts.{AppliedParts}
 use Rattle.centre_parts.specs.Conditions.{noted}
 use Rattle.centre_parts.proofs.Guards.{number_at, number_is, noted_of}
@@ -113,8 +115,8 @@ module _ (x : AppliedView) (p : AppliedParts) (met : AreAppliedParts p) (are : A
   numbers_kept : (l : Logged) → In l x.log.items → l.tx.dot.number ≤ number_of x.lasts l.tx.dot.client
   numbers_kept l i = subst (λ (n : ℕ). l.tx.dot.number ≤ n) (noted_of x.lasts p.notes are.notes l.tx.dot.client) (All-In (λ r. r.tx.dot.number ≤ noted p.notes r.tx.dot.client) p.rest (log.rest_part l) met.numbers (rest_there l i))
 
-  pub kept_made : (served : ServedEntries) (mines : MineEntries) → IsKeptLog x.log → served ≡ [] → mines ≡ [] → IsKept x served mines
-  kept_made served mines logged none untold = record {
+  pub kept_made : (served : ServedEntries) (mines : MineEntries) (passed : PassedEntries) → IsKeptLog x.log → served ≡ [] → mines ≡ [] → passed ≡ [] → IsKept x served mines passed
+  kept_made served mines passed logged none untold unknown = record {
     width = subst (λ (n : ℕ). (1 ≤ n) × (n ≤ MOST_CENTRES)) (sym wide) met.width;
     based = ap length (sym are.point.vector) ∙ (met.based ∙ sym wide);
     within = subst (λ (v : List ℕ). Covers v x.point.vector) are.vector (subst (λ (v : List ℕ). Covers p.vector v) are.point.vector met.within);
@@ -124,12 +126,13 @@ module _ (x : AppliedView) (p : AppliedParts) (met : AreAppliedParts p) (are : A
     logged = logged;
     states = none_served x.counts x.point x.log served none;
     told = none_mines x.counts x.point x.log mines untold;
+    passed = none_passed (length x.counts) x.log passed unknown;
   }
 
 -- ---- the parts of what is well kept
 
-pub parts_kept : (x : AppliedView) (p : AppliedParts) (served : ServedEntries) (mines : MineEntries) → IsKept x served mines → AreAppliedPartsOf x p → guard.AreParts p.notes → point.AreParts p.point → log.AreParts p.rest → AreAppliedParts p
-parts_kept x p served mines kept are notes points rest = record {
+pub parts_kept : (x : AppliedView) (p : AppliedParts) (served : ServedEntries) (mines : MineEntries) (passed : PassedEntries) → IsKept x served mines passed → AreAppliedPartsOf x p → guard.AreParts p.notes → point.AreParts p.point → log.AreParts p.rest → AreAppliedParts p
+parts_kept x p served mines passed kept are notes points rest = record {
   width = subst (λ (n : ℕ). (1 ≤ n) × (n ≤ MOST_CENTRES)) (sym wide) kept.width;
   based = ap length are.point.vector ∙ (kept.based ∙ sym wide);
   within = subst (λ (v : List ℕ). Covers v p.point.vector) (sym are.vector) (subst (λ (v : List ℕ). Covers x.counts v) (sym are.point.vector) kept.within);

@@ -29,13 +29,15 @@ use Rattle.point_log.specs.Mines.{IsMine, AreMines, MineEntries, mine_of}
 use Rattle.point_log.proofs.KeptLogs.{none_kept, kept_more, kept_left}
 use Rattle.point_log.proofs.Serving.{kept_on, served_more, none_served}
 use Rattle.point_log.proofs.Telling.{mine_more, none_mines}
+use Rattle.object_delta.specs.Passed.{PassedEntries, ArePassed}
+use Rattle.object_delta.proofs.Passing.{none_passed, passed_more}
 use Rattle.dc_centre.specs.Applied.{AppliedView, IsNext, is_fresh, IsCentreOf, IsKept}
 use Rattle.dc_centre.proofs.Applying.{IsNothing, Noted, more_kept, stamp_out}
 
 -- ---- at first
 
-pub kept_none : (n : ℕ) (x : AppliedView) (served : ServedEntries) (mines : MineEntries) → (1 ≤ n) × (n ≤ MOST_CENTRES) → IsNothing n x → ((client : ℕ) → stamp_of x.lasts client ≡ None) → served ≡ [] → mines ≡ [] → IsKept x served mines
-kept_none n x served mines width h none empty untold = record {
+pub kept_none : (n : ℕ) (x : AppliedView) (served : ServedEntries) (mines : MineEntries) (passed : PassedEntries) → (1 ≤ n) × (n ≤ MOST_CENTRES) → IsNothing n x → ((client : ℕ) → stamp_of x.lasts client ≡ None) → served ≡ [] → mines ≡ [] → passed ≡ [] → IsKept x served mines passed
+kept_none n x served mines passed width h none empty untold unknown = record {
   width = subst (λ (m : ℕ). (1 ≤ m) × (m ≤ MOST_CENTRES)) (sym wide) width;
   based = ap length h.base ∙ sym (ap length h.counts);
   within = subst (λ (v : List ℕ). Covers x.counts v) (h.counts ∙ sym h.base) (Covers_refl x.counts);
@@ -45,6 +47,7 @@ kept_none n x served mines width h none empty untold = record {
   logged = subst IsKeptLog (sym h.log) none_kept;
   states = none_served x.counts x.point x.log served empty;
   told = none_mines x.counts x.point x.log mines untold;
+  passed = none_passed (length x.counts) x.log passed unknown;
 }
   where
     wide : length x.counts ≡ n
@@ -117,8 +120,8 @@ module _ (x : AppliedView) (r : Record) (fresh : Bool) (lasts : List Last) (next
     here = λ c. kept_on (IsMine x.point x.log c) (λ m. Covers x.counts m.at) (λ m. Covers (raised x.counts r.stamp) m.at) (mine_of mines c) (λ m is here. Covers_trans (raised x.counts r.stamp) x.counts m.at (Covers-join_left x.counts _) here) (are.numbers c) (are.here c);
   }
 
-pub kept_taken : (x : AppliedView) (lasts : List Last) (r : Record) (served : ServedEntries) (mines : MineEntries) → IsKept x served mines → IsNext x r → Noted r (is_fresh x r) x.lasts lasts → IsKept (more_kept x r (is_fresh x r) lasts) served mines
-kept_taken x lasts r served mines h next noted = record {
+pub kept_taken : (x : AppliedView) (lasts : List Last) (r : Record) (served : ServedEntries) (mines : MineEntries) (passed : PassedEntries) → IsKept x served mines passed → IsNext x r → Noted r (is_fresh x r) x.lasts lasts → IsKept (more_kept x r (is_fresh x r) lasts) served mines passed
+kept_taken x lasts r served mines passed h next noted = record {
   width = subst (λ (m : ℕ). (1 ≤ m) × (m ≤ MOST_CENTRES)) (sym wide) h.width;
   based = h.based ∙ sym wide;
   within = Covers_trans (raised x.counts r.stamp) x.counts x.point.vector (Covers-join_left x.counts _) h.within;
@@ -128,6 +131,7 @@ kept_taken x lasts r served mines h next noted = record {
   logged = kept_more x.log h.logged r fresh (not_logged x r h.numbers);
   states = states_more x r fresh lasts next noted served h.logged h.states;
   told = mines_more x r fresh lasts next noted mines h.told;
+  passed = subst (λ (m : ℕ). ArePassed m (with_one x.log r fresh) passed) (sym wide) (passed_more (length x.counts) x.log r fresh passed h.passed);
 }
   where
     fresh : Bool
@@ -138,8 +142,8 @@ kept_taken x lasts r served mines h next noted = record {
 
 -- ---- once more is folded
 
-pub kept_pruned : (x : AppliedView) (point : PointView) (left : log.LogView) (to : List ℕ) (before served : ServedEntries) (earlier mines : MineEntries) → IsKept x before earlier → length to ≡ length x.counts → Covers x.counts to → point.vector ≡ to → left ≡ record x.log { items = log.left_of to x.log.items } → served ≡ [] → mines ≡ [] → IsKept (record x { point = point; log = left }) served mines
-kept_pruned x point left to before served earlier mines h wide here is out empty untold = record {
+pub kept_pruned : (x : AppliedView) (point : PointView) (left : log.LogView) (to : List ℕ) (before served : ServedEntries) (earlier mines : MineEntries) (known passed : PassedEntries) → IsKept x before earlier known → length to ≡ length x.counts → Covers x.counts to → point.vector ≡ to → left ≡ record x.log { items = log.left_of to x.log.items } → served ≡ [] → mines ≡ [] → passed ≡ [] → IsKept (record x { point = point; log = left }) served mines passed
+kept_pruned x point left to before served earlier mines known passed h wide here is out empty untold unknown = record {
   width = h.width;
   based = ap length is ∙ wide;
   within = subst (Covers x.counts) (sym is) here;
@@ -149,4 +153,5 @@ kept_pruned x point left to before served earlier mines h wide here is out empty
   logged = subst IsKeptLog (sym out) (kept_left x.log h.logged to);
   states = none_served x.counts point left served empty;
   told = none_mines x.counts point left mines untold;
+  passed = none_passed (length x.counts) left passed unknown;
 }

@@ -8,6 +8,7 @@ use Rattle.std.proofs.lemmas.Bool.{cases_Bool, and_parts, false≢true, eq-eqb, 
 use Rattle.std.proofs.lemmas.List.{length-map}
 use Rattle.std.proofs.lemmas.List.Sums.{fold_push}
 use Rattle.ids_core.specs.declared.memory.NoMemory.{NoMemory}
+use Rattle.ids_core.specs.declared.object.ObjectId.{ObjectId}
 use Rattle.list_core.specs.Choices.{first_of}
 use Rattle.list_core.proofs.Images.{filter-map}
 use Rattle.vv_core.specs.Vectors.{at, zeros, centres, tabulate, column, least, join_of, meet_of, kth_largest, Covers}
@@ -20,19 +21,22 @@ use Rattle.tx_core.specs.Checks.{is_within}
 use Rattle.point_log.specs.Splits.{first_txs, is_inside}
 use Rattle.point_log.specs.StandFor.{state_told, count_told}
 use Rattle.point_log.proofs.StandingFor.{state_stands, mine_stands, count_stands}
+use Rattle.object_delta.specs.Deltas.{ops_told}
+use Rattle.object_delta.proofs.Deltas.{told_stands}
 use Rattle.dc_talk.specs.declared.ask.Ask.{Ask}
-use Rattle.dc_talk.specs.declared.ask.Ask.TheVariants.{Hello, Refresh, Fetch, Commit, Send, Deliver, Relay, Report, Learn, Prune, Stop, Start}
+use Rattle.dc_talk.specs.declared.ask.Ask.TheVariants.{Hello, Refresh, Fetch, Delta, Commit, Send, Deliver, Relay, Report, Learn, Prune, Stop, Start}
 use Rattle.dc_talk.specs.declared.say.Say.{Say}
 use Rattle.dc_talk.specs.declared.say.Say.TheVariants.{Misfit, Down, Lacks, Snap, Pruned, Object, Records, Vector, Learned, Base}
 use Rattle.dc_talk.specs.Entries.{Entry}
 use Rattle.dc_talk.specs.declared.ask.TheConstants.{MOST_SENT, MOST_HOPS}
 use Rattle.dc_talk.specs.declared.sent.Sent.{Sent}
 use Rattle.dc_talk.specs.Records.{count, vector, guard, has, inside, mine, firsts}
-use Rattle.dc_talk.specs.Objects.{state_at}
+use Rattle.dc_talk.specs.Objects.{state_at, ops_since}
 use Rattle.dc_talk.specs.Trails.{carried, applied, taught, taught_in, switched_in, told, stable, all_known, stopped, Horizon, horizon, horizon_after, pruned}
-use Rattle.dc_talk.specs.Answers.{fits, are_modest, is_fit_item, answer, row, lacking, snap_at, part_of, count_inside, tells, is_switch, hello_answer, refresh_answer, fetch_answer, commit_answer, send_answer, deliver_answer}
+use Rattle.dc_talk.specs.Answers.{fits, are_modest, is_fit_item, answer, row, lacking, snap_at, part_of, count_inside, tells, is_switch, hello_answer, refresh_answer, fetch_answer, told_of, delta_answer, commit_answer, send_answer, deliver_answer}
 use Rattle.dc_talk.specs.declared.settings.Settings.{Settings}
 use Rattle.dc_talk.proofs.Answers.{lack_none}
+use Rattle.dc_talk.proofs.ClientAnswers.{delta_fits}
 use Rattle.dc_talk.proofs.PeerAnswers.{item_fits}
 use Rattle.dc_talk.proofs.Growth.{carried_push}
 use Rattle.dc_talk.proofs.Horizons.{horizon_more}
@@ -104,6 +108,18 @@ fetch_alike have base here s t same = go (lacking Lacks have here)
     go None = pruned (lacking Pruned here base) refl
     go (Some say) = refl
 
+-- so is a delta, where what is told agrees
+delta_alike : (have base from here : List ℕ) (s t : Say) → (Covers from base → s ≡ t) → delta_answer have base s from here ≡ delta_answer have base t from here
+delta_alike have base from here s t same = go (lacking Lacks have here)
+  where
+    pruned : (o : Option Say) → lacking Pruned from base ≡ o → first_of (o ∷ []) s ≡ first_of (o ∷ []) t
+    pruned None is = same (lack_none Pruned from base is)
+    pruned (Some say) is = refl
+
+    go : (o : Option Say) → first_of (o ∷ lacking Pruned from base ∷ []) s ≡ first_of (o ∷ lacking Pruned from base ∷ []) t
+    go None = pruned (lacking Pruned from base) refl
+    go (Some say) = refl
+
 -- a send is answered alike where what is asked for agrees past what was let go
 send_alike : (trimmed after : ℕ) (x y : List Sent) → (trimmed ≤ after → x ≡ y) → send_answer trimmed x after ≡ send_answer trimmed y after
 send_alike trimmed after x y same = go (cases_Bool (nat_le (after + 1) trimmed))
@@ -155,6 +171,12 @@ module _ (c : CentreView) (trail : List Entry) (is : IsCentre c.settings c.appli
       send_alike (at c.trimmed origin) after (part_over c origin after most) (part_of origin (carried c.settings.n trail) after most) (asked_is origin after most low high)
       ∙ ap (λ (z : Horizon). send_answer (at z.trimmed origin) (part_of origin (carried c.settings.n trail) after most) after) h.pruned
 
+  -- what is told of an object is what the trail tells, where the base does not exceed the first vector
+  told_alike : (object : ObjectId) (from here : List ℕ) → Covers here from → Covers from c.applied.point.vector → told_of (ops_told c.applied.log object from here) (state_told c.applied.point c.applied.log object here) ≡ told_of (ops_since object (applied c.settings.n trail) from here) (state_at object (applied c.settings.n trail) here)
+  told_alike object from here later kept =
+      ap (λ ops. told_of ops (state_told c.applied.point c.applied.log object here)) (told_stands (applied c.settings.n trail) c.applied.point c.applied.log h.holds.applied.stored from here object kept)
+      ∙ ap (told_of (ops_since object (applied c.settings.n trail) from here)) (state_stands (applied c.settings.n trail) c.applied.point c.applied.log h.holds.applied.stored here object (Covers_trans here from c.applied.point.vector later kept))
+
   -- the reply over what it holds is that over the trail
   row_is : (ask : Ask) → fits c.settings.n ask ≡ true → row_over c ask ≡ row c.settings trail ask
   row_is (Hello client need) fit = ap (λ (v : List ℕ). hello_answer v (number_of c.applied.lasts client) need) counts ∙ ap (λ (m : ℕ). hello_answer (vector c.settings.n (applied c.settings.n trail)) m need) (number client)
@@ -163,6 +185,10 @@ module _ (c : CentreView) (trail : List Entry) (is : IsCentre c.settings c.appli
       fetch_alike c.applied.counts c.applied.point.vector here (state_told c.applied.point c.applied.log object here) (state_at object (applied c.settings.n trail) here) (state_stands (applied c.settings.n trail) c.applied.point c.applied.log h.holds.applied.stored here object)
       ∙ (ap (λ (v : List ℕ). fetch_answer v c.applied.point.vector (state_at object (applied c.settings.n trail) here) here) counts
       ∙ ap (λ (v : List ℕ). fetch_answer (vector c.settings.n (applied c.settings.n trail)) v (state_at object (applied c.settings.n trail) here) here) base)
+  row_is (Delta object from here) fit =
+      delta_alike c.applied.counts c.applied.point.vector from here (told_of (ops_told c.applied.log object from here) (state_told c.applied.point c.applied.log object here)) (told_of (ops_since object (applied c.settings.n trail) from here) (state_at object (applied c.settings.n trail) here)) (told_alike object from here (delta_fits c.settings.n object from here fit).2)
+      ∙ (ap (λ (v : List ℕ). delta_answer v c.applied.point.vector (told_of (ops_since object (applied c.settings.n trail) from here) (state_at object (applied c.settings.n trail) here)) from here) counts
+      ∙ ap (λ (v : List ℕ). delta_answer (vector c.settings.n (applied c.settings.n trail)) v (told_of (ops_since object (applied c.settings.n trail) from here) (state_at object (applied c.settings.n trail) here)) from here) base)
   row_is (Commit tx) fit =
       ap (λ (v : List ℕ). commit_answer c.settings v (number_of c.applied.lasts tx.dot.client) (at c.applied.counts c.settings.me) tx) counts
       ∙ (ap (λ (m : ℕ). commit_answer c.settings (vector c.settings.n (applied c.settings.n trail)) m (at c.applied.counts c.settings.me) tx) (number tx.dot.client)

@@ -15,6 +15,7 @@ use Rattle.point_log.specs.StandFor.{StandFor}
 use Rattle.point_log.specs.KeptLogs.{IsKeptLog}
 use Rattle.point_log.specs.Served.{ServedEntries, AreServed}
 use Rattle.point_log.specs.Mines.{MineEntries, AreMines}
+use Rattle.object_delta.specs.Passed.{PassedEntries, ArePassed}
 use Rattle.dc_talk.specs.Records.{count, vector, guard, first_stamp, top, has}
 use Rattle.dc_talk.specs.Dots.{dots_of}
 
@@ -81,9 +82,9 @@ pub record IsApplied (n : ℕ) (x : AppliedView) (A : List Record) : Type 0 wher
 
 -- what is kept is well kept, whatever records it stands for: all vectors are of one width, and what is folded is counted;
 -- the stamp of each client is of a centre; each transaction in the log has few updates, and is one of its client's up to
--- the last; the log can be folded on, as the states are that were served; and the numbers that were told are those of
--- clients
-pub record IsKept (x : AppliedView) (served : ServedEntries) (mines : MineEntries) : Type 0 where
+-- the last; the log can be folded on, as the states are that were served; the numbers that were told are those of
+-- clients; and what is known of the first operations of objects is so
+pub record IsKept (x : AppliedView) (served : ServedEntries) (mines : MineEntries) (known : PassedEntries) : Type 0 where
   pub width : (1 ≤ length x.counts) × (length x.counts ≤ MOST_CENTRES)
   pub based : length x.point.vector ≡ length x.counts
   pub within : Covers x.counts x.point.vector
@@ -93,3 +94,4 @@ pub record IsKept (x : AppliedView) (served : ServedEntries) (mines : MineEntrie
   pub logged : IsKeptLog x.log
   pub states : AreServed x.counts x.point x.log served
   pub told : AreMines x.counts x.point x.log mines
+  pub passed : ArePassed (length x.counts) x.log known

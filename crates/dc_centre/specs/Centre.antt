@@ -6,8 +6,9 @@ use Rattle.vv_core.specs.Vectors.{at, join_of, Covers}
 use Rattle.dup_guard.specs.Notes.{number_of}
 use Rattle.k_stable.specs.Tables.{Table, IsTable, told_by, stable_of, all_known_of}
 use Rattle.point_log.specs.StandFor.{state_told, mine_told, count_told}
+use Rattle.object_delta.specs.Deltas.{ops_told}
 use Rattle.dc_talk.specs.declared.ask.Ask.{Ask}
-use Rattle.dc_talk.specs.declared.ask.Ask.TheVariants.{Hello, Refresh, Fetch, Commit, Send, Deliver, Relay, Report, Learn, Prune, Stop, Start}
+use Rattle.dc_talk.specs.declared.ask.Ask.TheVariants.{Hello, Refresh, Fetch, Delta, Commit, Send, Deliver, Relay, Report, Learn, Prune, Stop, Start}
 use Rattle.dc_talk.specs.declared.say.Say.{Say}
 use Rattle.dc_talk.specs.declared.say.Say.TheVariants.{Down, Snap, Vector, Learned, Base, Stopped, Started}
 use Rattle.dc_talk.specs.declared.sent.Sent.{Sent}
@@ -15,7 +16,7 @@ use Rattle.dc_talk.specs.declared.settings.Settings.{Settings}
 use Rattle.dc_talk.specs.Entries.{Entry}
 use Rattle.dc_talk.specs.Sents.{items}
 use Rattle.dc_talk.specs.Trails.{carried, carried_on, told, stopped, taught, taught_in, switched_in, Horizon, horizon}
-use Rattle.dc_talk.specs.Answers.{hello_answer, refresh_answer, fetch_answer, commit_answer, send_answer, deliver_answer, tells, is_switch}
+use Rattle.dc_talk.specs.Answers.{hello_answer, refresh_answer, fetch_answer, told_of, delta_answer, commit_answer, send_answer, deliver_answer, tells, is_switch}
 use Rattle.dc_centre.specs.Applied.{AppliedView, IsApplied}
 use Rattle.dc_centre.specs.Outboxes.{row_of, Keeps}
 
@@ -89,6 +90,7 @@ abbrev pub row_over : CentreView → Ask → Say
 row_over c (Hello client need) = hello_answer c.applied.counts (number_of c.applied.lasts client) need
 row_over c (Refresh client here) = refresh_answer c.applied.counts (snap_over c client (join_of here (stable_over c))) here
 row_over c (Fetch object here) = fetch_answer c.applied.counts c.applied.point.vector (state_told c.applied.point c.applied.log object here) here
+row_over c (Delta object from here) = delta_answer c.applied.counts c.applied.point.vector (told_of (ops_told c.applied.log object from here) (state_told c.applied.point c.applied.log object here)) from here
 row_over c (Commit tx) = commit_answer c.settings c.applied.counts (number_of c.applied.lasts tx.dot.client) (at c.applied.counts c.settings.me) tx
 row_over c (Send after most) = send_answer (at c.trimmed c.settings.me) (part_over c c.settings.me after most) after
 row_over c (Deliver item hops) = deliver_answer c.settings c.applied.counts (at c.applied.counts item.stamp.centre) (number_of c.applied.lasts item.tx.dot.client) item

@@ -8,6 +8,7 @@ ghost use Rattle.dup_guard.specs.Notes.{number_of, stamp_of};
 ghost use Rattle.tx_core.specs.Checks.{IsFit};
 ghost use Rattle.tx_core.specs.declared.tx.Record.{Record as RecordOf};
 ghost use Rattle.point_log.specs.StandFor.{state_told, mine_told, count_told};
+ghost use Rattle.object_delta.specs.Deltas.{ops_told, if_few};
 ghost use Rattle.dc_talk.specs.Records.{joined};
 ghost use Rattle.dc_centre.specs.Applied.{IsNext, is_fresh, IsApplied};
 
@@ -15,19 +16,21 @@ use check_point::Point;
 use dc_talk::SharedState;
 use dup_guard::Guard;
 use ids_core::{Dot, NoMemory, ObjectId};
+use object_delta::{PassedObjects, changes};
 use op_log::Log;
 use point_log::{Mines, ServedStates, keep, prune, serve, tell_mine};
 use std::alloc::Global;
 use std::collections::BTreeMap;
 use std::marker::Model;
-use tx_core::{Record, Tx};
+use tx_core::{Record, Tail, Tx};
 use vv_core::{Stamp, Vector};
 
 /// What a centre keeps of the records that it applied: how many there are of each centre, the last
 /// number of each client with its first stamp, the greatest rank, and the transactions, those within a
 /// vector folded into states, and the others in a log. Beside them it keeps states that it served, each of
 /// an object with many operations in the log at a vector within the counts, and of each client the last number that
-/// it told, until it is pruned: they are what point and log tell, and no contract shows them.
+/// it told, and of objects how many of their first operations in the log are within a vector, until it is pruned: they
+/// are what point and log tell, and no contract shows them.
 #[derive(Drop)]
 pub struct Applied {
     pub(crate) vector: Vector,
@@ -37,6 +40,7 @@ pub struct Applied {
     pub(crate) log: Log,
     pub(crate) served: ServedStates,
     pub(crate) mines: Mines,
+    pub(crate) passed: PassedObjects,
 }
 
 impl Model for Applied {
@@ -49,7 +53,7 @@ impl Model for Applied {
 
     ghost view = { λ a. record { counts = a.vector; lasts = a.guard; greatest = a.top; point = a.point; log = a.log } };
 
-    ghost invariant = { λ a. IsKept (record { counts = a.vector; lasts = a.guard; greatest = a.top; point = a.point; log = a.log }) a.served.entries a.mines.entries };
+    ghost invariant = { λ a. IsKept (record { counts = a.vector; lasts = a.guard; greatest = a.top; point = a.point; log = a.log }) a.served.entries a.mines.entries a.passed.entries };
 }
 
 impl Applied {
@@ -68,6 +72,7 @@ impl Applied {
             log: Log::new(alloc)?,
             served: BTreeMap::new(alloc),
             mines: BTreeMap::new(alloc),
+            passed: BTreeMap::new(alloc),
         })
     }
 
@@ -151,6 +156,24 @@ impl Applied {
         serve(alloc, &self.point, &self.log, &mut self.served, object, at)
     }
 
+    /// The operations that came to an object between two vectors, by the log, where they are at most `MOST_CHANGES`; else
+    /// `None`. Nothing that is seen changes. Time: that of the object's operations in the log behind those that are known
+    /// to be within the first vector.
+    pub fn changes(
+        &mut self,
+        alloc: Global,
+        object: &ObjectId,
+        from: &Vector,
+        at: &Vector,
+    ) -> Result<Option<Tail>, NoMemory>
+        requires from { length from.now ≡ length self.old.counts }
+        requires at { length at.now ≡ length self.old.counts }
+        ensures told { IfOk result (λ tail. tail ≡ if_few (ops_told self.old.log object.now from.now at.now)) }
+        ensures same { self.new ≡ self.old }
+    {
+        changes(alloc, &self.log, &mut self.passed, object, from, at)
+    }
+
     /// The dependency vector of its client's next transaction.
     pub fn deps_of(&self, tx: &Tx) -> Vector
         requires { IsFit (length self.now.counts) tx.now }
@@ -196,6 +219,7 @@ impl Applied {
         prune(alloc, &mut self.point, &mut self.log, to)?;
         self.served.clear();
         self.mines.clear();
+        self.passed.clear();
         Ok(())
     }
 }

@@ -31,7 +31,7 @@ impl Applied {
         })
     }
 
-    /// What is kept where these are its parts. No state is served yet, and no number told. Time: linear in the parts, with a logarithm
+    /// What is kept where these are its parts. No state is served yet, no number told, and nothing known of objects. Time: linear in the parts, with a logarithm
     /// for the tables.
     pub fn of_parts(alloc: Global, parts: AppliedParts) -> Result<Applied, NoMemory>
         requires { AreAppliedParts parts }
@@ -46,6 +46,7 @@ impl Applied {
             log: Log::of_parts(alloc, parts.rest)?,
             served: BTreeMap::new(alloc),
             mines: BTreeMap::new(alloc),
+            passed: BTreeMap::new(alloc),
         })
     }
 }

@@ -1,9 +1,9 @@
 // What a centre answers to clients.
 ghost use Rattle.std.specs.Prelude.{◌≡◌, ◌≤◌, ◌<◌, ◌+◌, IfOk, OnErr, length};
-ghost use Rattle.vv_core.specs.Vectors.{at};
+ghost use Rattle.vv_core.specs.Vectors.{at, Covers};
 ghost use Rattle.dup_guard.specs.Notes.{number_of};
 ghost use Rattle.dc_talk.specs.declared.say.Say.TheVariants.{Lacks, Pruned, Stamped};
-ghost use Rattle.dc_talk.specs.declared.ask.Ask.TheVariants.{Hello, Refresh, Fetch, Commit};
+ghost use Rattle.dc_talk.specs.declared.ask.Ask.TheVariants.{Hello, Refresh, Fetch, Delta, Commit};
 ghost use Rattle.tx_core.specs.Checks.{IsFit};
 ghost use Rattle.dc_centre.specs.Centre.{Goes, row_over, stable_over};
 
@@ -76,6 +76,36 @@ impl Centre {
         }
         if let Some(lack) = Vector::first_lack(at, &self.applied.base()) {
             return Ok((pruned(lack), pruned(lack)));
+        }
+        let state = self.applied.state(alloc, object, at)?;
+        let copy = state.copy()?;
+        Ok((Say::Object { state: copy }, Say::Object { state }))
+    }
+
+    /// The answer to a delta, in two copies: the operations where they are few, else the state.
+    pub(crate) fn changes(
+        &mut self,
+        alloc: Global,
+        object: &ObjectId,
+        from: &Vector,
+        at: &Vector,
+    ) -> Result<(Say, Say), NoMemory>
+        requires from { length from.now ≡ self.old.settings.n }
+        requires at { length at.now ≡ self.old.settings.n }
+        requires later { Covers at.now from.now }
+        ensures answer { IfOk result (λ says. says.0 ≡ row_over self.old (Delta object.now from.now at.now)) }
+        ensures copy { IfOk result (λ says. says.1 ≡ says.0) }
+        ensures same { self.new ≡ self.old }
+    {
+        if let Some(lack) = Vector::first_lack(&self.applied.vector(), at) {
+            return Ok((lacks(lack), lacks(lack)));
+        }
+        if let Some(lack) = Vector::first_lack(from, &self.applied.base()) {
+            return Ok((pruned(lack), pruned(lack)));
+        }
+        if let Some(tail) = self.applied.changes(alloc, object, from, at)? {
+            let copy = tail.copy()?;
+            return Ok((Say::Changes { tail: copy }, Say::Changes { tail }));
         }
         let state = self.applied.state(alloc, object, at)?;
         let copy = state.copy()?;

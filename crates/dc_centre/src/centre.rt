@@ -86,7 +86,7 @@ impl Centre {
 
     /// Answers an ask, in two equal copies: over every trail that the centre stands for, the answer
     /// is the one that is defined for that trail, and the centre then stands for the trail with this
-    /// entry. Memory is taken before anything changes. Time: a fetch takes that of its object's
+    /// entry. Memory is taken before anything changes. Time: a fetch or a delta takes that of its object's
     /// operations that are not folded yet, a prune that of what it folds and lets go, and no other ask
     /// any that grows with the history.
     // Where the entry is put both answers are written to their place at once: they are large to hand over.
@@ -128,6 +128,7 @@ impl Centre {
             Ask::Hello { client, need } => Ok(self.welcome(*client, need)),
             Ask::Refresh { client, at } => Ok(self.snap(*client, at)),
             Ask::Fetch { object, at } => self.object(alloc, object, at),
+            Ask::Delta { object, from, at } => self.changes(alloc, object, from, at),
             Ask::Commit { tx } => self.commit(tx.as_tx()),
             Ask::Send { after, most } => self.send(alloc, *after, *most),
             Ask::Deliver { item, hops } => self.deliver(item, *hops),

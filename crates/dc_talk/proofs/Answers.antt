@@ -1,27 +1,30 @@
 -- Which answers there are to each ask, and what holds of the answer.
-use Rattle.std.proofs.Common.{◌≡◌, ℕ, ◌+◌, Bool, true, false, cond, ◌||◌, List, [], ◌∷◌, Option, Some, None, refl, sym, ap, ◌∙◌, subst}
+use Rattle.std.proofs.Common.{◌≡◌, ℕ, ◌+◌, Bool, true, false, cond, ◌||◌, List, [], ◌∷◌, length, Option, Some, None, refl, sym, ap, ◌∙◌, subst}
 use Rattle.std.specs.Prelude.{nat_le, not, ◌==◌, ◌&&◌}
 use Rattle.std.specs.Option.{option_map}
 use Rattle.std.proofs.lemmas.Bool.{false≢true}
 use Rattle.std.proofs.lemmas.Option.{none-some, same_Some}
 use Rattle.list_core.specs.Choices.{when, first_of}
 use Rattle.list_core.proofs.Choices.{EachChoice, first_of_holds, when_holds}
+use Rattle.ids_core.specs.declared.ids.Mark.{Mark}
 use Rattle.vv_core.specs.declared.stamp.Lack.{Lack}
 use Rattle.vv_core.specs.Vectors.{at, Covers, lack_of, IsFirstLack}
 use Rattle.vv_core.proofs.Covering.{lack_of-none, lack_of-some, lack_of_covered, covers-true, covers_from}
+use Rattle.tx_core.specs.declared.op.Op.{Op}
 use Rattle.tx_core.specs.declared.tx.Tx.{Tx}
 use Rattle.tx_core.specs.declared.tx.Record.{Record}
 use Rattle.tx_core.specs.declared.state.State.{State}
+use Rattle.dc_talk.specs.declared.ask.TheConstants.{MOST_CHANGES}
 use Rattle.dc_talk.specs.declared.ask.Ask.{Ask}
-use Rattle.dc_talk.specs.declared.ask.Ask.TheVariants.{Hello, Refresh, Fetch, Commit, Send, Deliver, Relay, Report, Learn, Prune, Stop, Start}
+use Rattle.dc_talk.specs.declared.ask.Ask.TheVariants.{Hello, Refresh, Fetch, Delta, Commit, Send, Deliver, Relay, Report, Learn, Prune, Stop, Start}
 use Rattle.dc_talk.specs.declared.say.Say.{Say}
-use Rattle.dc_talk.specs.declared.say.Say.TheVariants.{Misfit, Down, Lacks, Welcome, Snap, Pruned, Object, Known, OutOfOrder, Full, Stamped, Trimmed, Records, Old, Gap, Waits, Orphan, Applied, Vector, Learned, Base, Stopped, Started}
+use Rattle.dc_talk.specs.declared.say.Say.TheVariants.{Misfit, Down, Lacks, Welcome, Snap, Pruned, Object, Changes, Known, OutOfOrder, Full, Stamped, Trimmed, Records, Old, Gap, Waits, Orphan, Applied, Vector, Learned, Base, Stopped, Started}
 use Rattle.dc_talk.specs.declared.sent.Sent.{Sent}
 use Rattle.dc_talk.specs.declared.settings.Settings.{Settings}
 use Rattle.dc_talk.specs.Entries.{Entry}
 use Rattle.dc_talk.specs.Records.{count, vector, guard}
 use Rattle.dc_talk.specs.Trails.{applied, horizon, stopped}
-use Rattle.dc_talk.specs.Answers.{fits, lacking, fetch_answer, commit_answer, send_answer, deliver_answer, is_switch, row, answer}
+use Rattle.dc_talk.specs.Answers.{fits, lacking, fetch_answer, told_of, delta_answer, commit_answer, send_answer, deliver_answer, is_switch, row, answer}
 
 -- ---- refusals for what is lacking
 
@@ -90,6 +93,16 @@ pub fetch_holds : (P : Say → Type 0) (have base : List ℕ) (state : State) (h
 fetch_holds P have base state here lacks pruned covered = first_of_holds P (lacking Lacks have here ∷ lacking Pruned here base ∷ []) (Object state)
     (lack_holds P Lacks lacks have here, λ none. (lack_holds P Pruned pruned here base, λ kept. covered (lack_none Lacks have here none) (lack_none Pruned here base kept)))
 
+-- what holds of each refusal of a delta, and of few operations and of a state where nothing is lacking or pruned, holds of
+-- the answer
+pub delta_holds : (P : Say → Type 0) (have base : List ℕ) (ops : List (Mark × Op)) (state : State) (from here : List ℕ) → ((centre n h : ℕ) → P (Lacks centre n h)) → ((centre n h : ℕ) → P (Pruned centre n h)) → (Covers have here → Covers from base → P (Changes ops)) → (Covers have here → Covers from base → P (Object state)) → P (delta_answer have base (told_of ops state) from here)
+delta_holds P have base ops state from here lacks pruned few many = first_of_holds P (lacking Lacks have here ∷ lacking Pruned from base ∷ []) (told_of ops state)
+    (lack_holds P Lacks lacks have here, λ none. (lack_holds P Pruned pruned from base, λ kept. told (lack_none Lacks have here none) (lack_none Pruned from base kept) (nat_le (length ops) MOST_CHANGES)))
+  where
+    told : Covers have here → Covers from base → (b : Bool) → P (cond b (Changes ops) (Object state))
+    told covered kept true = few covered kept
+    told covered kept false = many covered kept
+
 -- what holds of a refusal of a send, and of the records that are asked for where they were not let go, holds of the answer
 pub send_holds : (P : Say → Type 0) (trimmed : ℕ) (asked : List Sent) (after : ℕ) → P (Trimmed trimmed) → P (Records asked) → P (send_answer trimmed asked after)
 send_holds P trimmed asked after refused given = first_of_holds P (when (nat_le (after + 1) trimmed) (Trimmed trimmed) ∷ []) (Records asked) (when_holds _ _ _ (λ t. refused), λ z. given)
@@ -103,6 +116,10 @@ may_answer (Refresh client here) (Snap vector mine top) = true
 may_answer (Fetch object here) (Lacks centre n h) = true
 may_answer (Fetch object here) (Pruned centre base low) = true
 may_answer (Fetch object here) (Object state) = true
+may_answer (Delta object from here) (Lacks centre n h) = true
+may_answer (Delta object from here) (Pruned centre base low) = true
+may_answer (Delta object from here) (Object state) = true
+may_answer (Delta object from here) (Changes tail) = true
 may_answer (Commit tx) (Known through) = true
 may_answer (Commit tx) (OutOfOrder have) = true
 may_answer (Commit tx) (Lacks centre n h) = true
@@ -129,6 +146,7 @@ pub row_answers : (s : Settings) (trail : List Entry) (ask : Ask) → may_answer
 row_answers s trail (Hello client need) = unless_lacking (λ say. may_answer (Hello client need) say ≡ true) (vector s.n (applied s.n trail)) need _ (λ c m h. refl) (λ covered. refl)
 row_answers s trail (Refresh client here) = unless_lacking (λ say. may_answer (Refresh client here) say ≡ true) (vector s.n (applied s.n trail)) here _ (λ c m h. refl) (λ covered. refl)
 row_answers s trail (Fetch object here) = fetch_holds (λ say. may_answer (Fetch object here) say ≡ true) (vector s.n (applied s.n trail)) (horizon s trail).base _ here (λ c m h. refl) (λ c m h. refl) (λ covered kept. refl)
+row_answers s trail (Delta object from here) = delta_holds (λ say. may_answer (Delta object from here) say ≡ true) (vector s.n (applied s.n trail)) (horizon s trail).base _ _ from here (λ c m h. refl) (λ c m h. refl) (λ covered kept. refl) (λ covered kept. refl)
 row_answers s trail (Commit tx) = commit_holds (λ say. may_answer (Commit tx) say ≡ true) s (vector s.n (applied s.n trail)) (guard tx.dot.client (applied s.n trail)) (count s.me (applied s.n trail)) tx
     (when_holds _ _ _ (λ t. refl), λ z. (when_holds _ _ _ (λ t. refl), λ z. (lack_holds _ Lacks (λ c m h. refl) (vector s.n (applied s.n trail)) tx.snap, λ z. (when_holds _ _ _ (λ t. refl), λ z. refl))))
 row_answers s trail (Send after most) = send_holds (λ say. may_answer (Send after most) say ≡ true) (at (horizon s trail).trimmed s.me) _ after refl refl

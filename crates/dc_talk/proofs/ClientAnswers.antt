@@ -2,24 +2,27 @@
 use Rattle.std.proofs.Common.{◌≡◌, ℕ, ◌+◌, ◌≤◌, ◌<◌, true, List, length, refl, sym, ap, ◌∙◌, arith}
 use Rattle.std.proofs.lemmas.Bool.{and_parts, leb-true, leb-false, eqb-true, false≢true}
 use Rattle.list_core.proofs.Choices.{is_none_true, when_none, when_holds}
+use Rattle.ids_core.specs.declared.ids.Mark.{Mark}
 use Rattle.ids_core.specs.declared.object.ObjectId.{ObjectId}
 use Rattle.vv_core.specs.declared.stamp.Stamp.{Stamp}
 use Rattle.vv_core.specs.Vectors.{Covers, join_of}
+use Rattle.vv_core.proofs.Covering.{covers-true}
+use Rattle.tx_core.specs.declared.op.Op.{Op}
 use Rattle.tx_core.specs.declared.tx.Tx.{Tx}
 use Rattle.tx_core.specs.declared.tx.Record.{Record}
 use Rattle.tx_core.specs.declared.state.State.{State}
 use Rattle.tx_core.specs.Checks.{fault_of, IsFit}
 use Rattle.tx_core.proofs.Fits.{fault_of-none}
 use Rattle.dc_talk.specs.declared.ask.Ask.{Ask}
-use Rattle.dc_talk.specs.declared.ask.Ask.TheVariants.{Hello, Refresh, Fetch, Commit}
-use Rattle.dc_talk.specs.declared.say.Say.TheVariants.{Lacks, Welcome, Snap, Object, Known, Stamped}
+use Rattle.dc_talk.specs.declared.ask.Ask.TheVariants.{Hello, Refresh, Fetch, Delta, Commit}
+use Rattle.dc_talk.specs.declared.say.Say.TheVariants.{Lacks, Welcome, Snap, Object, Changes, Known, Stamped}
 use Rattle.dc_talk.specs.declared.settings.Settings.{Settings}
 use Rattle.dc_talk.specs.Entries.{Entry}
 use Rattle.dc_talk.specs.Records.{count, vector, guard, top, inside, mine}
-use Rattle.dc_talk.specs.Objects.{state_at}
+use Rattle.dc_talk.specs.Objects.{state_at, ops_since}
 use Rattle.dc_talk.specs.Trails.{applied, stable, horizon}
 use Rattle.dc_talk.specs.Answers.{fits, snap_at, commit_answer, answer}
-use Rattle.dc_talk.proofs.Answers.{lack_holds, lack_none, unless_lacking, fetch_holds, commit_holds, may_answer, fitting, answers_it}
+use Rattle.dc_talk.proofs.Answers.{lack_holds, lack_none, unless_lacking, fetch_holds, delta_holds, commit_holds, may_answer, fitting, answers_it}
 
 -- ---- a commit
 
@@ -162,6 +165,53 @@ object_by s trail o here state is =
     (λ c m h e. absurd (cc))
     (λ c m h e. absurd (cc))
     (λ covered kept e. record { width = eqb-true (length here) s.n fit.0; covered = covered; is = same_state state (state_at o A here) e })
+    fit.1
+
+-- ---- a delta
+
+-- operations on an object that came between two vectors, after the records A, of a centre with this base
+pub record ChangesBy (n : ℕ) (A : List Record) (base : List ℕ) (o : ObjectId) (from here : List ℕ) (tail : List (Mark × Op)) : Type 0 where
+  pub widths : (length from ≡ n) × (length here ≡ n)
+  pub later : Covers here from
+  pub covered : Covers (vector n A) here
+  pub kept : Covers from base
+  pub is : tail ≡ ops_since o A from here
+
+-- equal answers have equal operations
+same_tail : (s t : List (Mark × Op)) → Changes s ≡ Changes t → s ≡ t
+same_tail s t same = cc
+
+-- the vectors of a delta that fits
+pub delta_fits : (n : ℕ) (o : ObjectId) (from here : List ℕ) → fits n (Delta o from here) ≡ true → (length from ≡ n) × (length here ≡ n) × Covers here from
+delta_fits n o from here fit =
+    let one = and_parts _ _ fit in
+    let two = and_parts _ _ one.1 in
+    (eqb-true (length from) n one.0, eqb-true (length here) n two.0, covers-true here from two.1)
+
+-- operations, by the answer
+pub changes_by : (s : Settings) (trail : List Entry) (o : ObjectId) (from here : List ℕ) (tail : List (Mark × Op)) → Changes tail ≡ answer s trail (Delta o from here) → ChangesBy s.n (applied s.n trail) (horizon s trail).base o from here tail
+changes_by s trail o from here tail is =
+    let A = applied s.n trail in
+    let fit = fitting s trail (Delta o from here) (Changes tail) is (λ e. cc) (λ e. cc) in
+    let wide = delta_fits s.n o from here fit.0 in
+    delta_holds (λ say. Changes tail ≡ say → ChangesBy s.n A (horizon s trail).base o from here tail) (vector s.n A) (horizon s trail).base (ops_since o A from here) (state_at o A here) from here
+    (λ c m h e. absurd (cc))
+    (λ c m h e. absurd (cc))
+    (λ covered kept e. record { widths = (wide.0, wide.1); later = wide.2; covered = covered; kept = kept; is = same_tail tail (ops_since o A from here) e })
+    (λ covered kept e. absurd (cc))
+    fit.1
+
+-- a state in place of them, by the answer
+pub whole_by : (s : Settings) (trail : List Entry) (o : ObjectId) (from here : List ℕ) (state : State) → Object state ≡ answer s trail (Delta o from here) → ObjectBy s.n (applied s.n trail) o here state
+whole_by s trail o from here state is =
+    let A = applied s.n trail in
+    let fit = fitting s trail (Delta o from here) (Object state) is (λ e. cc) (λ e. cc) in
+    let wide = delta_fits s.n o from here fit.0 in
+    delta_holds (λ say. Object state ≡ say → ObjectBy s.n A o here state) (vector s.n A) (horizon s trail).base (ops_since o A from here) (state_at o A here) from here
+    (λ c m h e. absurd (cc))
+    (λ c m h e. absurd (cc))
+    (λ covered kept e. absurd (cc))
+    (λ covered kept e. record { width = wide.1; covered = covered; is = same_state state (state_at o A here) e })
     fit.1
 
 -- ---- a hello

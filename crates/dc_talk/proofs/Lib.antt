@@ -7,6 +7,7 @@ pub mod PeerAnswers
 pub mod Counts
 pub mod Dots
 pub mod Firsts
+pub mod Deltas
 pub mod Horizons
 pub mod Stamps
 pub mod Applied

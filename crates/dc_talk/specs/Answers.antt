@@ -4,23 +4,25 @@ use Rattle.std.specs.List.{list_all}
 use Rattle.std.specs.Option.{option_map}
 use Rattle.list_core.specs.Choices.{when, first_of}
 use Rattle.ids_core.specs.declared.limits.TheConstants.{MOST_CLIENTS, MOST_RECORDS}
-use Rattle.vv_core.specs.Vectors.{at, join_of, lack_of}
+use Rattle.ids_core.specs.declared.ids.Mark.{Mark}
+use Rattle.vv_core.specs.Vectors.{at, join_of, lack_of, covers}
+use Rattle.tx_core.specs.declared.op.Op.{Op}
 use Rattle.tx_core.specs.declared.tx.Tx.{Tx}
 use Rattle.tx_core.specs.declared.tx.Record.{Record}
 use Rattle.tx_core.specs.declared.state.State.{State}
 use Rattle.tx_core.specs.Checks.{is_within, fault_of}
-use Rattle.dc_talk.specs.declared.ask.TheConstants.{MOST_SENT, MOST_HOPS}
+use Rattle.dc_talk.specs.declared.ask.TheConstants.{MOST_SENT, MOST_HOPS, MOST_CHANGES}
 use Rattle.dc_talk.specs.declared.ask.Ask.{Ask}
-use Rattle.dc_talk.specs.declared.ask.Ask.TheVariants.{Hello, Refresh, Fetch, Commit, Send, Deliver, Relay, Report, Learn, Prune, Stop, Start}
+use Rattle.dc_talk.specs.declared.ask.Ask.TheVariants.{Hello, Refresh, Fetch, Delta, Commit, Send, Deliver, Relay, Report, Learn, Prune, Stop, Start}
 use Rattle.dc_talk.specs.declared.say.Say.{Say}
-use Rattle.dc_talk.specs.declared.say.Say.TheVariants.{Misfit, Down, Lacks, Welcome, Snap, Pruned, Object, Known, OutOfOrder, Full, Stamped, Trimmed, Records, Old, Gap, Waits, Orphan, Applied, Vector, Learned, Base, Stopped, Started}
+use Rattle.dc_talk.specs.declared.say.Say.TheVariants.{Misfit, Down, Lacks, Welcome, Snap, Pruned, Object, Changes, Known, OutOfOrder, Full, Stamped, Trimmed, Records, Old, Gap, Waits, Orphan, Applied, Vector, Learned, Base, Stopped, Started}
 use Rattle.machine_trail.specs.History.{IsHistory}
 use Rattle.dc_talk.specs.declared.sent.Sent.{Sent}
 use Rattle.dc_talk.specs.declared.settings.Settings.{Settings}
 use Rattle.dc_talk.specs.Entries.{Entry}
 use Rattle.dc_talk.specs.Records.{count, vector, guard, top, inside, mine, has, firsts}
 use Rattle.dc_talk.specs.Sents.{of_origin}
-use Rattle.dc_talk.specs.Objects.{state_at}
+use Rattle.dc_talk.specs.Objects.{state_at, ops_since}
 use Rattle.dc_talk.specs.Clients.{same_vector}
 use Rattle.dc_talk.specs.Trails.{carried, applied, told, stable, horizon, pruned, stopped}
 
@@ -37,6 +39,7 @@ abbrev pub fits : ℕ → Ask → Bool
 fits n (Hello client need) = is_within 1 MOST_CLIENTS client && (length need == n)
 fits n (Refresh client here) = is_within 1 MOST_CLIENTS client && (length here == n)
 fits n (Fetch object here) = length here == n
+fits n (Delta object from here) = (length from == n) && ((length here == n) && covers here from)
 fits n (Commit tx) = is_none (fault_of n tx)
 fits n (Send after most) = is_within 1 MOST_SENT most
 fits n (Deliver item hops) = is_fit_item n item && nat_le hops MOST_HOPS
@@ -63,6 +66,14 @@ refresh_answer have snap here = first_of (lacking Lacks have here ∷ []) snap
 -- to a fetch, of a centre with this base, with the state
 abbrev pub fetch_answer : List ℕ → List ℕ → State → List ℕ → Say
 fetch_answer have base state here = first_of (lacking Lacks have here ∷ lacking Pruned here base ∷ []) (Object state)
+
+-- what is told of an object: the operations, where they are few, else the state
+abbrev pub told_of : List (Mark × Op) → State → Say
+told_of ops state = cond (nat_le (length ops) MOST_CHANGES) (Changes ops) (Object state)
+
+-- to a delta, of a centre with this base, with what is told of the object
+abbrev pub delta_answer : List ℕ → List ℕ → Say → List ℕ → List ℕ → Say
+delta_answer have base told from here = first_of (lacking Lacks have here ∷ lacking Pruned from base ∷ []) told
 
 -- to a commit, of a centre that has the client's transactions up to a number, and has stamped so many
 abbrev pub commit_answer : Settings → List ℕ → ℕ → ℕ → Tx → Say
@@ -108,6 +119,7 @@ abbrev pub row : Settings → List Entry → Ask → Say
 row s trail (Hello client need) = hello_answer (vector s.n (applied s.n trail)) (guard client (applied s.n trail)) need
 row s trail (Refresh client here) = refresh_answer (vector s.n (applied s.n trail)) (snap_at (applied s.n trail) client (join_of here (stable s trail))) here
 row s trail (Fetch object here) = fetch_answer (vector s.n (applied s.n trail)) (horizon s trail).base (state_at object (applied s.n trail) here) here
+row s trail (Delta object from here) = delta_answer (vector s.n (applied s.n trail)) (horizon s trail).base (told_of (ops_since object (applied s.n trail) from here) (state_at object (applied s.n trail) here)) from here
 row s trail (Commit tx) = commit_answer s (vector s.n (applied s.n trail)) (guard tx.dot.client (applied s.n trail)) (count s.me (applied s.n trail)) tx
 row s trail (Send after most) = send_answer (at (horizon s trail).trimmed s.me) (part_of s.me (carried s.n trail) after most) after
 row s trail (Deliver item hops) = deliver_answer s (vector s.n (applied s.n trail)) (count item.stamp.centre (applied s.n trail)) (guard item.tx.dot.client (applied s.n trail)) item

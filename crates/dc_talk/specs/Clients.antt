@@ -63,6 +63,18 @@ cached o w cache = option_map (λ c. c.state) (first_that (is_entry o w) cache)
 abbrev pub promoted : ObjectId → List ℕ → List Cached → List Cached
 promoted o w cache = brought_forward (is_entry o w) cache
 
+-- the entry is of the object
+abbrev pub is_of : ObjectId → Cached → Bool
+is_of o c = same_object c.object o
+
+-- what the cache has of the object, at whatever vector
+abbrev pub entry_of : ObjectId → List Cached → Option Cached
+entry_of o cache = first_that (is_of o) cache
+
+-- the cache without its entry of the object
+abbrev pub forgotten : ObjectId → List Cached → List Cached
+forgotten o cache = without_first (is_of o) cache
+
 -- the cache with a new entry in front, in place of the one of its object; past the capacity the
 -- last entry falls out
 abbrev pub kept : ℕ → Cached → List Cached → List Cached

@@ -2,9 +2,9 @@
 use Rattle.std.specs.Prelude.{◌≡◌, ◌≢◌, ◌≤◌, ◌<◌, ◌^◌, ℕ, Bool, true, false, length, List, [], ◌∷◌, ◌++◌}
 use Rattle.list_core.specs.Members.{In}
 use Rattle.dc_talk.specs.declared.ask.Ask.{Ask}
-use Rattle.dc_talk.specs.declared.ask.Ask.TheVariants.{Hello, Refresh, Fetch, Commit, Send, Deliver, Relay, Report, Learn, Prune, Stop, Start}
+use Rattle.dc_talk.specs.declared.ask.Ask.TheVariants.{Hello, Refresh, Fetch, Delta, Commit, Send, Deliver, Relay, Report, Learn, Prune, Stop, Start}
 use Rattle.dc_talk.specs.declared.say.Say.{Say}
-use Rattle.dc_talk.specs.declared.say.Say.TheVariants.{Misfit, Down, Lacks, Welcome, Snap, Pruned, Object, Known, OutOfOrder, Full, Stamped, Trimmed, Records, Old, Gap, Waits, Orphan, Applied, Vector, Learned, Base, Stopped, Started}
+use Rattle.dc_talk.specs.declared.say.Say.TheVariants.{Misfit, Down, Lacks, Welcome, Snap, Pruned, Object, Changes, Known, OutOfOrder, Full, Stamped, Trimmed, Records, Old, Gap, Waits, Orphan, Applied, Vector, Learned, Base, Stopped, Started}
 use Rattle.dc_talk.specs.declared.log.Deed.{Deed}
 use Rattle.dc_talk.specs.Entries.{Entry}
 use Rattle.dc_talk.specs.Logs.{entries_made}
@@ -35,6 +35,10 @@ belongs (Refresh client here) (Snap vector mine top) = true
 belongs (Fetch object here) (Lacks centre wanted have) = true
 belongs (Fetch object here) (Pruned centre base low) = true
 belongs (Fetch object here) (Object state) = true
+belongs (Delta object from here) (Lacks centre wanted have) = true
+belongs (Delta object from here) (Pruned centre base low) = true
+belongs (Delta object from here) (Object state) = true
+belongs (Delta object from here) (Changes tail) = true
 belongs (Commit tx) (Known through) = true
 belongs (Commit tx) (OutOfOrder have) = true
 belongs (Commit tx) (Lacks centre wanted have) = true

@@ -13,6 +13,9 @@ use vv_core::Vector;
 /// How many records a send asks for at most.
 pub const MOST_SENT: u32 = 1_024;
 
+/// How many operations of an object are told at most in place of its state.
+pub const MOST_CHANGES: usize = 64;
+
 /// How many hops a record has at most that is delivered.
 pub const MOST_HOPS: u8 = 7;
 
@@ -25,6 +28,8 @@ pub enum Ask {
     Refresh { client: u32, at: Vector },
     /// The state of an object at the snapshot `at`.
     Fetch { object: ObjectId, at: Vector },
+    /// What came to an object between the snapshots `from` and `at`, the second of which covers the first.
+    Delta { object: ObjectId, from: Vector, at: Vector },
     /// A transaction that a client has committed.
     Commit { tx: SharedTx },
     /// The centre's own records, at most so many, from the one after the first `after`.
@@ -62,6 +67,11 @@ impl Clone for Ask {
             }),
             Ask::Fetch { object, at } => Ok(Ask::Fetch {
                 object: *object,
+                at: *at,
+            }),
+            Ask::Delta { object, from, at } => Ok(Ask::Delta {
+                object: *object,
+                from: *from,
                 at: *at,
             }),
             Ask::Commit { tx } => Ok(Ask::Commit { tx: tx.clone()? }),
@@ -106,7 +116,8 @@ impl Ask {
     }
 
     /// Whether the ask can be made of a centre among `n`: its vectors have `n` entries, its centre is
-    /// in 1 to `n`, its client in 1 to `MOST_CLIENTS`, and its transaction passes `Tx::check`; a send
+    /// in 1 to `n`, its client in 1 to `MOST_CLIENTS`, and its transaction passes `Tx::check`; a delta goes
+    /// from a vector to one that covers it; a send
     /// or a relay asks for 1 to `MOST_SENT` records; a delivery has at most `MOST_HOPS` hops; and what
     /// is delivered or learned has numbers of at most `MOST_RECORDS`.
     // A centre tests each ask before it answers: the form of the ask is then told apart once for both.
@@ -119,6 +130,11 @@ impl Ask {
             Ask::Hello { client, need } => is_client(*client) && need.width() == n,
             Ask::Refresh { client, at } => is_client(*client) && at.width() == n,
             Ask::Fetch { object: _, at } => at.width() == n,
+            Ask::Delta {
+                object: _,
+                from,
+                at,
+            } => from.width() == n && at.width() == n && at.covers(from),
             Ask::Commit { tx } => tx.as_tx().check(n).is_ok(),
             Ask::Send { after: _, most } => (1..=MOST_SENT).contains(most),
             Ask::Deliver { item, hops } => is_fit_item(item.as_record(), n) && *hops <= MOST_HOPS,

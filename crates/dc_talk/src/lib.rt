@@ -20,12 +20,12 @@ mod seen;
 mod sent;
 mod settings;
 
-pub use ask::{Ask, MOST_HOPS, MOST_SENT};
+pub use ask::{Ask, MOST_CHANGES, MOST_HOPS, MOST_SENT};
 pub use calls::{Cached, Call, Change, Connection, Outcome, Refusal};
 pub use door::Door;
 pub use entry::Entry;
 pub use fold::fold_updates;
-pub use laws::law_history;
+pub use laws::{law_delta, law_history};
 pub use line::{Line, Miss, PushEnd, ShipEnd, StepWord};
 pub use links::{Arrival, FrameFault, LinkFault};
 pub use list_door::ListDoor;

@@ -3,7 +3,7 @@ ghost use Rattle.std.specs.Prelude.{◌≡◌, ℕ, List};
 ghost use Rattle.ids_core.specs.declared.object.ObjectId.{ObjectId};
 ghost use Rattle.tx_core.specs.declared.tx.Tx.{Tx};
 ghost use Rattle.tx_core.specs.declared.tx.Record.{Record};
-ghost use Rattle.dc_talk.specs.declared.ask.Ask.TheVariants.{Hello, Refresh, Fetch, Commit, Send, Deliver, Relay, Report, Learn, Prune, Stop, Start};
+ghost use Rattle.dc_talk.specs.declared.ask.Ask.TheVariants.{Hello, Refresh, Fetch, Delta, Commit, Send, Deliver, Relay, Report, Learn, Prune, Stop, Start};
 ghost use Rattle.dc_talk.specs.Doors.{belongs};
 
 use crate::ask::Ask;
@@ -18,6 +18,7 @@ pub fn belongs(ask: &Ask, say: &Say) -> bool
         Ask::Hello { .. } => is_to_hello(say),
         Ask::Refresh { .. } => is_to_refresh(say),
         Ask::Fetch { .. } => is_to_fetch(say),
+        Ask::Delta { .. } => is_to_delta(say),
         Ask::Commit { .. } => is_to_commit(say),
         Ask::Send { .. } => is_to_send(say),
         Ask::Deliver { .. } => is_to_deliver(say),
@@ -58,6 +59,17 @@ fn is_to_fetch(say: &Say) -> bool
         say,
         Say::Misfit | Say::Down | Say::Lacks { .. } | Say::Pruned { .. } | Say::Object { .. }
     )
+}
+
+// Whether a delta may be answered so.
+fn is_to_delta(say: &Say) -> bool
+    ensures { (object : ObjectId) (from here : List ℕ) → result ≡ belongs (Delta object from here) say.now }
+{
+    match say {
+        Say::Misfit | Say::Down | Say::Lacks { .. } => true,
+        Say::Pruned { .. } | Say::Object { .. } | Say::Changes { .. } => true,
+        _ => false,
+    }
 }
 
 // Whether a commit may be answered so.

@@ -5,6 +5,7 @@ use crate::sent::{Sent, SharedState};
 use ids_core::NoMemory;
 use list_core::List;
 use std::alloc::AllocError;
+use tx_core::Tail;
 use vv_core::{Stamp, Vector};
 
 /// Records with their hops in their order, seen as their list.
@@ -34,16 +35,21 @@ pub enum Say {
         mine: u64,
         top: u64,
     },
-    /// To a fetch: the centre keeps states from its base on alone, and the base is above the snapshot. The
+    /// To a fetch or a delta: the centre keeps states from its base on alone, and the base is above the snapshot, or
+    /// above that from which the delta goes. The
     /// least centre of which that is so, with the base's entry and the snapshot's.
     Pruned {
         centre: u8,
         base: u64,
         at: u64,
     },
-    /// To a fetch: the state of the object at the snapshot.
+    /// To a fetch, or to a delta of more than `MOST_CHANGES` operations: the state of the object at the snapshot.
     Object {
         state: SharedState,
+    },
+    /// To a delta: the operations that came to the object between the two snapshots.
+    Changes {
+        tail: Tail,
     },
     /// The transaction was here before: the greatest number of its client that is here.
     Known {
@@ -141,6 +147,9 @@ impl Clone for Say {
             }),
             Say::Object { state } => Ok(Say::Object {
                 state: state.clone()?,
+            }),
+            Say::Changes { tail } => Ok(Say::Changes {
+                tail: tail.clone()?,
             }),
             Say::Known { through } => Ok(Say::Known { through: *through }),
             Say::OutOfOrder { have } => Ok(Say::OutOfOrder { have: *have }),

@@ -7,7 +7,7 @@ use Rattle.vv_core.specs.Vectors.{at, zeros, join_of}
 use Rattle.dc_talk.specs.declared.sent.Sent.{Sent}
 use Rattle.dc_talk.specs.declared.settings.Settings.{Settings}
 use Rattle.dc_talk.specs.declared.ask.Ask.{Ask}
-use Rattle.dc_talk.specs.declared.ask.Ask.TheVariants.{Hello, Refresh, Fetch, Commit, Send, Deliver, Relay, Report, Learn, Prune, Stop, Start}
+use Rattle.dc_talk.specs.declared.ask.Ask.TheVariants.{Hello, Refresh, Fetch, Delta, Commit, Send, Deliver, Relay, Report, Learn, Prune, Stop, Start}
 use Rattle.dc_talk.specs.declared.say.Say.{Say}
 use Rattle.dc_talk.specs.declared.say.Say.TheVariants.{Misfit, Down, Applied, Vector, Learned}
 use Rattle.dc_talk.specs.declared.log.Fate.TheVariants.{Unheard}
@@ -62,6 +62,7 @@ alike_answer s x y (Learn from news) alike is = same_reply (fits s.n (Learn from
 alike_answer s x y (Hello client need) alike is = absurd is
 alike_answer s x y (Refresh client here) alike is = absurd is
 alike_answer s x y (Fetch object here) alike is = absurd is
+alike_answer s x y (Delta object from here) alike is = absurd is
 alike_answer s x y (Commit tx) alike is = absurd is
 alike_answer s x y Prune alike is = absurd is
 alike_answer s x y Stop alike is = absurd is
@@ -80,6 +81,7 @@ quiet_carried n me i C (Learn from news) say is quiet = refl
 quiet_carried n me i C (Hello client need) say is quiet = absurd is
 quiet_carried n me i C (Refresh client here) say is quiet = absurd is
 quiet_carried n me i C (Fetch object here) say is quiet = absurd is
+quiet_carried n me i C (Delta object from here) say is quiet = absurd is
 quiet_carried n me i C (Commit tx) say is quiet = absurd is
 quiet_carried n me i C Prune say is quiet = absurd is
 quiet_carried n me i C Stop say is quiet = absurd is
@@ -95,6 +97,7 @@ quiet_switch me down (Learn from news) say is = refl
 quiet_switch me down (Hello client need) say is = absurd is
 quiet_switch me down (Refresh client here) say is = absurd is
 quiet_switch me down (Fetch object here) say is = absurd is
+quiet_switch me down (Delta object from here) say is = absurd is
 quiet_switch me down (Commit tx) say is = absurd is
 quiet_switch me down Prune say is = absurd is
 quiet_switch me down Stop say is = absurd is
@@ -110,6 +113,7 @@ quiet_horizon s x h (Learn from news) say is = refl
 quiet_horizon s x h (Hello client need) say is = absurd is
 quiet_horizon s x h (Refresh client here) say is = absurd is
 quiet_horizon s x h (Fetch object here) say is = absurd is
+quiet_horizon s x h (Delta object from here) say is = absurd is
 quiet_horizon s x h (Commit tx) say is = absurd is
 quiet_horizon s x h Prune say is = absurd is
 quiet_horizon s x h Stop say is = absurd is
@@ -152,6 +156,7 @@ quiet_taught s x i j Report say is quiet by = refl
 quiet_taught s x i j (Hello client need) say is quiet by = absurd is
 quiet_taught s x i j (Refresh client here) say is quiet by = absurd is
 quiet_taught s x i j (Fetch object here) say is quiet by = absurd is
+quiet_taught s x i j (Delta object from here) say is quiet by = absurd is
 quiet_taught s x i j (Commit tx) say is quiet by = absurd is
 quiet_taught s x i j Prune say is quiet by = absurd is
 quiet_taught s x i j Stop say is quiet by = absurd is

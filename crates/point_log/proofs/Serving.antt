@@ -111,16 +111,16 @@ inside_stamped w n d s (x ∷ items) is =
     one false is = is
 
 -- so it does with one record more
-inside_more : (w : List ℕ) (n : ℕ) (kept : log.LogView) (r : Record) (fresh : Bool) → log.is_inside_at w n kept.items ≡ true → log.is_inside_at w n (with_one kept r fresh).items ≡ true
+pub inside_more : (w : List ℕ) (n : ℕ) (kept : log.LogView) (r : Record) (fresh : Bool) → log.is_inside_at w n kept.items ≡ true → log.is_inside_at w n (with_one kept r fresh).items ≡ true
 inside_more w n kept r true is = list_any-append (λ x. (x.number == n) && log.is_inside w x) kept.items (log.first_of kept.appended r ∷ []) ∙ or_left (log.is_inside_at w n kept.items) (log.is_inside_at w n (log.first_of kept.appended r ∷ [])) is
 inside_more w n kept r false is = inside_stamped w n r.tx.dot r.stamp kept.items is
 
 -- a chain is the front of what it is with one record more
-record Goes (before after : List Cell) : Type 0 where
-  more : List Cell
-  is : after ≡ before ++ more
+pub record Goes (before after : List Cell) : Type 0 where
+  pub more : List Cell
+  pub is : after ≡ before ++ more
 
-chain_goes : (o : ObjectId) (kept : log.LogView) (r : Record) (fresh : Bool) → Goes (log.chain_of o kept.items) (log.chain_of o (with_one kept r fresh).items)
+pub chain_goes : (o : ObjectId) (kept : log.LogView) (r : Record) (fresh : Bool) → Goes (log.chain_of o kept.items) (log.chain_of o (with_one kept r fresh).items)
 chain_goes o kept r true = record { more = log.cells_of o (log.first_of kept.appended r); is = chain_more o kept.items (log.first_of kept.appended r) }
 chain_goes o kept r false = record { more = []; is = chain_of-with_stamp o r.tx.dot r.stamp kept.items ∙ sym (append-nil (log.chain_of o kept.items)) }
 

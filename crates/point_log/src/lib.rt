@@ -9,5 +9,5 @@ mod standing;
 
 pub use laws::{law_split, law_split_steps, law_stand_for, law_stand_for_steps};
 pub use mines::{Mine, Mines, tell_mine};
-pub use served::{Served, ServedStates, serve};
+pub use served::{Served, ServedStates, first_inside, serve};
 pub use standing::{keep, mine_at, prune, state_at};

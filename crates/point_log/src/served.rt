@@ -180,9 +180,9 @@ fn is_since(log: &Log, cell: &Cell, before: &Vector, at: &Vector) -> bool
     log.since(cell.tx, before, at)
 }
 
-// How many of the first operations, of which so many are known to be, are of transactions with a stamp
-// within the vector.
-fn first_inside(log: &Log, cells: &[Cell], known: usize, at: &Vector) -> usize
+/// How many of the first operations, of which so many are known to be, are of transactions with a stamp
+/// within the vector.
+pub fn first_inside(log: &Log, cells: &[Cell], known: usize, at: &Vector) -> usize
     requires few { known ≤ length cells.now }
     requires first { AreInside at.now log.now.items (take known cells.now) }
     ensures few { result ≤ length cells.now }

@@ -10,9 +10,9 @@ use Rattle.ids_core.specs.declared.object.ObjectId.{ObjectId}
 use Rattle.tx_core.specs.declared.tx.Update.{Update}
 use Rattle.tx_core.specs.declared.tx.Tx.{Tx}
 use Rattle.dc_talk.specs.declared.ask.Ask.{Ask}
-use Rattle.dc_talk.specs.declared.ask.Ask.TheVariants.{Hello, Refresh, Fetch, Commit as CommitAsk}
+use Rattle.dc_talk.specs.declared.ask.Ask.TheVariants.{Hello, Refresh, Fetch, Delta, Commit as CommitAsk}
 use Rattle.dc_talk.specs.declared.say.Say.{Say}
-use Rattle.dc_talk.specs.declared.say.Say.TheVariants.{Welcome, Snap, Object, Known, Stamped}
+use Rattle.dc_talk.specs.declared.say.Say.TheVariants.{Welcome, Snap, Pruned, Object, Changes, Known, Stamped}
 use Rattle.dc_talk.specs.declared.calls.Change.{Change}
 use Rattle.dc_talk.specs.declared.calls.Call.{Call}
 use Rattle.dc_talk.specs.declared.calls.Call.TheVariants.{Begin, Change as ChangeCall, Read, Commit, Abort}
@@ -133,6 +133,9 @@ held_taken client s C i (Refresh c here) (Snap vector mine top) is h =
     let parts = and_parts ((c == s.client) && is_linked i s.link) (can_follow s vector mine top) is in
     held_snap client s C vector mine top (can_follow-true s vector mine top parts.1) h
 held_taken client s C i (Fetch o here) (Object state) is h = held_cache client s C _ h
+held_taken client s C i (Delta o from here) (Object state) is h = held_cache client s C _ h
+held_taken client s C i (Delta o from here) (Changes tail) is h = held_cache client s C _ h
+held_taken client s C i (Delta o from here) (Pruned centre base low) is h = held_cache client s C _ h
 held_taken client s C i (CommitAsk tx) (Stamped stamp) is h = held_link client s C _ h
 held_taken client s C i (CommitAsk tx) (Known through) is h = held_link client s C _ h
 held_taken client s C i _ _ is h = h

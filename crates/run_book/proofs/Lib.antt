@@ -8,6 +8,8 @@ pub mod Pairing
 pub mod Filtered
 pub mod Moves
 pub mod CellReads
+pub mod Fetches
+pub mod ObjectAsks
 pub mod Happenings
 pub mod Snapshots
 pub mod Dots

@@ -4,9 +4,9 @@ use Rattle.std.specs.Prelude.{slice_get}
 use Rattle.std.specs.Option.{option_map}
 use Rattle.list_core.proofs.Moments.{each_take}
 use Rattle.dc_talk.specs.declared.ask.Ask.{Ask}
-use Rattle.dc_talk.specs.declared.ask.Ask.TheVariants.{Hello, Refresh, Fetch, Commit}
+use Rattle.dc_talk.specs.declared.ask.Ask.TheVariants.{Hello, Refresh, Fetch, Delta, Commit}
 use Rattle.dc_talk.specs.declared.say.Say.{Say}
-use Rattle.dc_talk.specs.declared.say.Say.TheVariants.{Object, Known, Stamped}
+use Rattle.dc_talk.specs.declared.say.Say.TheVariants.{Pruned, Object, Changes, Known, Stamped}
 use Rattle.dc_talk.specs.declared.calls.Connection.{Connection}
 use Rattle.dc_talk.specs.declared.log.Note.{Note}
 use Rattle.dc_talk.specs.Clients.{Client, new_client}
@@ -39,6 +39,9 @@ other_taken : (r : Replay) (s : Client) (i : ℕ) (ask : Ask) (say : Say) → ((
 other_taken r s i (Hello client need) say no_refresh no_hello h = absurd (no_hello client need refl)
 other_taken r s i (Refresh client here) say no_refresh no_hello h = absurd (no_refresh client here refl)
 other_taken r s i (Fetch o here) (Object state) no_refresh no_hello h = shows_cache r s _ h
+other_taken r s i (Delta o from here) (Object state) no_refresh no_hello h = shows_cache r s _ h
+other_taken r s i (Delta o from here) (Changes tail) no_refresh no_hello h = shows_cache r s _ h
+other_taken r s i (Delta o from here) (Pruned centre base low) no_refresh no_hello h = shows_cache r s _ h
 other_taken r s i (Commit tx) (Stamped stamp) no_refresh no_hello h = shows_link r s _ (sent_same tx.dot.number s.own s.link) h
 other_taken r s i (Commit tx) (Known through) no_refresh no_hello h = shows_link r s _ (sent_same through s.own s.link) h
 other_taken r s i _ _ no_refresh no_hello h = h

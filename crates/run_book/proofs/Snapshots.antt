@@ -5,9 +5,9 @@ use Rattle.std.proofs.lemmas.Bool.{and_parts}
 use Rattle.vv_core.specs.Vectors.{join_of, Covers}
 use Rattle.vv_core.proofs.Covering.{Covers_refl}
 use Rattle.dc_talk.specs.declared.ask.Ask.{Ask}
-use Rattle.dc_talk.specs.declared.ask.Ask.TheVariants.{Hello, Refresh, Fetch, Commit as CommitAsk}
+use Rattle.dc_talk.specs.declared.ask.Ask.TheVariants.{Hello, Refresh, Fetch, Delta, Commit as CommitAsk}
 use Rattle.dc_talk.specs.declared.say.Say.{Say}
-use Rattle.dc_talk.specs.declared.say.Say.TheVariants.{Welcome, Snap, Object, Known, Stamped}
+use Rattle.dc_talk.specs.declared.say.Say.TheVariants.{Welcome, Snap, Pruned, Object, Changes, Known, Stamped}
 use Rattle.dc_talk.specs.declared.calls.Call.{Call}
 use Rattle.dc_talk.specs.declared.calls.Call.TheVariants.{Begin, Change as ChangeCall, Read, Commit, Abort}
 use Rattle.dc_talk.specs.declared.calls.Outcome.{Outcome}
@@ -78,6 +78,9 @@ taken_vector s i (Refresh c here) (Snap vector own_number top_rank) is new = inr
   more = (can_follow-true s vector own_number top_rank (and_parts ((c == s.client) && is_linked i s.link) (can_follow s vector own_number top_rank) is).1).covered;
 })
 taken_vector s i (Fetch o here) (Object state) is new = inl refl
+taken_vector s i (Delta o from here) (Object state) is new = inl refl
+taken_vector s i (Delta o from here) (Changes tail) is new = inl refl
+taken_vector s i (Delta o from here) (Pruned centre base low) is new = inl refl
 taken_vector s i (CommitAsk tx) (Stamped stamp) is new = inl refl
 taken_vector s i (CommitAsk tx) (Known through) is new = inl refl
 taken_vector s i _ _ is new = inl refl

@@ -9,7 +9,7 @@ use Rattle.tx_core.specs.declared.tx.Tx.{Tx}
 use Rattle.tx_core.specs.declared.tx.Record.{Record}
 use Rattle.tx_core.specs.declared.state.Value.{Value}
 use Rattle.dc_talk.specs.declared.ask.TheConstants.{MOST_SENT}
-use Rattle.dc_talk.specs.declared.ask.Ask.TheVariants.{Fetch, Send, Relay, Prune}
+use Rattle.dc_talk.specs.declared.ask.Ask.TheVariants.{Fetch, Delta, Send, Relay, Prune}
 use Rattle.dc_talk.specs.declared.say.Say.TheVariants.{Misfit, Snap, Pruned}
 use Rattle.dc_talk.specs.Entries.{Entry}
 use Rattle.dc_talk.specs.Records.{vector, count, own, inside}
@@ -87,7 +87,8 @@ pub record TakesSnapshots (b : Book) (setup : Setup) : Type 0 where
 
 -- what is pruned is known: what a centre folded, it has, and knew K centres to have; what it let go, of whatever origin,
 -- every centre has had, and each other one reported so; a fetch is refused for what is folded with the least centre of which
--- the base is above its vector, and both numbers; a send or a relay that asks for what was let go is answered with the
+-- the base is above its vector, and both numbers, and a delta with the least one of which the base is above the vector from
+-- which it goes; a send or a relay that asks for what was let go is answered with the
 -- number up to which all was, and every other one that fits with records, where the centre runs; and a prune is answered
 -- with how far the centre then has pruned
 pub record KnowsPruned (b : Book) (setup : Setup) : Type 0 where
@@ -95,6 +96,7 @@ pub record KnowsPruned (b : Book) (setup : Setup) : Type 0 where
   pub held : (i p : ℕ) → 1 ≤ i → i ≤ b.n → Covers (vector b.n (applied_at b i p)) (horizon_at b setup i p).base
   pub let_go : (i p : ℕ) (stamp : Stamp) → 1 ≤ i → i ≤ b.n → 1 ≤ stamp.seq → stamp.seq ≤ at (horizon_at b setup i p).trimmed stamp.centre → IsKnownToAll b i stamp
   pub refused : (i : ℕ) (o : ObjectId) (here : List ℕ) (centre high low : ℕ) (entry : Entry) (stands : IsEntry b i entry) → entry.ask ≡ Fetch o here → entry.say ≡ Pruned centre high low → IsFirstLack here (horizon_at b setup i stands.place).base (record { centre = centre; need = high; have = low })
+  pub refused_deltas : (i : ℕ) (o : ObjectId) (from here : List ℕ) (centre high low : ℕ) (entry : Entry) (stands : IsEntry b i entry) → entry.ask ≡ Delta o from here → entry.say ≡ Pruned centre high low → IsFirstLack from (horizon_at b setup i stands.place).base (record { centre = centre; need = high; have = low })
   pub sends : (i after most : ℕ) (entry : Entry) (stands : IsEntry b i entry) → entry.ask ≡ Send after most → (1 ≤ most) × (most ≤ MOST_SENT) → IsSendAnswer (at (horizon_at b setup i stands.place).trimmed i) after entry.say
   pub misfits : (i after most : ℕ) (entry : Entry) → IsEntry b i entry → entry.ask ≡ Send after most → (entry.say ≡ Misfit) ↔ ((1 ≤ most) × (most ≤ MOST_SENT) → ⊥)
   pub relays : (i origin after most : ℕ) (entry : Entry) (stands : IsEntry b i entry) → entry.ask ≡ Relay origin after most → IsRelay b.n origin most → IsSendAnswer (at (horizon_at b setup i stands.place).trimmed origin) after entry.say

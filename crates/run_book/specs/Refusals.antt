@@ -5,7 +5,7 @@ use Rattle.dc_talk.specs.declared.ask.Ask.{Ask}
 use Rattle.dc_talk.specs.declared.ask.TheConstants.{MOST_SENT}
 use Rattle.dc_talk.specs.declared.ask.Ask.TheVariants.{Refresh}
 use Rattle.dc_talk.specs.declared.say.Say.{Say}
-use Rattle.dc_talk.specs.declared.say.Say.TheVariants.{Misfit, Down, Lacks, Known, Full, Stamped, Trimmed, Records, Snap, Pruned, Object, Base}
+use Rattle.dc_talk.specs.declared.say.Say.TheVariants.{Misfit, Down, Lacks, Known, Full, Stamped, Trimmed, Records, Snap, Pruned, Object, Changes, Base}
 use Rattle.dc_talk.specs.declared.calls.Connection.{Connection}
 use Rattle.dc_talk.specs.declared.log.Fate.{Fate}
 use Rattle.dc_talk.specs.declared.log.Fate.TheVariants.{Heard}
@@ -79,6 +79,21 @@ pub record IsFetched (b : Book) (setup : Setup) (x : Exchange) (here : List ℕ)
   pub place : ℕ
   pub there : slice_get (trail_of b x.centre) place ≡ Some (record { caller = x.actor; ask = x.ask; say = x.answer })
   pub answer : IsFetchAnswer (horizon_at b setup x.centre place).base here x.answer
+
+-- the answers to a delta from a vector, of a centre that keeps states from its base on: what came since, or a state, where
+-- the vector covers the base, and else the least centre of which it does not
+abbrev pub IsDeltaAnswer : List ℕ → List ℕ → Say → Type 0
+IsDeltaAnswer base from (Changes tail) = Covers from base
+IsDeltaAnswer base from (Object state) = Covers from base
+IsDeltaAnswer base from (Pruned centre high low) = IsFirstLack from base (record { centre = centre; need = high; have = low })
+IsDeltaAnswer base from Down = Unit {0}
+IsDeltaAnswer base from _ = ⊥
+
+-- the exchange is that of a delta from the vector, by the centre's base at its entry
+pub record IsToldSince (b : Book) (setup : Setup) (x : Exchange) (from : List ℕ) : Type 0 where
+  pub place : ℕ
+  pub there : slice_get (trail_of b x.centre) place ≡ Some (record { caller = x.actor; ask = x.ask; say = x.answer })
+  pub answer : IsDeltaAnswer (horizon_at b setup x.centre place).base from x.answer
 
 -- a relay among n centres is of one of these as origin, and asks for so many records as may be sent
 pub record IsRelay (n origin most : ℕ) : Type 0 where

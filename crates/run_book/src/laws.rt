@@ -7,8 +7,8 @@ ghost use Rattle.tx_core.specs.declared.tx.Tx.{Tx};
 ghost use Rattle.tx_core.specs.declared.tx.Record.{Record};
 ghost use Rattle.tx_core.specs.declared.state.State.{State};
 ghost use Rattle.tx_core.specs.Checks.{IsFit};
-ghost use Rattle.dc_talk.specs.declared.ask.Ask.TheVariants.{Hello, Refresh, Fetch, Commit, Deliver, Learn};
-ghost use Rattle.dc_talk.specs.declared.say.Say.TheVariants.{Misfit, Orphan, Object};
+ghost use Rattle.dc_talk.specs.declared.ask.Ask.TheVariants.{Hello, Refresh, Fetch, Delta, Commit, Deliver, Learn};
+ghost use Rattle.dc_talk.specs.declared.say.Say.TheVariants.{Misfit, Down, Orphan, Object};
 ghost use Rattle.dc_talk.specs.declared.calls.Connection.{Connection};
 ghost use Rattle.dc_talk.specs.declared.log.Note.{Note};
 ghost use Rattle.dc_talk.specs.Entries.{Entry};
@@ -19,7 +19,7 @@ ghost use Rattle.run_book.specs.Fit.{FitsWith};
 ghost use Rattle.run_book.specs.Graphs.{basis_at, client_at, commits_at};
 ghost use Rattle.run_book.specs.ReadValues.{object_read};
 ghost use Rattle.run_book.specs.Causal.{IsCausal};
-ghost use Rattle.run_book.specs.Refusals.{IsEntry, Exchange, Makes, IsPushAnswer, IsNoRefusal, IsFetched, IsReached};
+ghost use Rattle.run_book.specs.Refusals.{IsEntry, Exchange, Makes, IsPushAnswer, IsNoRefusal, IsFetched, IsToldSince, IsReached};
 ghost use Rattle.run_book.specs.Laws.{HasSoundVectors, HasOneList, HasClosedBases, KeepsSessions, HasKnownBases, HasValues, Agrees, TakesSnapshots, KnowsPruned, HasFewHops};
 ghost use Rattle.run_book.specs.Numbers.{HasNumbers};
 ghost use Rattle.run_book.specs.declared.book.Book.{Book};
@@ -96,8 +96,10 @@ pub fn law_agree(book: &Book)
 /// the session rule gives, a push is answered with a stamp, or as known, for want of room, or by a stopped
 /// centre; a refresh neither with a misfit nor for what is lacking; a fetch with a state where the session's
 /// vector covers the base from which on the centre keeps states, and else with the least centre of which it does
-/// not and both numbers, or by a stopped centre; a hello not with a misfit.
-/// A state is always taken, and a snapshot where it has no more of the session's commits than it had made.
+/// not and both numbers, or by a stopped centre; a delta with what came since or a state where the vector from which
+/// it goes covers that base, and else as a fetch; a hello not with a misfit.
+/// A state is always taken, and so is each answer of a running centre to a delta; a snapshot where it has no more of
+/// the session's commits than it had made.
 pub fn law_refusals(book: &Book)
     ensures orphan { (setup : Setup) (i number have : ℕ) (entry : Entry) → FitsWith book.now setup → IsEntry book.now i entry → entry.say ≢ Orphan number have }
     ensures deliver { (setup : Setup) (i : ℕ) (entry : Entry) (item : Record) (hops : ℕ) → FitsWith book.now setup → IsEntry book.now i entry → entry.ask ≡ Deliver item hops → entry.say ≢ Misfit }
@@ -107,8 +109,10 @@ pub fn law_refusals(book: &Book)
     ensures push { (setup : Setup) (x : Exchange) (tx : Tx) → FitsWith book.now setup → Makes book.now setup x → x.ask ≡ Commit tx → IsPushAnswer x.answer }
     ensures refresh { (setup : Setup) (x : Exchange) (client : ℕ) (here : List ℕ) → FitsWith book.now setup → Makes book.now setup x → x.ask ≡ Refresh client here → IsNoRefusal x.answer }
     ensures fetch { (setup : Setup) (x : Exchange) (o : ObjectId) (here : List ℕ) → FitsWith book.now setup → Makes book.now setup x → x.ask ≡ Fetch o here → IsFetched book.now setup x here }
+    ensures delta { (setup : Setup) (x : Exchange) (o : ObjectId) (from here : List ℕ) → FitsWith book.now setup → Makes book.now setup x → x.ask ≡ Delta o from here → IsToldSince book.now setup x from }
     ensures hello { (setup : Setup) (x : Exchange) (client : ℕ) (need : List ℕ) → FitsWith book.now setup → Makes book.now setup x → x.ask ≡ Hello client need → x.answer ≢ Misfit }
     ensures object { (setup : Setup) (x : Exchange) (o : ObjectId) (here : List ℕ) (state : State) → FitsWith book.now setup → Makes book.now setup x → x.ask ≡ Fetch o here → x.answer ≡ Object state → takes (client_at book.now setup x.actor x.place) x.centre x.ask x.answer ≡ true }
+    ensures delta_taken { (setup : Setup) (x : Exchange) (o : ObjectId) (from here : List ℕ) → FitsWith book.now setup → Makes book.now setup x → x.ask ≡ Delta o from here → x.answer ≢ Down → takes (client_at book.now setup x.actor x.place) x.centre x.ask x.answer ≡ true }
     ensures snap { (setup : Setup) → FitsWith book.now setup → TakesSnapshots book.now setup }
 {}
 

@@ -1,5 +1,5 @@
 -- The deeds of a client's step are the same, or part at an answer.
-use Rattle.std.proofs.Common.{◌≡◌, ℕ, ℤ, ⊎_elim, inl, inr, true, false, List, [], ◌∷◌, ◌++◌, Option, Some, None, refl, sym, ap, ◌∙◌, subst}
+use Rattle.std.proofs.Common.{◌≡◌, ◌≢◌, ℕ, ℤ, inl, inr, Bool, true, false, List, [], ◌∷◌, ◌++◌, Option, Some, None, refl, sym, ap, ◌∙◌, subst}
 use Rattle.std.proofs.lemmas.Bool.{false≢true}
 use Rattle.ids_core.specs.declared.object.ObjectId.{ObjectId}
 use Rattle.tx_core.specs.declared.tx.Tx.{Tx}
@@ -23,7 +23,7 @@ use Rattle.dc_talk.specs.declared.line.Line.TheVariants as line
 use Rattle.dc_talk.specs.Logs.{commit_sent}
 use Rattle.dc_talk.specs.Clients.{Client}
 use Rattle.dc_talk.specs.Calls.{outcome_of}
-use Rattle.dc_talk.specs.Rule.{hello_of, refresh_of, fetch_of, next_commit}
+use Rattle.dc_talk.specs.Rule.{after, hello_of, refresh_of, fetch_of, next_commit}
 use Rattle.script_core.specs.declared.object_call.ObjectCall.{ObjectCall}
 use Rattle.script_core.specs.declared.taps.TapState.{TapState}
 use Rattle.script_core.specs.declared.steps.Share.{Share}
@@ -31,10 +31,11 @@ use Rattle.script_core.specs.declared.steps.AskFault.{AskFault}
 use Rattle.script_core.specs.declared.steps.AskFault.TheVariants.{LoseAsk, LoseReply, Twice}
 use Rattle.script_core.specs.declared.steps.ClientStep.{ClientStep}
 use Rattle.script_core.specs.declared.steps.ClientStep.TheVariants.{Connect, Begin, Change, Read, Grant, Give, Take, Rights, Commit, Abort, Push, Flush, Refresh, Again, Arm, Look}
-use Rattle.script_core.specs.Deeds.{Progress, fate_of, copies, took, told, Asks, OrTells, calls, calls_on, after_fetch, CallDeeds, change_call, read_call, cell_to, cell_read, cell_inc, share_cells, last_number, behind, FollowsRead, ReadsCell, CellsDeeds, AddsOwned, TakingDeeds, TellsRights, RightsDeeds, Pushes, OverNext, goes_on, PushesOn, FlushEnds, pushed, FlushDeeds, flush_ends, flush_goes, again_line, push_line, hello_line, refresh_line, AgainDeeds, RefreshDeeds, StepDeeds}
+use Rattle.script_core.specs.Deeds.{Progress, fate_of, copies, took, told, Asks, OrTells, calls, calls_on, after_fetch, asks_on, let_go, FetchesOnce, FetchesTwice, Fetches, CallDeeds, change_call, read_call, cell_to, cell_read, cell_inc, share_cells, last_number, behind, FollowsRead, ReadsCell, CellsDeeds, AddsOwned, TakingDeeds, TellsRights, RightsDeeds, Pushes, OverNext, goes_on, PushesOn, FlushEnds, pushed, FlushDeeds, flush_ends, flush_goes, again_line, push_line, hello_line, refresh_line, AgainDeeds, RefreshDeeds, StepDeeds}
 use Rattle.script_core.specs.Taps.{seen_through, looks, LooksSo}
-use Rattle.run_forks.specs.Forks.{AreRivals, AreOneOrFork}
-use Rattle.run_forks.proofs.Forks.{Same, fork_head, fork_as, with_as, with_then, with_cons, with_same, one_or_fork, both_are, fates, by_fate, by_unheard}
+use Rattle.run_book.proofs.Fetches.{LastAsk}
+use Rattle.run_forks.specs.Forks.{AreRivals, IsFork, AreOneOrFork}
+use Rattle.run_forks.proofs.Forks.{OneWith, Same, fork_head, fork_as, with_as, with_then, with_cons, with_same, with_so, one_or_fork, both_are, told_apart, by_fate, by_unheard}
 
 -- second copies of an ask
 copies_fork : (armed : Option AskFault) (i : ℕ) (ask : Ask) (say again : Say) → Same (copies armed i ask say) (copies armed i ask again)
@@ -43,27 +44,74 @@ copies_fork (Some LoseAsk) i ask say again = inl (refl, tt)
 copies_fork (Some LoseReply) i ask say again = inl (refl, tt)
 copies_fork None i ask say again = inl (refl, tt)
 
--- an ask, with its second copy and what follows
-asks_fork : (armed : Option AskFault) (i : ℕ) (ask : Ask) (following : Fate → List Deed) (ds es : List Deed) → Asks armed i ask following ds → Asks armed i ask following es → Same ds es
-asks_fork armed i ask following ds es one two =
+-- an ask, with its second copy and what follows; where these are the same, it ended the same
+asks_with : (armed : Option AskFault) (i : ℕ) (ask : Ask) (following : Fate → List Deed) (ds es : List Deed) (one : Asks armed i ask following ds) (two : Asks armed i ask following es) → OneWith ds es (fate_of armed one.say ≡ fate_of armed two.say)
+asks_with armed i ask following ds es one two =
     let first = fate_of armed one.say in
     let later = fate_of armed two.say in
-    with_as (Asked i ask first ∷ (copies armed i ask one.again ++ following first)) (Asked i ask later ∷ (copies armed i ask two.again ++ following later)) ds es (Unit {0}) one.whole two.whole
-    (by_fate armed i ask one.say two.say (copies armed i ask one.again ++ following first) (copies armed i ask two.again ++ following later) (Unit {0})
-    (λ same. with_then (copies armed i ask one.again) (copies armed i ask two.again) (following first) (following later) (Unit {0}) (Unit {0}) (copies_fork armed i ask one.again two.again) (λ _. inl (ap following same, tt))))
+    with_as (Asked i ask first ∷ (copies armed i ask one.again ++ following first)) (Asked i ask later ∷ (copies armed i ask two.again ++ following later)) ds es (first ≡ later) one.whole two.whole
+    (by_fate armed i ask one.say two.say (copies armed i ask one.again ++ following first) (copies armed i ask two.again ++ following later) (first ≡ later)
+    (λ same. with_then (copies armed i ask one.again) (copies armed i ask two.again) (following first) (following later) (Unit {0}) (first ≡ later) (copies_fork armed i ask one.again two.again) (λ _. inl (ap following same, same))))
+
+asks_fork : (armed : Option AskFault) (i : ℕ) (ask : Ask) (following : Fate → List Deed) (ds es : List Deed) → Asks armed i ask following ds → Asks armed i ask following es → Same ds es
+asks_fork armed i ask following ds es one two = with_so ds es (fate_of armed one.say ≡ fate_of armed two.say) (Unit {0}) (λ same. tt) (asks_with armed i ask following ds es one two)
 
 -- deeds over what is there
 tells_fork : {X : Type 0} (x : Option X) (line : Line) (Over : X → List Deed → Type 0) (ds es : List Deed) → ((v : X) → Over v ds → Over v es → Same ds es) → OrTells x line Over ds → OrTells x line Over es → Same ds es
 tells_fork None line Over ds es over one two = both_are ds es (Told line ∷ []) one two
 tells_fork (Some v) line Over ds es over one two = over v one two
 
+-- ---- fetches
+
+module _ (p : Progress) (c : ObjectCall) (link : Connection) where
+  -- the ask for the object
+  abbrev first_ask : Ask
+  first_ask = fetch_of p.client c.object
+
+  -- whether the state is to be asked for after it
+  abbrev asks_again : Fate → Bool
+  asks_again fate = asks_on p.client link.centre first_ask fate
+
+  -- it is after one of two, and not after the other
+  once_or_twice : (ds es : List Deed) → FetchesOnce p link c ds → FetchesTwice p link c es → IsFork ds es × IsFork es ds
+  once_or_twice ds es one two =
+      let i = link.centre in
+      let first = fate_of p.armed one.asks.say in
+      let later = fate_of p.armed two.asks.say in
+      let rest : List Deed = copies p.armed i first_ask one.asks.again ++ after_fetch p.client i c first in
+      let more : List Deed = (copies p.armed i first_ask two.asks.again ++ []) ++ two.rest in
+      let was : es ≡ Asked i first_ask later ∷ more = two.whole ∙ ap (λ l. l ++ two.rest) two.asks.whole in
+      let either : asks_again first ≢ asks_again later = λ same. false≢true (sym one.last ∙ (same ∙ two.on)) in
+      let back : asks_again later ≢ asks_again first = λ same. false≢true (sym one.last ∙ (sym same ∙ two.on)) in (
+        fork_as (Asked i first_ask first ∷ rest) (Asked i first_ask later ∷ more) ds es one.asks.whole was (fork_head i first_ask first later rest more (told_apart asks_again p.armed one.asks.say two.asks.say either)),
+        fork_as (Asked i first_ask later ∷ more) (Asked i first_ask first ∷ rest) es ds was one.asks.whole (fork_head i first_ask later first more rest (told_apart asks_again p.armed two.asks.say one.asks.say back)),
+      )
+
+  -- it is after both
+  both_twice : (ds es : List Deed) → FetchesTwice p link c ds → FetchesTwice p link c es → Same ds es
+  both_twice ds es one two =
+      with_as (one.first ++ one.rest) (two.first ++ two.rest) ds es (Unit {0}) one.whole two.whole
+      (with_then one.first two.first one.rest two.rest (fate_of p.armed one.asks.say ≡ fate_of p.armed two.asks.say) (Unit {0})
+      (asks_with p.armed link.centre first_ask (λ fate. []) one.first two.first one.asks two.asks)
+      (λ same.
+      let s : Client = let_go p link c one.asks.say in
+      let so : s ≡ let_go p link c two.asks.say = ap (λ fate. after p.client (Asked link.centre first_ask fate)) same in
+      asks_fork None link.centre (fetch_of s c.object) (after_fetch s link.centre c) one.rest two.rest one.then (subst (λ s. LastAsk c link s None two.rest) (sym so) two.then)))
+
+  -- a fetch over the link
+  fetches_fork : (ds es : List Deed) → Fetches p c link ds → Fetches p c link es → Same ds es
+  fetches_fork ds es (inl one) (inl two) = asks_fork p.armed link.centre first_ask (after_fetch p.client link.centre c) ds es one.asks two.asks
+  fetches_fork ds es (inl one) (inr two) = inr (once_or_twice ds es one two).0
+  fetches_fork ds es (inr one) (inl two) = inr (once_or_twice es ds two one).1
+  fetches_fork ds es (inr one) (inr two) = both_twice ds es one two
+
 -- a call on an object whose first try ended so
 call_fork : (p : Progress) (c : ObjectCall) (outcome : Outcome) (ds es : List Deed) → CallDeeds p c outcome ds → CallDeeds p c outcome es → Same ds es
 call_fork p c (Refused (NeedsFetch o)) ds es one two =
     with_as (Did c.call (outcome_of p.client c.call) ∷ one.rest) (Did c.call (outcome_of p.client c.call) ∷ two.rest) ds es (Unit {0}) one.whole two.whole
     (with_cons (Did c.call (outcome_of p.client c.call)) one.rest two.rest (Unit {0})
-    (tells_fork p.client.link (line.Unconnected p.client.client c.word c.shown) (λ link. Asks p.armed link.centre (fetch_of p.client c.object) (after_fetch p.client link.centre c)) one.rest two.rest
-    (λ link. asks_fork p.armed link.centre (fetch_of p.client c.object) (after_fetch p.client link.centre c) one.rest two.rest) one.fetch two.fetch))
+    (tells_fork p.client.link (line.Unconnected p.client.client c.word c.shown) (Fetches p c) one.rest two.rest
+    (λ link. fetches_fork p c link one.rest two.rest) one.fetch two.fetch))
 call_fork p c outcome ds es one two = both_are ds es (calls_on p.client c) one two
 
 -- ---- bounded counters
@@ -166,8 +214,8 @@ ends_else p ds es ends on =
       later = on.asked;
       stops = last.1;
       goes = on.on;
-      either = ⊎_elim (λ same. absurd (false≢true (sym last.1 ∙ (ap goes_on same ∙ on.on)))) (λ rivals. rivals) (fates p.armed last.0.say on.say);
-      back = ⊎_elim (λ same. absurd (false≢true (sym last.1 ∙ (ap goes_on (sym same) ∙ on.on)))) (λ rivals. rivals) (fates p.armed on.say last.0.say);
+      either = told_apart goes_on p.armed last.0.say on.say (λ same. false≢true (sym last.1 ∙ (same ∙ on.on)));
+      back = told_apart goes_on p.armed on.say last.0.say (λ same. false≢true (sym last.1 ∙ (sym same ∙ on.on)));
     }
 
 -- a flush

@@ -1,5 +1,5 @@
 -- How deeds that are the same, or part at an answer, are put together.
-use Rattle.std.proofs.Common.{◌≡◌, ◌≢◌, ℕ, ◌⊎◌, inl, inr, ⊎_elim, List, [], ◌∷◌, ◌++◌, Option, Some, None, refl, sym, ap, ◌∙◌, subst}
+use Rattle.std.proofs.Common.{◌≡◌, ◌≢◌, ℕ, Bool, ◌⊎◌, inl, inr, ⊎_elim, List, [], ◌∷◌, ◌++◌, Option, Some, None, refl, sym, ap, ◌∙◌, subst}
 use Rattle.std.proofs.lemmas.List.{append_assoc}
 use Rattle.dc_talk.specs.declared.ask.Ask.{Ask}
 use Rattle.dc_talk.specs.declared.say.Say.{Say}
@@ -85,6 +85,11 @@ pub with_same : (ds es : List Deed) (Q : Type 0) → OneWith ds es Q → OneWith
 with_same ds es Q (inl one) = inl (one.0, one.0)
 with_same ds es Q (inr f) = inr f
 
+-- another fact follows from it
+pub with_so : (ds es : List Deed) (Q R : Type 0) → (Q → R) → OneWith ds es Q → OneWith ds es R
+with_so ds es Q R so (inl one) = inl (one.0, so one.1)
+with_so ds es Q R so (inr f) = inr f
+
 -- without the fact
 pub one_or_fork : (ds es : List Deed) (Q : Type 0) → OneWith ds es Q → AreOneOrFork ds es
 one_or_fork ds es Q (inl one) = inl one.0
@@ -101,7 +106,7 @@ heads : (i : ℕ) (ask : Ask) (one two : Fate) (xs ys : List Deed) (R : Type 0) 
 heads i ask one two xs ys R same is = subst (λ fate. OneWith (Asked i ask one ∷ xs) (Asked i ask fate ∷ ys) R) same (with_cons (Asked i ask one) xs ys R is)
 
 -- what becomes of an ask under one fault: the same, or rivals
-pub fates : (armed : Option AskFault) (say again : Say) → (fate_of armed say ≡ fate_of armed again) ⊎ AreRivals (fate_of armed say) (fate_of armed again)
+fates : (armed : Option AskFault) (say again : Say) → (fate_of armed say ≡ fate_of armed again) ⊎ AreRivals (fate_of armed say) (fate_of armed again)
 fates armed say again = ⊎_elim (λ same. inl (ap (fate_of armed) same)) (apart armed) (say_same say again)
   where
     apart : (armed : Option AskFault) → say ≢ again → (fate_of armed say ≡ fate_of armed again) ⊎ AreRivals (fate_of armed say) (fate_of armed again)
@@ -109,6 +114,10 @@ fates armed say again = ⊎_elim (λ same. inl (ap (fate_of armed) same)) (apart
     apart (Some LoseReply) other = inr (record { say = say; again = again; says = refl; tells = refl; kind = refl; differ = other })
     apart (Some Twice) other = inr (record { say = say; again = again; says = refl; tells = refl; kind = refl; differ = other })
     apart None other = inr (record { say = say; again = again; says = refl; tells = refl; kind = refl; differ = other })
+
+-- ends that a test tells apart are rivals
+pub told_apart : (test : Fate → Bool) (armed : Option AskFault) (say again : Say) → test (fate_of armed say) ≢ test (fate_of armed again) → AreRivals (fate_of armed say) (fate_of armed again)
+told_apart test armed say again differ = ⊎_elim (λ same. absurd (differ (ap test same))) (λ rivals. rivals) (fates armed say again)
 
 -- an ask under one fault, and what follows where it ended the same
 pub by_fate : (armed : Option AskFault) (i : ℕ) (ask : Ask) (say again : Say) (xs ys : List Deed) (R : Type 0) → (fate_of armed say ≡ fate_of armed again → OneWith xs ys R) → OneWith (Asked i ask (fate_of armed say) ∷ xs) (Asked i ask (fate_of armed again) ∷ ys) R

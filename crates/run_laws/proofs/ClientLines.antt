@@ -12,7 +12,7 @@ use Rattle.obj_bounded.specs.CellNames.{cell_name, counter_of, gain_cells, gain_
 use Rattle.dc_talk.specs.declared.ask.Ask.{Ask}
 use Rattle.dc_talk.specs.declared.ask.Ask.TheVariants.{Commit as CommitAsk}
 use Rattle.dc_talk.specs.declared.say.Say.{Say}
-use Rattle.dc_talk.specs.declared.say.Say.TheVariants.{Welcome, Lacks, Snap, Pruned, Object}
+use Rattle.dc_talk.specs.declared.say.Say.TheVariants.{Welcome, Lacks, Snap, Pruned, Object, Changes}
 use Rattle.dc_talk.specs.declared.calls.Connection.{Connection}
 use Rattle.dc_talk.specs.declared.calls.Change.{Change as ChangeOf}
 use Rattle.dc_talk.specs.declared.calls.Change.TheVariants.{Inc, Write, Add, Remove, Put, Erase}
@@ -40,9 +40,10 @@ use Rattle.script_core.specs.declared.steps.AskFault.{AskFault}
 use Rattle.script_core.specs.declared.steps.AskFault.TheVariants.{LoseAsk, LoseReply, Twice}
 use Rattle.script_core.specs.declared.steps.ClientStep.{ClientStep}
 use Rattle.script_core.specs.declared.steps.ClientStep.TheVariants.{Connect, Begin, Change, Read, Grant, Give, Take, Rights, Commit, Abort, Push, Flush, Refresh, Again, Arm, Look}
-use Rattle.script_core.specs.Deeds.{Progress, StepDeeds, Asks, OrTells, OverNext, Pushes, PushesOn, FetchDeeds, CallDeeds, FlushDeeds, flush_ends, flush_goes, RefreshDeeds, AgainDeeds, CellsDeeds, AddsOwned, TakingDeeds, TellsRights, RightsDeeds, after_fetch, calls, calls_on, call_line, cell_inc, cell_line, cell_read, cell_to, change_call, is_of_rights, read_call, rights_got, share_cells, word_of, copies, fate_of, fetch_line, goes_on, hello_line, again_line, push_line, push_end, refresh_line, miss_of, pushed, told, took}
+use Rattle.script_core.specs.Deeds.{Progress, StepDeeds, Asks, OrTells, OverNext, Pushes, PushesOn, Fetches, FetchDeeds, CallDeeds, FlushDeeds, flush_ends, flush_goes, RefreshDeeds, AgainDeeds, CellsDeeds, AddsOwned, TakingDeeds, TellsRights, RightsDeeds, after_fetch, let_go, calls, calls_on, call_line, cell_inc, cell_line, cell_read, cell_to, change_call, is_of_rights, read_call, rights_got, share_cells, word_of, copies, fate_of, fetch_line, goes_on, hello_line, again_line, push_line, push_end, refresh_line, miss_of, pushed, told, took}
 use Rattle.script_core.specs.Taps.{looks}
 use Rattle.run_book.proofs.CellReads.{cells_hold}
+use Rattle.run_book.proofs.Fetches.{LastAsk, fetches_hold}
 use Rattle.run_steps.specs.Calls.{IsCallOf, IsCellRead, adds_to}
 use Rattle.run_steps.proofs.EachDeed.{step_each}
 use Rattle.run_steps.proofs.Who.{after_who}
@@ -87,6 +88,7 @@ module _ (c : ℕ) where
   fetch_line_told client call (Heard (Lacks of need have)) = refl
   fetch_line_told client call (Heard (Pruned centre base low)) = refl
   fetch_line_told client call (Heard (Object state)) = refl
+  fetch_line_told client call (Heard (Changes tail)) = refl
   fetch_line_told client call fate = mapped_told c (line.FetchMissed client call.word call.shown) (miss_of fate) (λ miss. refl)
 
   push_told : (client number : ℕ) (fate : Fate) → TellsReads c (told (push_line client number fate))
@@ -180,15 +182,22 @@ calls_on_told s call plain =
 again_called : (s : Client) (deed : Deed) (call : ObjectCall) → is_of_rights call.word ≡ false → TellsReads s.client (calls_on (after s deed) call)
 again_called s deed call plain = subst (λ n. TellsReads n (calls_on (after s deed) call)) (after_who s deed) (calls_on_told (after s deed) call plain)
 
--- behind a fetch the call is made again, or a line says why not
+-- behind the last ask of a fetch the call is made again, or a line says why not
+last_told : (c : ℕ) (call : ObjectCall) (link : Connection) (s : Client) (armed : Option AskFault) (deeds : List Deed) → s.client ≡ c → is_of_rights call.word ≡ false → LastAsk call link s armed deeds → TellsReads c deeds
+last_told c call link s armed deeds who plain asks = asks_told c armed link.centre (fetch_of s call.object) (after_fetch s link.centre call) deeds (λ fate.
+    either_holds (TellsReads c) (took s link.centre (fetch_of s call.object) fate)
+    (calls_on (after s (Asked link.centre (fetch_of s call.object) fate)) call) (told (fetch_line s.client call fate))
+    (subst (λ n. TellsReads n (calls_on (after s (Asked link.centre (fetch_of s call.object) fate)) call)) who (again_called s (Asked link.centre (fetch_of s call.object) fate) call plain))
+    (fetch_line_told c s.client call fate)) asks
+
 fetch_told : (p : Progress) (call : ObjectCall) (deeds : List Deed) → is_of_rights call.word ≡ false → FetchDeeds p call deeds → TellsReads p.client.client deeds
 fetch_told p call deeds plain fetch =
     let c = p.client.client in
-    over_told c p.client.link (line.Unconnected c call.word call.shown) (λ link. Asks p.armed link.centre (fetch_of p.client call.object) (after_fetch p.client link.centre call)) deeds refl
-    (λ link asks. asks_told c p.armed link.centre (fetch_of p.client call.object) (after_fetch p.client link.centre call) deeds (λ fate.
-    either_holds (TellsReads c) (took p.client link.centre (fetch_of p.client call.object) fate)
-    (calls_on (after p.client (Asked link.centre (fetch_of p.client call.object) fate)) call) (told (fetch_line c call fate))
-    (again_called p.client (Asked link.centre (fetch_of p.client call.object) fate) call plain) (fetch_line_told c c call fate)) asks) fetch
+    over_told c p.client.link (line.Unconnected c call.word call.shown) (Fetches p call) deeds refl
+    (λ link fetches. fetches_hold (TellsReads c) (both_told c) p call link deeds
+    (λ first asks. asks_told c p.armed link.centre (fetch_of p.client call.object) (λ fate. []) first (λ fate. refl) asks)
+    (λ last asks. last_told c call link p.client p.armed last refl plain asks)
+    (λ say last asks. last_told c call link (let_go p link call say) None last (after_who p.client (Asked link.centre (fetch_of p.client call.object) (fate_of p.armed say))) plain asks) fetches) fetch
 
 -- a call on an object whose first try ended so
 object_told : (p : Progress) (call : ObjectCall) (out : Outcome) (deeds : List Deed) → is_of_rights call.word ≡ false → outcome_of p.client call.call ≡ out → CallDeeds p call out deeds → TellsReads p.client.client deeds
@@ -241,23 +250,28 @@ copies_none (Some LoseAsk) i ask say = refl
 copies_none (Some LoseReply) i ask say = refl
 copies_none None i ask say = refl
 
--- behind a fetch the call is made again, or a line says why not
-fetch_none : (p : Progress) (call : ObjectCall) (deeds : List Deed) → is_of_rights call.word ≡ true → FetchDeeds p call deeds → TellNone deeds
-fetch_none p call deeds of fetch = over_holds TellNone p.client.link (line.Unconnected c call.word call.shown) (λ link. Asks p.armed link.centre ask (after_fetch p.client link.centre call)) deeds refl asked fetch
+-- an ask, and what follows it
+asks_none : (armed : Option AskFault) (i : ℕ) (ask : Ask) (following : Fate → List Deed) (deeds : List Deed) → ((fate : Fate) → TellNone (following fate)) → Asks armed i ask following deeds → TellNone deeds
+asks_none armed i ask following deeds rest asks = subst TellNone (sym asks.whole)
+    (both_tell_none (copies armed i ask asks.again) (following (fate_of armed asks.say)) (copies_none armed i ask asks.again) (rest (fate_of armed asks.say)))
+
+-- behind the last ask of a fetch the call is made again, or a line says why not
+last_none : (call : ObjectCall) (link : Connection) (s : Client) (armed : Option AskFault) (deeds : List Deed) → is_of_rights call.word ≡ true → LastAsk call link s armed deeds → TellNone deeds
+last_none call link s armed deeds of asks = asks_none armed link.centre ask (after_fetch s link.centre call) deeds following asks
   where
-    c : ℕ
-    c = p.client.client
-
     ask : Ask
-    ask = fetch_of p.client call.object
+    ask = fetch_of s call.object
 
-    following : (i : ℕ) (fate : Fate) → TellNone (after_fetch p.client i call fate)
-    following i fate = either_holds TellNone (took p.client i ask fate) (calls_on (after p.client (Asked i ask fate)) call) (told (fetch_line c call fate))
-        (on_cell_none (after p.client (Asked i ask fate)) call of) (line_tells_none c (fetch_line c call fate) (fetch_line_told c c call fate))
+    following : (fate : Fate) → TellNone (after_fetch s link.centre call fate)
+    following fate = either_holds TellNone (took s link.centre ask fate) (calls_on (after s (Asked link.centre ask fate)) call) (told (fetch_line s.client call fate))
+        (on_cell_none (after s (Asked link.centre ask fate)) call of) (line_tells_none s.client (fetch_line s.client call fate) (fetch_line_told s.client s.client call fate))
 
-    asked : (link : Connection) → Asks p.armed link.centre ask (after_fetch p.client link.centre call) deeds → TellNone deeds
-    asked link asks = subst TellNone (sym asks.whole)
-        (both_tell_none (copies p.armed link.centre ask asks.again) (after_fetch p.client link.centre call (fate_of p.armed asks.say)) (copies_none p.armed link.centre ask asks.again) (following link.centre (fate_of p.armed asks.say)))
+fetch_none : (p : Progress) (call : ObjectCall) (deeds : List Deed) → is_of_rights call.word ≡ true → FetchDeeds p call deeds → TellNone deeds
+fetch_none p call deeds of fetch = over_holds TellNone p.client.link (line.Unconnected p.client.client call.word call.shown) (Fetches p call) deeds refl
+    (λ link fetches. fetches_hold TellNone both_tell_none p call link deeds
+    (λ first asks. asks_none p.armed link.centre (fetch_of p.client call.object) (λ fate. []) first (λ fate. refl) asks)
+    (λ last asks. last_none call link p.client p.armed last of asks)
+    (λ say last asks. last_none call link (let_go p link call say) None last of asks) fetches) fetch
 
 -- a call on a cell whose first try ended so
 on_object_none : (p : Progress) (call : ObjectCall) (out : Outcome) (deeds : List Deed) → is_of_rights call.word ≡ true → CallDeeds p call out deeds → TellNone deeds

@@ -28,7 +28,9 @@ use Rattle.dc_talk.specs.Calls.{outcome_of}
 use Rattle.dc_talk.specs.Rule.{after, fetch_of}
 use Rattle.script_core.specs.declared.steps.ClientStep.{ClientStep}
 use Rattle.script_core.specs.declared.steps.ClientStep.TheVariants.{Connect, Begin, Change, Read, Grant, Give, Take, Rights, Commit, Abort, Push, Flush, Refresh, Again, Arm, Look}
-use Rattle.script_core.specs.Deeds.{Progress, StepDeeds, Asks, CallDeeds, FetchDeeds, after_fetch, call_line, calls_on, copies, fate_of, fetch_line, read_call, told, took}
+use Rattle.script_core.specs.declared.steps.AskFault.{AskFault}
+use Rattle.script_core.specs.Deeds.{Progress, StepDeeds, Asks, CallDeeds, Fetches, FetchDeeds, after_fetch, let_go, call_line, calls_on, copies, fate_of, fetch_line, read_call, told, took}
+use Rattle.run_book.proofs.Fetches.{LastAsk, fetches_hold}
 use Rattle.run_steps.specs.Calls.{IsCallOf, adds_to}
 use Rattle.run_steps.proofs.EachDeed.{step_each}
 use Rattle.run_steps.proofs.Places.{get_behind, get_front_of}
@@ -89,30 +91,35 @@ read_behind : (client : ℕ) (o : ObjectId) (out : Outcome) → AreBehind (Did (
 read_behind client o (Got value) = value_behind client o value
 read_behind client o out = none_behind (Did (ReadCall o) out ∷ told (call_line client (ReadCall o) out)) refl
 
--- behind a fetch the read is made again, or a line says why not
+-- an ask, and what follows it
+asks_behind : (armed : Option AskFault) (i : ℕ) (ask : Ask) (following : Fate → List Deed) (deeds : List Deed) → ((fate : Fate) → AreBehind (following fate)) → Asks armed i ask following deeds → AreBehind deeds
+asks_behind armed i ask following deeds rest asks =
+    let fate : Fate = fate_of armed asks.say in
+    let first : List Deed = Asked i ask fate ∷ copies armed i ask asks.again in
+    subst AreBehind (sym asks.whole) (both_behind first (following fate) (none_behind first (copies_none armed i ask asks.again)) (rest fate))
+
+-- behind the last ask of a fetch the read is made again, or a line says why not
+last_behind : (o : ObjectId) (link : Connection) (s : Client) (armed : Option AskFault) (deeds : List Deed) → LastAsk (read_call o) link s armed deeds → AreBehind deeds
+last_behind o link s armed deeds asks = asks_behind armed link.centre ask (after_fetch s link.centre (read_call o)) deeds following asks
+  where
+    ask : Ask
+    ask = fetch_of s o
+
+    following : (fate : Fate) → AreBehind (after_fetch s link.centre (read_call o) fate)
+    following fate =
+        let t : Client = after s (Asked link.centre ask fate) in
+        let line : Option Line = fetch_line s.client (read_call o) fate in
+        either_holds AreBehind (took s link.centre ask fate) (calls_on t (read_call o)) (told line)
+        (read_behind t.client o (outcome_of t (ReadCall o))) (none_behind (told line) (line_tells_none s.client line (fetch_line_told s.client s.client (read_call o) fate)))
+
 fetch_behind : (p : Progress) (o : ObjectId) (deeds : List Deed) → FetchDeeds p (read_call o) deeds → AreBehind deeds
 fetch_behind p o deeds fetch =
-    over_holds AreBehind p.client.link (line.Unconnected c step.Read o) (λ link. Asks p.armed link.centre ask (after_fetch p.client link.centre (read_call o))) deeds
-    (none_behind (Told (line.Unconnected c step.Read o) ∷ []) refl) asked fetch
-  where
-    c : ℕ
-    c = p.client.client
-
-    ask : Ask
-    ask = fetch_of p.client o
-
-    following : (i : ℕ) (fate : Fate) → AreBehind (after_fetch p.client i (read_call o) fate)
-    following i fate =
-        let s : Client = after p.client (Asked i ask fate) in
-        let line : Option Line = fetch_line c (read_call o) fate in
-        either_holds AreBehind (took p.client i ask fate) (calls_on s (read_call o)) (told line)
-        (read_behind s.client o (outcome_of s (ReadCall o))) (none_behind (told line) (line_tells_none c line (fetch_line_told c c (read_call o) fate)))
-
-    asked : (link : Connection) → Asks p.armed link.centre ask (after_fetch p.client link.centre (read_call o)) deeds → AreBehind deeds
-    asked link asks =
-        let fate : Fate = fate_of p.armed asks.say in
-        let first : List Deed = Asked link.centre ask fate ∷ copies p.armed link.centre ask asks.again in
-        subst AreBehind (sym asks.whole) (both_behind first (after_fetch p.client link.centre (read_call o) fate) (none_behind first (copies_none p.armed link.centre ask asks.again)) (following link.centre fate))
+    over_holds AreBehind p.client.link (line.Unconnected p.client.client step.Read o) (Fetches p (read_call o)) deeds
+    (none_behind (Told (line.Unconnected p.client.client step.Read o) ∷ []) refl)
+    (λ link fetches. fetches_hold AreBehind both_behind p (read_call o) link deeds
+    (λ first asks. asks_behind p.armed link.centre (fetch_of p.client o) (λ fate. []) first (λ fate. none_behind [] refl) asks)
+    (λ last asks. last_behind o link p.client p.armed last asks)
+    (λ say last asks. last_behind o link (let_go p link (read_call o) say) None last asks) fetches) fetch
 
 -- a read whose first try ended so
 object_behind : (p : Progress) (o : ObjectId) (out : Outcome) (deeds : List Deed) → CallDeeds p (read_call o) out deeds → AreBehind deeds

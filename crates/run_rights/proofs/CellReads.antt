@@ -1,5 +1,5 @@
--- Reads of the cells of a share, one after another: they end early, with nothing but reads, fetches and a line that tells no
--- rights; or each cell told its number.
+-- Reads of the cells of a share, one after another: they end early, with nothing but reads, asks for cells and a line that
+-- tells no rights; or each cell told its number.
 use Rattle.std.proofs.Common.{◌≡◌, ◌⊎◌, inl, inr, ⊎_elim, ℤ, Bool, true, false, cond, List, [], ◌∷◌, ◌++◌, length, map, fold, Option, Some, None, refl, sym, ap, ◌∙◌, subst, arith}
 use Rattle.std.specs.Prelude.{All, pos}
 use Rattle.std.proofs.lemmas.Option.{none-some, same_Some}
@@ -12,7 +12,7 @@ use Rattle.ids_core.specs.declared.object.ObjectId.{ObjectId}
 use Rattle.ids_core.specs.Ids.{same_object}
 use Rattle.ids_core.specs.Same.{same_object-true, same_object-itself}
 use Rattle.tx_core.specs.declared.state.Value.TheVariants.{Number as NumberValue}
-use Rattle.dc_talk.specs.declared.ask.Ask.TheVariants.{Fetch}
+use Rattle.dc_talk.specs.declared.ask.Ask.TheVariants.{Fetch, Delta}
 use Rattle.dc_talk.specs.declared.calls.Call.TheVariants.{Read as ReadCall}
 use Rattle.dc_talk.specs.declared.calls.Outcome.{Outcome}
 use Rattle.dc_talk.specs.declared.calls.Outcome.TheVariants.{Got}
@@ -43,10 +43,11 @@ all_who s (deed ∷ deeds) = all_who (after s deed) deeds ∙ after_who s deed
 
 -- ---- one cell
 
--- a deed of a read of a cell: the read, a fetch, or a line that tells no rights
+-- a deed of a read of a cell: the read, an ask for an object, or a line that tells no rights
 abbrev IsReadOf : ObjectId → Deed → Type 0
 IsReadOf cell (Did call outcome) = call ≡ ReadCall cell
 IsReadOf cell (Asked i (Fetch o here) fate) = Unit {0}
+IsReadOf cell (Asked i (Delta o from here) fate) = Unit {0}
 IsReadOf cell (Asked i _ fate) = ⊥
 IsReadOf cell (Told l) = rights_told l ≡ None
 IsReadOf cell (Spoilt from item why) = ⊥
@@ -58,13 +59,14 @@ IsIdle deed = IsQuiet deed × TellsNone deed
 read_idle : (cell : ObjectId) (deed : Deed) → IsReadOf cell deed → IsIdle deed
 read_idle cell (Did call outcome) is = (subst (λ call. IsQuiet (Did call outcome)) (sym is) tt, tt)
 read_idle cell (Asked i (Fetch o here) fate) is = (tt, tt)
+read_idle cell (Asked i (Delta o from here) fate) is = (tt, tt)
 read_idle cell (Asked i _ fate) is = absurd is
 read_idle cell (Told l) is = (tt, is)
 read_idle cell (Spoilt from item why) is = absurd is
 
 -- the deeds of a read
 call_reads : (word : StepWord) (share : Share) (cell : ObjectId) (p : Progress) (outcome : Outcome) (deeds : List Deed) → CallDeeds p (cell_read word share cell) outcome deeds → All (IsReadOf cell) deeds
-call_reads word share cell p outcome deeds are = object_each (IsReadOf cell) (λ l plain. plain) (cell_read word share cell) (λ outcome. refl) (λ i here fate. tt) p outcome deeds are
+call_reads word share cell p outcome deeds are = object_each (IsReadOf cell) (λ l plain. plain) (cell_read word share cell) (λ outcome. refl) (λ i here fate. tt) (λ i from here fate. tt) p outcome deeds are
 
 -- a number that a deed of the read got is one of the cell
 number_of : (cell : ObjectId) (deed : Deed) (number : ℤ) → IsReadOf cell deed → number_got deed ≡ Some number → got cell number ≡ deed

@@ -1,9 +1,9 @@
--- What holds of each end of a call on an object, of each fetch of the object, and of each line that tells no rights, holds
--- of each deed of the call.
+-- What holds of each end of a call on an object, of each fetch and each delta of the object, and of each line that tells no
+-- rights, holds of each deed of the call.
 use Rattle.std.proofs.Common.{◌≡◌, ℕ, Bool, true, false, cond, List, [], ◌++◌, Option, Some, None, refl, sym, subst}
 use Rattle.std.specs.Prelude.{All}
 use Rattle.std.proofs.lemmas.List.Elements.{All-nil, All-cons, All-append}
-use Rattle.dc_talk.specs.declared.ask.Ask.TheVariants.{Fetch}
+use Rattle.dc_talk.specs.declared.ask.Ask.TheVariants.{Fetch, Delta}
 use Rattle.dc_talk.specs.declared.say.Say.{Say}
 use Rattle.dc_talk.specs.declared.calls.Connection.{Connection}
 use Rattle.dc_talk.specs.declared.calls.Refusal.TheVariants.{NeedsFetch}
@@ -21,7 +21,9 @@ use Rattle.dc_talk.specs.Rule.{after, fetch_of}
 use Rattle.script_core.specs.declared.object_call.ObjectCall.{ObjectCall}
 use Rattle.script_core.specs.declared.steps.AskFault.{AskFault}
 use Rattle.script_core.specs.declared.steps.AskFault.TheVariants.{LoseAsk, LoseReply, Twice}
-use Rattle.script_core.specs.Deeds.{Progress, Asks, OrTells, FetchDeeds, CallDeeds, after_fetch, calls_on, copies, fate_of, fetch_line, line_on, told, took}
+use Rattle.script_core.specs.Deeds.{Progress, Asks, OrTells, Fetches, FetchDeeds, CallDeeds, after_fetch, let_go, calls_on, copies, fate_of, fetch_line, line_on, told, took}
+use Rattle.run_book.proofs.Fetches.{fetches_hold}
+use Rattle.run_book.proofs.ObjectAsks.{object_ask}
 use Rattle.run_rights.proofs.RightsLines.{IsPlainOr, rights_told, plain_fetch, plain_on}
 
 -- of a line that tells no rights, where there is a line
@@ -36,15 +38,19 @@ module _ (P : Deed → Type 0) (tells : (l : Line) → rights_told l ≡ None �
       let outcome = outcome_of s c.call in
       All-cons P (Did c.call outcome) (told (line_on s.client c outcome)) (did outcome) (told_each P tells (line_on s.client c outcome) (plain_on s.client c outcome))
 
-  module _ (fetched : (i : ℕ) (here : List ℕ) (fate : Fate) → P (Asked i (Fetch c.object here) fate)) where
-    -- of the second copy of a fetch
+  module _ (fetched : (i : ℕ) (here : List ℕ) (fate : Fate) → P (Asked i (Fetch c.object here) fate)) (changed : (i : ℕ) (from here : List ℕ) (fate : Fate) → P (Asked i (Delta c.object from here) fate)) where
+    -- of an ask for the object
+    ask_each : (s : Client) (i : ℕ) (fate : Fate) → P (Asked i (fetch_of s c.object) fate)
+    ask_each s i fate = object_ask (λ ask. P (Asked i ask fate)) s c.object (λ here. fetched i here fate) (λ from here. changed i from here fate)
+
+    -- of its second copy
     copies_each : (armed : Option AskFault) (i : ℕ) (s : Client) (say : Say) → All P (copies armed i (fetch_of s c.object) say)
-    copies_each (Some Twice) i s say = All-cons P (Asked i (fetch_of s c.object) (Unheard say)) [] (fetched i s.vector (Unheard say)) (All-nil P)
+    copies_each (Some Twice) i s say = All-cons P (Asked i (fetch_of s c.object) (Unheard say)) [] (ask_each s i (Unheard say)) (All-nil P)
     copies_each (Some LoseAsk) i s say = All-nil P
     copies_each (Some LoseReply) i s say = All-nil P
     copies_each None i s say = All-nil P
 
-    -- of what follows a fetch
+    -- of what follows the last one
     after_each : (s : Client) (i : ℕ) (fate : Fate) → All P (after_fetch s i c fate)
     after_each s i fate = go (took s i (fetch_of s c.object) fate)
       where
@@ -52,19 +58,25 @@ module _ (P : Deed → Type 0) (tells : (l : Line) → rights_told l ≡ None �
         go true = on_each (after s (Asked i (fetch_of s c.object) fate))
         go false = told_each P tells (fetch_line s.client c fate) (plain_fetch s.client c fate)
 
+    -- of an ask with its copies, and what follows
+    asks_each : (s : Client) (armed : Option AskFault) (i : ℕ) (following : Fate → List Deed) (deeds : List Deed) → ((fate : Fate) → All P (following fate)) → Asks armed i (fetch_of s c.object) following deeds → All P deeds
+    asks_each s armed i following deeds rest asks =
+        let fate = fate_of armed asks.say in
+        let second = copies armed i (fetch_of s c.object) asks.again in
+        subst (All P) (sym asks.whole)
+        (All-cons P (Asked i (fetch_of s c.object) fate) (second ++ following fate) (ask_each s i fate)
+        (All-append P second (following fate) (copies_each armed i s asks.again) (rest fate)))
+
     -- of a fetch
     fetch_each : (p : Progress) (deeds : List Deed) → FetchDeeds p c deeds → All P deeds
     fetch_each p deeds fetch = go p.client.link fetch
       where
-        go : (link : Option Connection) → OrTells link (line.Unconnected p.client.client c.word c.shown) (λ link. Asks p.armed link.centre (fetch_of p.client c.object) (after_fetch p.client link.centre c)) deeds → All P deeds
+        go : (link : Option Connection) → OrTells link (line.Unconnected p.client.client c.word c.shown) (Fetches p c) deeds → All P deeds
         go None are = subst (All P) (sym are) (told_each P tells (Some (line.Unconnected p.client.client c.word c.shown)) refl)
-        go (Some link) asks =
-            let fate = fate_of p.armed asks.say in
-            let second = copies p.armed link.centre (fetch_of p.client c.object) asks.again in
-            let rest = after_fetch p.client link.centre c fate in
-            subst (All P) (sym asks.whole)
-            (All-cons P (Asked link.centre (fetch_of p.client c.object) fate) (second ++ rest) (fetched link.centre p.client.vector fate)
-            (All-append P second rest (copies_each p.armed link.centre p.client asks.again) (after_each p.client link.centre fate)))
+        go (Some link) fetches = fetches_hold (All P) (All-append P) p c link deeds
+            (λ first asks. asks_each p.client p.armed link.centre (λ fate. []) first (λ fate. All-nil P) asks)
+            (λ last asks. asks_each p.client p.armed link.centre (after_fetch p.client link.centre c) last (after_each p.client link.centre) asks)
+            (λ say last asks. asks_each (let_go p link c say) None link.centre (after_fetch (let_go p link c say) link.centre c) last (after_each (let_go p link c say) link.centre) asks) fetches
 
     -- of all that a call on an object does
     pub object_each : (p : Progress) (outcome : Outcome) (deeds : List Deed) → CallDeeds p c outcome deeds → All P deeds

@@ -84,7 +84,7 @@ on_none s c = on_each TellsNone (λ l plain. plain) c (λ outcome. tt) s
 
 -- with the fetch of the object, where that is needed
 call_none : (p : Progress) (c : ObjectCall) (outcome : Outcome) (deeds : List Deed) → CallDeeds p c outcome deeds → TellNone deeds
-call_none p c outcome deeds are = object_each TellsNone (λ l plain. plain) c (λ outcome. tt) (λ i here fate. tt) p outcome deeds are
+call_none p c outcome deeds are = object_each TellsNone (λ l plain. plain) c (λ outcome. tt) (λ i here fate. tt) (λ i from here fate. tt) p outcome deeds are
 
 -- ---- pushes, snapshots and late copies
 

@@ -5,7 +5,7 @@ use Rattle.std.specs.Option.{option_map}
 use Rattle.std.proofs.lemmas.Option.{none-some}
 use Rattle.list_core.proofs.Gets.{all_get}
 use Rattle.ids_core.specs.declared.object.ObjectId.{ObjectId}
-use Rattle.dc_talk.specs.declared.say.Say.TheVariants.{Welcome, Lacks, Snap, Pruned, Object}
+use Rattle.dc_talk.specs.declared.say.Say.TheVariants.{Welcome, Lacks, Snap, Pruned, Object, Changes}
 use Rattle.dc_talk.specs.declared.calls.Call.{Call}
 use Rattle.dc_talk.specs.declared.calls.Call.TheVariants.{Begin as BeginCall, Change as ChangeCall, Read as ReadCall, Commit as CommitCall, Abort as AbortCall}
 use Rattle.dc_talk.specs.declared.calls.Refusal.TheVariants.{AlreadyOpen, ClockFull, NotOpen, TooManyUpdates, TooManyTags, PendingFull}
@@ -62,6 +62,7 @@ pub plain_fetch : (client : ℕ) (c : ObjectCall) (fate : Fate) → IsPlainOr (f
 plain_fetch client c (Heard (Lacks of need have)) = refl
 plain_fetch client c (Heard (Pruned centre base low)) = refl
 plain_fetch client c (Heard (Object state)) = refl
+plain_fetch client c (Heard (Changes tail)) = refl
 plain_fetch client c fate = plain_mapped (line.FetchMissed client c.word c.shown) (miss_of fate) (λ miss. refl)
 
 pub plain_push : (client number : ℕ) (fate : Fate) → IsPlainOr (push_line client number fate)

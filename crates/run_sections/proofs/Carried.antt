@@ -41,6 +41,7 @@ asks_more trails others more ask.Start h = tt
 asks_more trails others more (ask.Hello client need) h = absurd h
 asks_more trails others more (ask.Refresh client here) h = absurd h
 asks_more trails others more (ask.Fetch o here) h = tt
+asks_more trails others more (ask.Delta o from here) h = absurd h
 asks_more trails others more (ask.Commit tx) h = absurd h
 
 -- and so with what it may do
@@ -101,6 +102,7 @@ module _ (script : Script) (notes : ℕ → List Note) (trails : ℕ → List En
     carries_allowed (Asked i (ask.Hello client need) fate) is = absurd is
     carries_allowed (Asked i (ask.Refresh client here) fate) is = absurd is
     carries_allowed (Asked i (ask.Fetch o here) fate) is = tt
+    carries_allowed (Asked i (ask.Delta o from here) fate) is = absurd is
     carries_allowed (Asked i (ask.Commit tx) fate) is = absurd is
     carries_allowed (Did call outcome) is = absurd is
     carries_allowed (Told line) is = tt

@@ -35,9 +35,10 @@ use Rattle.script_core.specs.declared.steps.AskFault.{AskFault}
 use Rattle.script_core.specs.declared.steps.AskFault.TheVariants.{LoseAsk, LoseReply, Twice}
 use Rattle.script_core.specs.declared.steps.ClientStep.{ClientStep}
 use Rattle.script_core.specs.declared.steps.ClientStep.TheVariants.{Connect, Begin, Change, Read, Grant, Give, Take, Rights, Commit, Abort, Push, Flush, Refresh, Again, Arm, Look}
-use Rattle.script_core.specs.Deeds.{Progress, StepDeeds, Asks, OrTells, OverNext, Pushes, PushesOn, FetchDeeds, CallDeeds, FlushDeeds, flush_ends, flush_goes, RefreshDeeds, AgainDeeds, CellsDeeds, AddsOwned, TakingDeeds, TellsRights, RightsDeeds, after_fetch, calls, calls_on, call_line, cell_inc, cell_read, cell_to, change_call, counter_of_share, line_on, read_call, rights_got, share_cells, copies, fate_of, fetch_line, goes_on, hello_line, push_line, pushed, refresh_line, again_line, told, took}
+use Rattle.script_core.specs.Deeds.{Progress, StepDeeds, Asks, OrTells, OverNext, Pushes, PushesOn, Fetches, FetchDeeds, CallDeeds, FlushDeeds, flush_ends, flush_goes, RefreshDeeds, AgainDeeds, CellsDeeds, AddsOwned, TakingDeeds, TellsRights, RightsDeeds, after_fetch, let_go, calls, calls_on, call_line, cell_inc, cell_read, cell_to, change_call, counter_of_share, line_on, read_call, rights_got, share_cells, copies, fate_of, fetch_line, goes_on, hello_line, push_line, pushed, refresh_line, again_line, told, took}
 use Rattle.script_core.specs.Taps.{looks}
 use Rattle.run_book.proofs.CellReads.{cells_hold}
+use Rattle.run_book.proofs.Fetches.{LastAsk, fetches_hold}
 use Rattle.run_steps.specs.Calls.{IsCallOf, adds_to}
 use Rattle.run_steps.specs.Looks.{look_told}
 use Rattle.run_steps.proofs.PlainLines.{IsPlainOr, plain_again, plain_call, plain_fetch, plain_hello, plain_on, plain_push, plain_refresh}
@@ -75,12 +76,19 @@ module _ (P : Deed → Type 0) (asked : (i : ℕ) (ask : Ask) (fate : Fate) → 
   calls_on_each : (s : Client) (c : ObjectCall) → ((outcome : Outcome) → P (Did c.call outcome)) → All P (calls_on s c)
   calls_on_each s c each = All-cons P (Did c.call (outcome_of s c.call)) (told (line_on s.client c (outcome_of s c.call))) (each (outcome_of s c.call)) (told_each (line_on s.client c (outcome_of s c.call)) (plain_on s.client c (outcome_of s c.call)))
 
+  -- the last ask of a fetch
+  last_each : (c : ObjectCall) (link : Connection) (s : Client) (armed : Option AskFault) (deeds : List Deed) → ((outcome : Outcome) → P (Did c.call outcome)) → LastAsk c link s armed deeds → All P deeds
+  last_each c link s armed deeds each asks = asks_each armed link.centre (fetch_of s c.object) (after_fetch s link.centre c) deeds (λ fate.
+      either_each (took s link.centre (fetch_of s c.object) fate) _ _
+      (calls_on_each (after s (Asked link.centre (fetch_of s c.object) fate)) c each) (told_each (fetch_line s.client c fate) (plain_fetch s.client c fate))) asks
+
   fetch_each : (p : Progress) (c : ObjectCall) (deeds : List Deed) → ((outcome : Outcome) → P (Did c.call outcome)) → FetchDeeds p c deeds → All P deeds
   fetch_each p c deeds each fetch =
-      over_each p.client.link (line.Unconnected p.client.client c.word c.shown) (λ link. Asks p.armed link.centre (fetch_of p.client c.object) (after_fetch p.client link.centre c)) deeds refl
-      (λ link asks. asks_each p.armed link.centre (fetch_of p.client c.object) (after_fetch p.client link.centre c) deeds (λ fate.
-      either_each (took p.client link.centre (fetch_of p.client c.object) fate) _ _
-      (calls_on_each (after p.client (Asked link.centre (fetch_of p.client c.object) fate)) c each) (told_each (fetch_line p.client.client c fate) (plain_fetch p.client.client c fate))) asks) fetch
+      over_each p.client.link (line.Unconnected p.client.client c.word c.shown) (Fetches p c) deeds refl
+      (λ link fetches. fetches_hold (All P) (All-append P) p c link deeds
+      (λ first asks. asks_each p.armed link.centre (fetch_of p.client c.object) (λ fate. []) first (λ fate. All-nil P) asks)
+      (λ last asks. last_each c link p.client p.armed last each asks)
+      (λ say last asks. last_each c link (let_go p link c say) None last each asks) fetches) fetch
 
   call_each : (p : Progress) (c : ObjectCall) (out : Outcome) (deeds : List Deed) → ((outcome : Outcome) → P (Did c.call outcome)) → CallDeeds p c out deeds → All P deeds
   call_each p c (Refused (NeedsFetch o)) deeds each r = subst (All P) (sym r.whole) (All-cons P (Did c.call (outcome_of p.client c.call)) r.rest (each (outcome_of p.client c.call)) (fetch_each p c r.rest each r.fetch))

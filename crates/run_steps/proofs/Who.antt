@@ -3,9 +3,9 @@ use Rattle.std.proofs.Common.{◌≡◌, ℕ, Bool, true, false, cond, List, [],
 use Rattle.std.specs.Prelude.{◌==◌}
 use Rattle.std.proofs.lemmas.Bool.{eqb-true}
 use Rattle.dc_talk.specs.declared.ask.Ask.{Ask}
-use Rattle.dc_talk.specs.declared.ask.Ask.TheVariants.{Hello, Refresh, Fetch, Commit as CommitAsk}
+use Rattle.dc_talk.specs.declared.ask.Ask.TheVariants.{Hello, Refresh, Fetch, Delta, Commit as CommitAsk}
 use Rattle.dc_talk.specs.declared.say.Say.{Say}
-use Rattle.dc_talk.specs.declared.say.Say.TheVariants.{Welcome, Snap, Object, Known, Stamped}
+use Rattle.dc_talk.specs.declared.say.Say.TheVariants.{Welcome, Snap, Pruned, Object, Changes, Known, Stamped}
 use Rattle.dc_talk.specs.declared.calls.Call.{Call}
 use Rattle.dc_talk.specs.declared.calls.Call.TheVariants.{Begin, Change as ChangeCall, Read, Commit, Abort}
 use Rattle.dc_talk.specs.declared.calls.Outcome.{Outcome}
@@ -40,6 +40,9 @@ taken_who : (s : Client) (i : ℕ) (ask : Ask) (say : Say) → (taken s i ask sa
 taken_who s i (Hello client need) (Welcome through) = refl
 taken_who s i (Refresh client here) (Snap vector mine top) = refl
 taken_who s i (Fetch o here) (Object state) = refl
+taken_who s i (Delta o from here) (Object state) = refl
+taken_who s i (Delta o from here) (Changes tail) = refl
+taken_who s i (Delta o from here) (Pruned centre base low) = refl
 taken_who s i (CommitAsk tx) (Stamped stamp) = refl
 taken_who s i (CommitAsk tx) (Known through) = refl
 taken_who s i _ _ = refl

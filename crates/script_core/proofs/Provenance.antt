@@ -8,7 +8,7 @@ use Rattle.ids_core.specs.declared.object.ObjectId.{ObjectId}
 use Rattle.tx_core.specs.declared.state.State.{State}
 use Rattle.dc_talk.specs.declared.sent.Sent.{Sent}
 use Rattle.dc_talk.specs.declared.ask.Ask.{Ask}
-use Rattle.dc_talk.specs.declared.ask.Ask.TheVariants.{Hello, Refresh, Fetch, Commit, Send, Deliver, Relay, Report, Learn, Prune, Stop, Start}
+use Rattle.dc_talk.specs.declared.ask.Ask.TheVariants.{Hello, Refresh, Fetch, Delta, Commit, Send, Deliver, Relay, Report, Learn, Prune, Stop, Start}
 use Rattle.dc_talk.specs.declared.say.Say.{Say}
 use Rattle.dc_talk.specs.declared.say.Say.TheVariants.{Records, Vector}
 use Rattle.dc_talk.specs.declared.say.Say.TheVariants as said
@@ -55,6 +55,7 @@ carries_behind front before (Asked i Stop fate) is = tt
 carries_behind front before (Asked i Start fate) is = tt
 carries_behind front before (Asked i (Hello client need) fate) is = absurd is
 carries_behind front before (Asked i (Refresh client here) fate) is = absurd is
+carries_behind front before (Asked i (Delta object from here) fate) is = absurd is
 carries_behind front before (Asked i (Commit tx) fate) is = absurd is
 carries_behind front before (Did call outcome) is = absurd is
 carries_behind front before (Told line) is = tt

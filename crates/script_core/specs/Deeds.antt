@@ -1,6 +1,6 @@
 -- What a step leaves in a log: the calls of the session with how they ended, the asks with what became of them,
 -- and the line of the step. All but the answers of the centres is fixed.
-use Rattle.std.specs.Prelude.{◌≡◌, ℕ, ℤ, pos, int_lt, Bool, true, false, cond, fold, map, List, [], ◌∷◌, ◌++◌, Option, Some, None}
+use Rattle.std.specs.Prelude.{◌≡◌, ◌⊎◌, ℕ, ℤ, pos, int_lt, Bool, true, false, ◌&&◌, cond, fold, map, List, [], ◌∷◌, ◌++◌, Option, Some, None}
 use Rattle.std.specs.Option.{option_map}
 use Rattle.std.specs.List.{list_any}
 use Rattle.std.specs.Int.{w128, int_wrap}
@@ -14,7 +14,7 @@ use Rattle.ids_core.specs.declared.object.ObjectId.{ObjectId}
 use Rattle.dc_talk.specs.declared.ask.Ask.{Ask}
 use Rattle.dc_talk.specs.declared.ask.Ask.TheVariants.{Commit as CommitAsk}
 use Rattle.dc_talk.specs.declared.say.Say.{Say}
-use Rattle.dc_talk.specs.declared.say.Say.TheVariants.{Misfit, Down as DownSay, Lacks, Welcome, Snap, Pruned, Object, Known, OutOfOrder, Full, Stamped}
+use Rattle.dc_talk.specs.declared.say.Say.TheVariants.{Misfit, Down as DownSay, Lacks, Welcome, Snap, Pruned, Object, Changes, Known, OutOfOrder, Full, Stamped}
 use Rattle.dc_talk.specs.declared.calls.Change.{Change as ChangeOf}
 use Rattle.dc_talk.specs.declared.calls.Change.TheVariants.{Inc, Write, Add, Remove, Put, Erase}
 use Rattle.dc_talk.specs.declared.calls.Call.{Call}
@@ -121,6 +121,7 @@ abbrev pub fetch_line : ℕ → ObjectCall → Fate → Option Line
 fetch_line client c (Heard (Lacks of need have)) = Some (line.FetchLacks client c.word c.shown (lack of need have))
 fetch_line client c (Heard (Pruned centre base low)) = Some (line.FetchPruned client c.word c.shown centre base low)
 fetch_line client c (Heard (Object state)) = Some (line.FetchIgnored client c.word c.shown)
+fetch_line client c (Heard (Changes tail)) = Some (line.FetchIgnored client c.word c.shown)
 fetch_line client c fate = option_map (line.FetchMissed client c.word c.shown) (miss_of fate)
 
 -- how a push that was answered so ended
@@ -227,9 +228,42 @@ calls_on s c = Did c.call (outcome_of s c.call) ∷ told (line_on s.client c (ou
 abbrev pub after_fetch : Client → ℕ → ObjectCall → Fate → List Deed
 after_fetch s i c fate = cond (took s i (fetch_of s c.object) fate) (calls_on (after s (Asked i (fetch_of s c.object) fate)) c) (told (fetch_line s.client c fate))
 
+-- whether the centre answered that it has pruned what was asked for, and was heard
+abbrev pub is_pruned : Fate → Bool
+is_pruned (Heard (Pruned centre base low)) = true
+is_pruned _ = false
+
+-- whether the state is to be asked for after an ask of centre i: the session took it that the centre has pruned what
+-- came to the object
+abbrev pub asks_on : Client → ℕ → Ask → Fate → Bool
+asks_on s i ask fate = took s i ask fate && is_pruned fate
+
+-- the client after the ask for the object of a call, which the centre answered so
+abbrev pub let_go : Progress → Connection → ObjectCall → Say → Client
+let_go p link c say = after p.client (Asked link.centre (fetch_of p.client c.object) (fate_of p.armed say))
+
+-- the ask for the object of a call, after which the state need not be asked for
+pub record FetchesOnce (p : Progress) (link : Connection) (c : ObjectCall) (deeds : List Deed) : Type 0 where
+  pub asks : Asks p.armed link.centre (fetch_of p.client c.object) (after_fetch p.client link.centre c) deeds
+  pub last : asks_on p.client link.centre (fetch_of p.client c.object) (fate_of p.armed asks.say) ≡ false
+
+-- the ask for what came to the object of a call, which the centre has pruned, and then the ask for its state, for which
+-- no fault is armed
+pub record FetchesTwice (p : Progress) (link : Connection) (c : ObjectCall) (deeds : List Deed) : Type 0 where
+  pub first : List Deed
+  pub rest : List Deed
+  pub whole : deeds ≡ first ++ rest
+  pub asks : Asks p.armed link.centre (fetch_of p.client c.object) (λ fate. []) first
+  pub on : asks_on p.client link.centre (fetch_of p.client c.object) (fate_of p.armed asks.say) ≡ true
+  pub then : Asks None link.centre (fetch_of (let_go p link c asks.say) c.object) (after_fetch (let_go p link c asks.say) link.centre c) rest
+
+-- a fetch for a call over the link
+abbrev pub Fetches : Progress → ObjectCall → Connection → List Deed → Type 0
+Fetches p c link deeds = FetchesOnce p link c deeds ⊎ FetchesTwice p link c deeds
+
 -- a fetch for a call
 abbrev pub FetchDeeds : Progress → ObjectCall → List Deed → Type 0
-FetchDeeds p c deeds = OrTells p.client.link (line.Unconnected p.client.client c.word c.shown) (λ link. Asks p.armed link.centre (fetch_of p.client c.object) (after_fetch p.client link.centre c)) deeds
+FetchDeeds p c deeds = OrTells p.client.link (line.Unconnected p.client.client c.word c.shown) (Fetches p c) deeds
 
 -- a call that has to have its object fetched
 pub record CallsBehind (p : Progress) (c : ObjectCall) (deeds : List Deed) : Type 0 where

@@ -1,13 +1,13 @@
-// A session: how a commit goes out and comes back, with answers that no centre of a run gives. What the steps of a script
-// show of a session is among the examples.
+// A session: how a commit goes out and comes back, and how it has what came to an object, with answers that no centre of
+// a run gives. What the steps of a script show of a session is among the examples.
 use client_session::{Heard, Session};
 use dc_talk::{Ask, Change, Refusal, Say, SharedState};
-use ids_core::{NoMemory, ObjectId, Sort};
-use samples::{counter, single};
+use ids_core::{Name, NoMemory, ObjectId, Sort};
+use samples::{counter, id, mark, single};
 use std::alloc::Global;
 use std::process::Abort;
 use std::test::Fail;
-use tx_core::{State, Value};
+use tx_core::{Op, State, Tail, Value};
 use vv_core::{Stamp, Vector};
 
 // Lets a session hear that centre 1 has nothing of it.
@@ -100,4 +100,84 @@ fn a_commit_reaches_the_centre_and_comes_back(rt: HostRuntime) -> Result<(), Fai
     let mut session = Session::new(rt.alloc(), 1, 1, 2)?;
     assert_eq!(rt; session.client(), 1);
     send_and_see(&rt, rt.alloc(), &mut session)
+}
+
+// A session that has the empty counter at the snapshot 0, and is at the snapshot 1.
+fn behind(alloc: Global, object: &ObjectId) -> Result<Session, Fail> {
+    let mut session = Session::new(alloc, 1, 1, 2)?;
+    connect(&mut session)?;
+    fetch(
+        alloc,
+        &mut session,
+        object,
+        State::empty(alloc, Sort::Counter)?,
+    )?;
+    let (centre, ask) = session.ask_refresh()?;
+    let (vector, mine, top) = (single(1), 0, 1);
+    session.hear(centre, &ask, &Say::Snap { vector, mine, top })?;
+    Ok(session)
+}
+
+// Whether an ask is for what came between the snapshots 0 and 1.
+fn is_for_changes(ask: &Ask) -> bool {
+    match ask {
+        Ask::Delta {
+            object: _,
+            from,
+            at,
+        } => *from == single(0) && *at == single(1),
+        _ => false,
+    }
+}
+
+// What came to an object: this operation of client 2.
+fn changes(alloc: Global, op: Op) -> Result<Say, NoMemory> {
+    let mut ops = Vec::new(alloc);
+    ops.push((mark(1, id(2, 1, 0)), op))?;
+    let tail = Tail::from_vec(alloc, ops)?;
+    Ok(Say::Changes { tail })
+}
+
+// The answer that the centre has pruned what came past the snapshot 0.
+fn pruned() -> Say {
+    let (centre, base, at) = (1, 1, 0);
+    Say::Pruned { centre, base, at }
+}
+
+#[test]
+fn what_came_to_an_object_is_folded_in(rt: HostRuntime) -> Result<(), Fail> {
+    let object = counter("a")?;
+    let mut session = behind(rt.alloc(), &object)?;
+    let (centre, ask) = session.ask_fetch(&object)?;
+    assert!(rt; is_for_changes(&ask));
+    let say = changes(rt.alloc(), Op::Inc { delta: 3 })?;
+    assert!(rt; takes(&mut session, centre, &ask, &say)?);
+    assert!(rt; matches!(session.read(rt.alloc(), &object)?, Value::Number(3)));
+    assert!(rt; !takes(&mut session, centre, &ask, &say)?);
+    Ok(())
+}
+
+#[test]
+fn operations_on_another_kind_are_ignored(rt: HostRuntime) -> Result<(), Fail> {
+    let object = counter("a")?;
+    let mut session = behind(rt.alloc(), &object)?;
+    let (centre, ask) = session.ask_fetch(&object)?;
+    let word = Name::read(b"x")?;
+    let say = changes(rt.alloc(), Op::Write { word })?;
+    assert!(rt; !takes(&mut session, centre, &ask, &say)?);
+    let (_, again) = session.ask_fetch(&object)?;
+    assert!(rt; is_for_changes(&again));
+    Ok(())
+}
+
+#[test]
+fn an_object_is_forgotten_whose_changes_are_pruned(rt: HostRuntime) -> Result<(), Fail> {
+    let object = counter("a")?;
+    let mut session = behind(rt.alloc(), &object)?;
+    let (centre, ask) = session.ask_fetch(&object)?;
+    assert!(rt; takes(&mut session, centre, &ask, &pruned())?);
+    let (_, again) = session.ask_fetch(&object)?;
+    assert!(rt; matches!(again, Ask::Fetch { .. }));
+    assert!(rt; !takes(&mut session, centre, &ask, &pruned())?);
+    Ok(())
 }

@@ -3,6 +3,8 @@
 #![tactic(auto)]
 
 #[cfg(test)]
+mod client_cache_tests;
+#[cfg(test)]
 mod client_pending_tests;
 #[cfg(test)]
 mod client_session_tests;

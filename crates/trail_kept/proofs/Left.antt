@@ -3,7 +3,7 @@ use Rattle.std.proofs.Common.{◌≡◌, ℕ, Bool, true, false, cond, not, ◌&
 use Rattle.std.specs.Option.{unwrap_or}
 use Rattle.vv_core.specs.Vectors.{at, zeros, centres, tabulate, column, least, join_of, meet_of, kth_largest}
 use Rattle.dc_talk.specs.declared.ask.Ask.{Ask}
-use Rattle.dc_talk.specs.declared.ask.Ask.TheVariants.{Hello, Refresh, Fetch, Commit, Send, Deliver, Relay, Report, Learn, Prune, Stop, Start}
+use Rattle.dc_talk.specs.declared.ask.Ask.TheVariants.{Hello, Refresh, Fetch, Delta, Commit, Send, Deliver, Relay, Report, Learn, Prune, Stop, Start}
 use Rattle.dc_talk.specs.declared.say.Say.{Say}
 use Rattle.dc_talk.specs.declared.say.Say.TheVariants.{Stamped, Applied, Learned, Base, Stopped, Started, Vector, Down, Misfit}
 use Rattle.dc_talk.specs.declared.sent.Sent.{Sent}
@@ -11,8 +11,8 @@ use Rattle.dc_talk.specs.declared.settings.Settings.{Settings}
 use Rattle.dc_talk.specs.Entries.{Entry}
 use Rattle.dc_talk.specs.Records.{vector, guard, count}
 use Rattle.dc_talk.specs.Sents.{items}
-use Rattle.dc_talk.specs.Objects.{state_at}
-use Rattle.dc_talk.specs.Answers.{answer, row, fits, is_switch, hello_answer, refresh_answer, snap_at, fetch_answer, commit_answer, send_answer, part_of, deliver_answer, tells, count_inside}
+use Rattle.dc_talk.specs.Objects.{state_at, ops_since}
+use Rattle.dc_talk.specs.Answers.{answer, row, fits, is_switch, hello_answer, refresh_answer, snap_at, fetch_answer, told_of, delta_answer, commit_answer, send_answer, part_of, deliver_answer, tells, count_inside}
 use Rattle.dc_talk.specs.Trails.{carried_on, taught_in, switched_in, carried, applied, taught, told, rows, stable, all_known, Horizon, horizon_at_first, pruned, horizon_after, horizon_past}
 use Rattle.trail_kept.specs.Kept.{is_kept, kept, IsSameState}
 
@@ -128,6 +128,7 @@ module _ (s : Settings) where
     same_row (Hello client need) = (λ i. hello_answer (vector s.n (applied_is i)) (guard client (applied_is i)) need)
     same_row (Refresh client here) = (λ i. refresh_answer (vector s.n (applied_is i)) (snap_at (applied_is i) client (join_of here (stable_is i))) here)
     same_row (Fetch object here) = (λ i. fetch_answer (vector s.n (applied_is i)) (same.same_horizon i).base (state_at object (applied_is i) here) here)
+    same_row (Delta object from here) = (λ i. delta_answer (vector s.n (applied_is i)) (same.same_horizon i).base (told_of (ops_since object (applied_is i) from here) (state_at object (applied_is i) here)) from here)
     same_row (Commit tx) = (λ i. commit_answer s (vector s.n (applied_is i)) (guard tx.dot.client (applied_is i)) (count s.me (applied_is i)) tx)
     same_row (Send after most) = (λ i. send_answer (at (same.same_horizon i).trimmed s.me) (part_of s.me (same.same_carried i) after most) after)
     same_row (Deliver item hops) = (λ i. deliver_answer s (vector s.n (applied_is i)) (count item.stamp.centre (applied_is i)) (guard item.tx.dot.client (applied_is i)) item)

@@ -2,9 +2,9 @@
 use Rattle.std.specs.Prelude.{ℕ, length, List, ◌++◌, codes, decimal, if◌then◌else◌}
 use Rattle.ids_core.specs.declared.ids.Dot.{Dot}
 use Rattle.dc_talk.specs.declared.ask.Ask.{Ask}
-use Rattle.dc_talk.specs.declared.ask.Ask.TheVariants.{Hello, Refresh, Fetch, Commit, Send, Deliver, Relay, Report, Learn, Prune, Stop, Start}
+use Rattle.dc_talk.specs.declared.ask.Ask.TheVariants.{Hello, Refresh, Fetch, Delta, Commit, Send, Deliver, Relay, Report, Learn, Prune, Stop, Start}
 use Rattle.dc_talk.specs.declared.say.Say.{Say}
-use Rattle.dc_talk.specs.declared.say.Say.TheVariants.{Misfit, Down, Lacks, Welcome, Snap, Pruned, Object, Known, OutOfOrder, Full, Stamped, Trimmed, Records, Old, Gap, Waits, Orphan, Applied, Vector, Learned, Base, Stopped, Started}
+use Rattle.dc_talk.specs.declared.say.Say.TheVariants.{Misfit, Down, Lacks, Welcome, Snap, Pruned, Object, Changes, Known, OutOfOrder, Full, Stamped, Trimmed, Records, Old, Gap, Waits, Orphan, Applied, Vector, Learned, Base, Stopped, Started}
 use Rattle.script_core.specs.Steps.{object_text}
 use Rattle.print_text.specs.Text.{lacking_text, stamp_text, vector_text}
 
@@ -17,6 +17,7 @@ abbrev pub ask_text : Ask → List ℕ
 ask_text (Hello client need) = codes "hello"
 ask_text (Refresh client here) = codes "refresh"
 ask_text (Fetch object here) = codes "fetch " ++ object_text object
+ask_text (Delta object from here) = codes "delta " ++ object_text object
 ask_text (Commit tx) = codes "commit " ++ dot_text tx.dot
 ask_text (Send after most) = codes "send " ++ decimal after
 ask_text (Deliver item hops) = codes "deliver " ++ stamp_text item.stamp
@@ -36,6 +37,7 @@ say_text (Welcome through) = codes "welcome " ++ decimal through
 say_text (Snap vector mine top) = codes "snap " ++ vector_text vector ++ codes " own " ++ decimal mine ++ codes " top " ++ decimal top
 say_text (Pruned centre base here) = codes "pruned " ++ decimal centre ++ codes ":" ++ decimal base ++ codes " at " ++ decimal here
 say_text (Object state) = codes "object"
+say_text (Changes tail) = codes "changes " ++ decimal (length tail)
 say_text (Known through) = codes "known " ++ decimal through
 say_text (OutOfOrder have) = codes "order " ++ decimal have
 say_text (Full limit) = codes "full " ++ decimal limit

@@ -1,9 +1,10 @@
 // Asks as words.
 ghost use Rattle.std.specs.Prelude.{◌≡◌, ◌++◌, OnOk};
+ghost use Rattle.script_core.specs.Steps.{object_text};
 ghost use Rattle.trail_text.specs.Words.{ask_text, dot_text};
 
 use dc_talk::Ask;
-use ids_core::{Dot, NoMemory};
+use ids_core::{Dot, NoMemory, ObjectId};
 use print_text::{write_named, write_object};
 
 /// Writes an ask at the end. An `Err` leaves a part of it there.
@@ -13,10 +14,8 @@ pub fn write_ask(text: &mut Vec<u8>, ask: &Ask) -> Result<(), NoMemory>
     match ask {
         Ask::Hello { client: _, need: _ } => write_words(text, b"hello"),
         Ask::Refresh { client: _, at: _ } => write_words(text, b"refresh"),
-        Ask::Fetch { object, at: _ } => {
-            write_words(text, b"fetch ")?;
-            write_object(text, object)
-        }
+        Ask::Fetch { object, .. } => write_about(text, b"fetch ", object),
+        Ask::Delta { object, .. } => write_about(text, b"delta ", object),
         Ask::Commit { tx } => {
             write_words(text, b"commit ")?;
             write_dot(text, tx.as_tx().dot)
@@ -41,6 +40,14 @@ pub fn write_ask(text: &mut Vec<u8>, ask: &Ask) -> Result<(), NoMemory>
         Ask::Stop => write_words(text, b"stop"),
         Ask::Start => write_words(text, b"start"),
     }
+}
+
+// Writes an object behind words.
+fn write_about(text: &mut Vec<u8>, words: &[u8], object: &ObjectId) -> Result<(), NoMemory>
+    ensures { OnOk result (text.new.items ≡ text.old.items ++ (words.now ++ object_text object.now)) }
+{
+    write_words(text, words)?;
+    write_object(text, object)
 }
 
 /// Writes a dot at the end. An `Err` leaves a part of it there.

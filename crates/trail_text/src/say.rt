@@ -29,6 +29,7 @@ pub fn write_say(text: &mut Vec<u8>, say: &Say) -> Result<(), NoMemory>
             write_named(text, b" at ", *at)
         }
         Say::Object { state: _ } => write_words(text, b"object"),
+        Say::Changes { tail } => write_named(text, b"changes ", tail.as_slice().len() as u64),
         Say::Known { through } => write_named(text, b"known ", *through),
         Say::OutOfOrder { have } => write_named(text, b"order ", *have),
         Say::Full { limit } => write_named(text, b"full ", *limit),

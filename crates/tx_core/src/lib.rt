@@ -12,7 +12,7 @@ mod updates;
 
 pub use check::{TxFault, is_small_delta};
 pub use laws::{law_state_order, law_state_tags, law_state_value};
-pub use names::{NamePairs, Names, SharedList};
+pub use names::{NamePairs, Names, SharedList, Tail};
 pub use op::Op;
 pub use part::{RestPart, RestParts, Stamps, StatePart, StateParts};
 pub use state::{State, Value};

@@ -1,7 +1,8 @@
-// Names and pairs of names as lists that copies share.
+// Names, pairs of names and operations as lists that copies share.
 ghost use Rattle.std.specs.Prelude.{◌≡◌, IfOk};
 
-use ids_core::{Name, NoMemory};
+use crate::op::Op;
+use ids_core::{Mark, Name, NoMemory};
 use std::alloc::{AllocError, Global};
 use std::marker::Model;
 use std::sync::Arc;
@@ -11,6 +12,9 @@ pub type Names = SharedList<Name>;
 
 /// Pairs of a key and a word, seen as their list.
 pub type NamePairs = SharedList<(Name, Name)>;
+
+/// Marked operations on an object in their order, seen as their list.
+pub type Tail = SharedList<(Mark, Op)>;
 
 /// Elements in their order, seen as their list. Nothing changes them, so copies share them.
 #[derive(Drop)]

@@ -1,68 +1,76 @@
 -- How the asks of clients are answered in a book that fits.
-use Rattle.std.proofs.Common.{◌≡◌, ℕ, zero, suc, ◌+◌, ◌-◌, ◌≤◌, true, List, [], ◌∷◌, length, take, Some, refl, sym, ap, ◌∙◌, subst, arith}
-use Rattle.std.specs.Prelude.{slice_get, ◌==◌, nat_le, is_none, filter, flat_map}
-use Rattle.std.specs.Cmp.Lexicographic.{pointwise_decides}
+use Rattle.std.proofs.Common.{◌≡◌, ℕ, zero, suc, ◌+◌, ◌-◌, ◌≤◌, inl, inr, Bool, true, false, cond, List, [], ◌∷◌, length, take, Some, refl, sym, ap, ◌∙◌, subst, arith}
+use Rattle.std.specs.Prelude.{slice_get, ◌==◌, ◌&&◌, not, nat_le, is_none, filter, flat_map, All}
 use Rattle.std.proofs.lemmas.Bool.{and_from, le-leb, lt-leb, eq-eqb}
-use Rattle.std.proofs.lemmas.Bool.Decides.{Decides-eqb}
+use Rattle.std.proofs.lemmas.List.Elements.{All-head, All-tail}
+use Rattle.std.proofs.lemmas.List.Sums.{list_all-from_AllPass}
 use Rattle.list_core.specs.Members.{In}
 use Rattle.list_core.specs.Choices.{first_of}
+use Rattle.list_core.specs.Moments.{Each}
 use Rattle.list_core.proofs.Choices.{first_of_holds, when_holds, when_fails}
-use Rattle.list_core.proofs.Members.{In_from_map, In_from_filter}
-use Rattle.list_core.proofs.Gets.{get_in_drop, get_In}
+use Rattle.list_core.proofs.Members.{In-All, In_from_map, In_from_filter, In_from_flat_map}
+use Rattle.list_core.proofs.Gets.{get_in_drop, get_In, In_get}
 use Rattle.ids_core.specs.declared.ids.Dot.{Dot}
+use Rattle.ids_core.specs.declared.ids.Mark.{Mark}
 use Rattle.ids_core.specs.declared.object.ObjectId.{ObjectId}
 use Rattle.ids_core.specs.declared.object.Sort.{Sort}
 use Rattle.ids_core.specs.declared.object.Sort.TheVariants as sort
-use Rattle.ids_core.specs.Ids.{same_sort}
-use Rattle.ids_core.specs.Same.{same_sort-itself}
-use Rattle.vv_core.specs.Vectors.{within, join_of, Covers}
-use Rattle.vv_core.proofs.Covering.{Covers_trans}
+use Rattle.ids_core.specs.Ids.{same_object, same_sort}
+use Rattle.ids_core.specs.Same.{same_object-true, same_sort-itself}
+use Rattle.vv_core.specs.Vectors.{within, join_of, covers, Covers}
+use Rattle.vv_core.proofs.Covering.{Covers_trans, covers_from}
+use Rattle.tx_core.specs.declared.op.Op.{Op}
+use Rattle.tx_core.specs.declared.tx.Update.{Update}
 use Rattle.tx_core.specs.declared.tx.Tx.{Tx}
 use Rattle.tx_core.specs.declared.tx.Record.{Record}
 use Rattle.tx_core.specs.declared.state.State.{State}
+use Rattle.tx_core.specs.Checks.{IsFitUpdate}
+use Rattle.tx_core.specs.Ops.{sort_of_op}
 use Rattle.tx_core.specs.States.{empty_of, sort_of}
 use Rattle.tx_core.proofs.Fits.{none-fault_of}
 use Rattle.tx_core.proofs.Folds.{fold_of-sort}
 use Rattle.dc_talk.specs.declared.ask.Ask.{Ask}
-use Rattle.dc_talk.specs.declared.ask.Ask.TheVariants.{Hello, Refresh, Fetch, Commit}
+use Rattle.dc_talk.specs.declared.ask.Ask.TheVariants.{Hello, Refresh, Fetch, Delta, Commit}
 use Rattle.dc_talk.specs.declared.say.Say.{Say}
-use Rattle.dc_talk.specs.declared.say.Say.TheVariants.{Misfit, Lacks, Pruned, Object}
+use Rattle.dc_talk.specs.declared.say.Say.TheVariants.{Misfit, Down, Lacks, Pruned, Object, Changes}
 use Rattle.dc_talk.specs.declared.calls.Connection.{Connection}
+use Rattle.dc_talk.specs.declared.ask.TheConstants.{MOST_CHANGES}
+use Rattle.dc_talk.specs.declared.settings.Settings.{Settings}
 use Rattle.dc_talk.specs.Entries.{Entry}
+use Rattle.dc_talk.specs.Laws.{IsInOrder}
 use Rattle.dc_talk.specs.Records.{count, vector, guard, inside, has, firsts}
-use Rattle.dc_talk.specs.Objects.{state_at}
+use Rattle.dc_talk.specs.Objects.{state_at, ops_since}
 use Rattle.dc_talk.specs.Trails.{stable}
-use Rattle.dc_talk.specs.Answers.{fits, lacking, snap_at, row}
+use Rattle.dc_talk.specs.Answers.{fits, lacking, told_of, snap_at, row}
 use Rattle.dc_talk.specs.Clients.{Client, settled, same_vector}
-use Rattle.dc_talk.specs.Rule.{takes, IsLinked, Sends, next_commit}
+use Rattle.dc_talk.specs.Rule.{takes, holds, are_of_sort, IsLinked, Sends, next_commit}
 use Rattle.dc_talk.proofs.Answers.{lack_first, lack_none, lack_fails, commit_holds, answer_holds, no_misfit}
-use Rattle.dc_talk.proofs.ClientAnswers.{object_by}
+use Rattle.dc_talk.proofs.ClientAnswers.{object_by, changes_by, whole_by}
 use Rattle.dc_talk.proofs.Counts.{in_guard}
+use Rattle.dc_talk.proofs.Firsts.{firsts_in}
 use Rattle.dc_talk.proofs.Growth.{later_covers, later_guard}
 use Rattle.run_book.specs.Setups.{Setup, centre_settings}
 use Rattle.run_book.specs.declared.book.Book.{Book}
 use Rattle.run_book.specs.Parts.{trail_of, notes_of, IsClient, applied_at, horizon_at}
 use Rattle.run_book.specs.Fit.{FitsWith}
 use Rattle.run_book.specs.Graphs.{cover, client_at, commits_at}
-use Rattle.run_book.specs.Refusals.{Makes, IsPushAnswer, IsNoRefusal, IsFetchAnswer, IsFetched}
+use Rattle.run_book.specs.Refusals.{Makes, IsPushAnswer, IsNoRefusal, IsFetchAnswer, IsFetched, IsDeltaAnswer, IsToldSince}
 use Rattle.run_book.proofs.Numbered.{numbered_at}
 use Rattle.run_book.proofs.Held.{Held, dot_at, held_after}
 use Rattle.run_book.proofs.Growth.{wide_after}
 use Rattle.run_book.proofs.Pairing.{HasEntry, has_entry}
 use Rattle.run_book.proofs.Snapshots.{same_refresh}
+use Rattle.run_book.proofs.ObjectAsks.{same_vector-itself, fetch_asked, IsDeltaAsked, delta_asked, delta_held}
+use Rattle.run_book.proofs.Causal.Origins.{each_at}
 use Rattle.run_book.proofs.Causal.OneList.{covered_inside}
 use Rattle.run_book.proofs.Causal.SessionStates.{standing}
 use Rattle.run_book.proofs.Causal.Links.{same_hello, no_sooner, linked}
 use Rattle.run_book.proofs.Causal.FitCommits.{commits_fit}
 use Rattle.ids_core.specs.declared.limits.TheConstants.{MOST_CLIENTS}
 use Rattle.tx_core.specs.Checks.{is_within}
-use Rattle.tx_core.specs.Operations.{ops_of}
+use Rattle.tx_core.specs.Operations.{mark, ops_from, ops_of}
 
 -- ---- states and vectors
-
--- equal fetches are at one vector
-same_fetch : (o p : ObjectId) (v w : List ℕ) → Fetch o v ≡ Fetch p w → v ≡ w
-same_fetch o p v w is = cc
 
 -- the first state of a kind is of that kind
 sort_of_empty : (k : Sort) → sort_of (empty_of k) ≡ k
@@ -75,9 +83,30 @@ sort_of_empty sort.Map = refl
 sort_of_state : (o : ObjectId) (A : List Record) (w : List ℕ) → sort_of (state_at o A w) ≡ o.sort
 sort_of_state o A w = fold_of-sort (empty_of o.sort) (flat_map (λ (r : Record). ops_of o r.tx) (filter (λ (r : Record). has r.tx.dot (inside A w)) (firsts A))) ∙ sort_of_empty o.sort
 
--- equal vectors test equal
-same_vector-itself : (v w : List ℕ) → v ≡ w → same_vector v w ≡ true
-same_vector-itself v w is = (pointwise_decides Decides-eqb v w).1 is
+-- the operations of fit updates on an object are of its kind
+kinds_from : (o : ObjectId) (rank : ℕ) (dot : Dot) (place : ℕ) (us : List Update) → All IsFitUpdate us → (op : Mark × Op) → In op (ops_from o rank dot place us) → sort_of_op op.1 ≡ o.sort
+kinds_from o rank dot place [] fit op i = absurd i
+kinds_from o rank dot place (u ∷ us) fit op i = go (same_object u.object o) refl (λ j. kinds_from o rank dot (place + 1) us (All-tail IsFitUpdate u us fit) op j) i
+  where
+    go : (b : Bool) → same_object u.object o ≡ b → (In op (ops_from o rank dot (place + 1) us) → sort_of_op op.1 ≡ o.sort) → In op (cond b ((mark rank dot place, u.op) ∷ ops_from o rank dot (place + 1) us) (ops_from o rank dot (place + 1) us)) → sort_of_op op.1 ≡ o.sort
+    go true is rest (inl same) = ap (λ (op : Mark × Op). sort_of_op op.1) same ∙ ((All-head IsFitUpdate u us fit).kind ∙ ap (λ (o : ObjectId). o.sort) (same_object-true u.object o is))
+    go true is rest (inr j) = rest j
+    go false is rest j = rest j
+
+-- so are those that a centre tells
+kinds_since : (s : Settings) (A : List Record) (o : ObjectId) (from here : List ℕ) → Each (IsInOrder s) A → are_of_sort o.sort (ops_since o A from here) ≡ true
+kinds_since s A o from here each = list_all-from_AllPass (λ (marked : Mark × Op). same_sort (sort_of_op marked.1) o.sort) (ops_since o A from here) (In-All (λ (marked : Mark × Op). same_sort (sort_of_op marked.1) o.sort ≡ true) (ops_since o A from here) of_kind)
+  where
+    came : Record → Bool
+    came r = has r.tx.dot (inside A here) && not (has r.tx.dot (inside A from))
+
+    of_kind : (op : Mark × Op) → In op (flat_map (λ (r : Record). ops_of o r.tx) (filter (λ (r : Record). has r.tx.dot (inside A here) && not (has r.tx.dot (inside A from))) (firsts A))) → same_sort (sort_of_op op.1) o.sort ≡ true
+    of_kind op i =
+        let r = In_from_flat_map (λ (r : Record). ops_of o r.tx) (filter came (firsts A)) op i in
+        let f = In_from_filter came (firsts A) r.0 r.1 in
+        let g = In_get A r.0 (firsts_in [] A r.0 f.0) in
+        let kind : sort_of_op op.1 ≡ o.sort = kinds_from o r.0.tx.rank r.0.tx.dot 0 r.0.tx.updates (each.holds g.0 r.0 g.1).fit.updates op r.2 in
+        ap (λ k. same_sort k o.sort) kind ∙ same_sort-itself o.sort
 
 -- what is no refusal
 no_refusal : (say : Say) → (say ≡ Misfit → ⊥) → ((centre need have : ℕ) → say ≡ Lacks centre need have → ⊥) → IsNoRefusal say
@@ -233,10 +262,75 @@ module _ (b : Book) (setup : Setup) (fit : FitsWith b setup) (a m : ℕ) (client
   -- does not
   pub fetch : (i : ℕ) (o : ObjectId) (here : List ℕ) (say : Say) → Makes b setup (record { actor = a; place = m; centre = i; ask = Fetch o here; answer = say }) → IsFetched b setup (record { actor = a; place = m; centre = i; ask = Fetch o here; answer = say }) here
   fetch i o here say made =
-      let same = same_fetch o o here (client_at b setup a m).vector made.gives.0 in
+      let same = fetch_asked (client_at b setup a m) o here made.gives.0 in
       let g : IsLinked (client_at b setup a m) i = made.gives.1 in
       let x = subst (λ i. HasEntry b setup i (record { caller = a; ask = Fetch o here; say = say }) (take m (notes_of b a))) (sym g.centre) (entry_of i (Fetch o here) say made) in
       subst (λ i. IsFetched b setup (record { actor = a; place = m; centre = i; ask = Fetch o here; answer = say }) here) g.centre (fetch_at g.link o here say g.linked same x)
+
+  -- ---- a delta
+
+  -- a delta of the session fits
+  delta_fits_it : (o : ObjectId) (from here : List ℕ) → IsDeltaAsked (client_at b setup a m) o from here → fits b.n (Delta o from here) ≡ true
+  delta_fits_it o from here asked = and_from (length from == b.n) ((length here == b.n) && covers here from)
+      (eq-eqb (length from) b.n (ap length (sym asked.vector) ∙ (standing b setup fit a client m).wide asked.entry asked.there))
+      (and_from (length here == b.n) (covers here from) (is_wide here asked.here_is) (covers_from here from asked.later))
+
+  -- a delta to the session's vector, of the connected centre
+  delta_at : (link : Connection) (o : ObjectId) (from here : List ℕ) (say : Say) → (client_at b setup a m).link ≡ Some link → IsDeltaAsked (client_at b setup a m) o from here → HasEntry b setup link.centre (record { caller = a; ask = Delta o from here; say = say }) (take m (notes_of b a)) → IsToldSince b setup (record { actor = a; place = m; centre = link.centre; ask = Delta o from here; answer = say }) from
+  delta_at link o from here say is asked x = record {
+    place = x.place;
+    there = x.there;
+    answer = subst (IsDeltaAnswer base from) (sym x.is) (answer_holds (IsDeltaAnswer base from) (centre_settings b setup link.centre) (take x.place (trail_of b link.centre)) (Delta o from here) (delta_fits_it o from here asked) tt
+        (first_of_holds (IsDeltaAnswer base from) (lacking Lacks (vector b.n A) here ∷ lacking Pruned from base ∷ []) (told_of ops (state_at o A here))
+        (lack_fails (IsDeltaAnswer base from) Lacks (vector b.n A) here covered, λ none. (lack_first (IsDeltaAnswer base from) Pruned from base (λ lack first. first), λ kept. told (lack_none Pruned from base kept) (nat_le (length ops) MOST_CHANGES)))));
+  }
+    where
+      A : List Record
+      A = applied_at b link.centre x.place
+
+      ops : List (Mark × Op)
+      ops = ops_since o A from here
+
+      base : List ℕ
+      base = (horizon_at b setup link.centre x.place).base
+
+      covered : Covers (vector b.n (applied_at b link.centre x.place)) here
+      covered = subst (λ v. Covers (vector b.n (applied_at b link.centre x.place)) v) (sym asked.here_is) (has_linked link is (Delta o from here) say x).covered
+
+      told : Covers from (horizon_at b setup link.centre x.place).base → (few : Bool) → IsDeltaAnswer (horizon_at b setup link.centre x.place).base from (cond few (Changes (ops_since o (applied_at b link.centre x.place) from here)) (Object (state_at o (applied_at b link.centre x.place) here)))
+      told kept true = kept
+      told kept false = kept
+
+  -- a delta is answered with what came since, or with a state, where the vector from which it goes covers the centre's base,
+  -- and else with the least centre of which it does not
+  pub delta : (i : ℕ) (o : ObjectId) (from here : List ℕ) (say : Say) → Makes b setup (record { actor = a; place = m; centre = i; ask = Delta o from here; answer = say }) → IsToldSince b setup (record { actor = a; place = m; centre = i; ask = Delta o from here; answer = say }) from
+  delta i o from here say made =
+      let asked = delta_asked (client_at b setup a m) o from here made.gives.0 in
+      let g : IsLinked (client_at b setup a m) i = made.gives.1 in
+      let x = subst (λ i. HasEntry b setup i (record { caller = a; ask = Delta o from here; say = say }) (take m (notes_of b a))) (sym g.centre) (entry_of i (Delta o from here) say made) in
+      subst (λ i. IsToldSince b setup (record { actor = a; place = m; centre = i; ask = Delta o from here; answer = say }) from) g.centre (delta_at g.link o from here say g.linked asked x)
+
+  -- so each answer of a running centre to it is taken
+  pub delta_taken : (i : ℕ) (o : ObjectId) (from here : List ℕ) (say : Say) → Makes b setup (record { actor = a; place = m; centre = i; ask = Delta o from here; answer = say }) → (say ≡ Down → ⊥) → takes (client_at b setup a m) i (Delta o from here) say ≡ true
+  delta_taken i o from here (Object state) made up =
+      let s = client_at b setup a m in
+      let asked = delta_asked s o from here made.gives.0 in
+      let x = entry_of i (Delta o from here) (Object state) made in
+      let by = whole_by (centre_settings b setup i) (take x.place (trail_of b i)) o from here state x.is in
+      and_from (same_vector here s.vector) (holds s o from && same_sort (sort_of state) o.sort) (same_vector-itself here s.vector asked.here_is)
+      (and_from (holds s o from) (same_sort (sort_of state) o.sort) (delta_held s o from here asked)
+      (ap (λ k. same_sort k o.sort) (ap sort_of by.is ∙ sort_of_state o (applied_at b i x.place) here) ∙ same_sort-itself o.sort))
+  delta_taken i o from here (Changes tail) made up =
+      let s = client_at b setup a m in
+      let asked = delta_asked s o from here made.gives.0 in
+      let x = entry_of i (Delta o from here) (Changes tail) made in
+      let by = changes_by (centre_settings b setup i) (take x.place (trail_of b i)) o from here tail x.is in
+      and_from (same_vector here s.vector) (holds s o from && are_of_sort o.sort tail) (same_vector-itself here s.vector asked.here_is)
+      (and_from (holds s o from) (are_of_sort o.sort tail) (delta_held s o from here asked)
+      (ap (are_of_sort o.sort) by.is ∙ kinds_since (centre_settings b setup i) (applied_at b i x.place) o from here (each_at b setup fit i x.place x.low x.high)))
+  delta_taken i o from here (Pruned centre base low) made up = delta_held (client_at b setup a m) o from here (delta_asked (client_at b setup a m) o from here made.gives.0)
+  delta_taken i o from here Down made up = absurd (up refl)
+  delta_taken i o from here say made up = absurd ((delta i o from here say made).answer)
 
   -- ---- a hello, and a state
 
@@ -250,7 +344,7 @@ module _ (b : Book) (setup : Setup) (fit : FitsWith b setup) (a m : ℕ) (client
   -- a state that answers a fetch is taken
   pub object : (i : ℕ) (o : ObjectId) (here : List ℕ) (state : State) → Makes b setup (record { actor = a; place = m; centre = i; ask = Fetch o here; answer = Object state }) → takes (client_at b setup a m) i (Fetch o here) (Object state) ≡ true
   object i o here state made =
-      let same = same_fetch o o here (client_at b setup a m).vector made.gives.0 in
+      let same = fetch_asked (client_at b setup a m) o here made.gives.0 in
       let x = entry_of i (Fetch o here) (Object state) made in
       let by = object_by (centre_settings b setup i) (take x.place (trail_of b i)) o here state x.is in
       let kind : sort_of state ≡ o.sort = ap sort_of by.is ∙ sort_of_state o (applied_at b i x.place) here in

@@ -10,9 +10,9 @@ use Rattle.ids_core.specs.declared.object.ObjectId.{ObjectId}
 use Rattle.tx_core.specs.declared.tx.Update.{Update}
 use Rattle.tx_core.specs.declared.tx.Tx.{Tx}
 use Rattle.dc_talk.specs.declared.ask.Ask.{Ask}
-use Rattle.dc_talk.specs.declared.ask.Ask.TheVariants.{Hello, Refresh, Fetch, Commit as CommitAsk}
+use Rattle.dc_talk.specs.declared.ask.Ask.TheVariants.{Hello, Refresh, Fetch, Delta, Commit as CommitAsk}
 use Rattle.dc_talk.specs.declared.say.Say.{Say}
-use Rattle.dc_talk.specs.declared.say.Say.TheVariants.{Welcome, Snap, Object, Known, Stamped}
+use Rattle.dc_talk.specs.declared.say.Say.TheVariants.{Welcome, Snap, Pruned, Object, Changes, Known, Stamped}
 use Rattle.dc_talk.specs.declared.calls.Connection.{Connection}
 use Rattle.dc_talk.specs.declared.calls.Cached.{Cached}
 use Rattle.dc_talk.specs.declared.calls.Change.{Change}
@@ -85,6 +85,9 @@ module _ {Fit : Client → Deed → Type 0} {Open : Client → Type 0} {Made : T
       let parts = and_parts ((c == s.client) && is_linked i s.link) (can_follow s vector mine top) is in
       closed _ C (ap (λ d. unwrap_or d []) (can_follow-true s vector mine top parts.1).closed) h.commits
   holds_taken s C i (Fetch o here) (Object state) is h = beside s C s.link _ h
+  holds_taken s C i (Delta o from here) (Object state) is h = beside s C s.link _ h
+  holds_taken s C i (Delta o from here) (Changes tail) is h = beside s C s.link _ h
+  holds_taken s C i (Delta o from here) (Pruned centre base low) is h = beside s C s.link _ h
   holds_taken s C i (CommitAsk tx) (Stamped stamp) is h = beside s C _ s.cache h
   holds_taken s C i (CommitAsk tx) (Known through) is h = beside s C _ s.cache h
   holds_taken s C i _ _ is h = h

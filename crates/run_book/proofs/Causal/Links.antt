@@ -14,9 +14,9 @@ use Rattle.vv_core.specs.Vectors.{Covers}
 use Rattle.vv_core.proofs.Covering.{Covers_trans}
 use Rattle.tx_core.specs.declared.tx.Tx.{Tx}
 use Rattle.dc_talk.specs.declared.ask.Ask.{Ask}
-use Rattle.dc_talk.specs.declared.ask.Ask.TheVariants.{Hello, Refresh, Fetch, Commit as CommitAsk}
+use Rattle.dc_talk.specs.declared.ask.Ask.TheVariants.{Hello, Refresh, Fetch, Delta, Commit as CommitAsk}
 use Rattle.dc_talk.specs.declared.say.Say.{Say}
-use Rattle.dc_talk.specs.declared.say.Say.TheVariants.{Welcome, Snap, Object, Known, Stamped}
+use Rattle.dc_talk.specs.declared.say.Say.TheVariants.{Welcome, Snap, Pruned, Object, Changes, Known, Stamped}
 use Rattle.dc_talk.specs.declared.calls.Connection.{Connection}
 use Rattle.dc_talk.specs.declared.log.Fate.TheVariants.{Heard}
 use Rattle.dc_talk.specs.declared.log.Deed.{Deed}
@@ -166,6 +166,9 @@ module _ (b : Book) (setup : Setup) (a : ℕ) where
         let here_it : link.centre ≡ i = linked_is i s.link (and_parts (client == s.client) (is_linked i s.link) parts.0).1 link there in
         reached_snap link client here w number rank (subst (λ i. HasEntry b setup i (record { caller = a; ask = Refresh client here; say = Snap w number rank }) X) (sym here_it) x) (old link there)
     reached_taken i (Fetch o here) (Object state) deed x gives is link there = stays X note s.vector link (old link there)
+    reached_taken i (Delta o from here) (Object state) deed x gives is link there = stays X note s.vector link (old link there)
+    reached_taken i (Delta o from here) (Changes tail) deed x gives is link there = stays X note s.vector link (old link there)
+    reached_taken i (Delta o from here) (Pruned centre base low) deed x gives is link there = stays X note s.vector link (old link there)
     reached_taken i (CommitAsk tx) (Stamped stamp) deed x gives is link there = go s.link refl there
       where
         parts : ((tx.dot.client == s.client) ≡ true) × (is_linked i s.link ≡ true)

@@ -26,10 +26,9 @@ use Rattle.list_core.proofs.Images.{filter-map}
 use Rattle.tx_core.specs.Operations.{ops_of}
 use Rattle.run_book.proofs.Held.{dot_at}
 use Rattle.run_book.proofs.Dots.{own_dots_are}
-use Rattle.run_book.proofs.Served.{cached_some}
 use Rattle.run_book.proofs.Causal.Cover.{cover_in}
 use Rattle.run_book.proofs.Causal.Commits.{own_commit, carried, one_tx}
-use Rattle.run_book.proofs.Causal.ServedStates.{IsServed}
+use Rattle.run_book.proofs.Causal.ServedStates.{IsServed, cached_served}
 use Rattle.run_book.proofs.Causal.SessionStates.{standing}
 use Rattle.run_book.proofs.Causal.Closure.{session_held, is_so_far}
 use Rattle.run_book.proofs.Causal.BasisOrder.{basis_order}
@@ -109,10 +108,7 @@ module _ (b : Book) (setup : Setup) (fit : FitsWith b setup) where
       based = filter (λ (t : Tx). has t.dot set) (committed b setup)
 
       served : IsServed b setup o (client_at b setup a m).vector state
-      served =
-          let k = cached_some o s.vector s.cache state found in
-          let st = (standing b setup fit a c m).cache k.item k.there in
-          subst (λ state. IsServed b setup o s.vector state) k.gives (subst (λ w. IsServed b setup o w k.item.state) k.vector (subst (λ o. IsServed b setup o k.item.vector k.item.state) k.object st))
+      served = cached_served b setup o s.vector s.cache state (standing b setup fit a c m).cache found
 
       in_basis : ops_in (graph b setup) (basis b (client_at b setup a m)) o ≡ flat_map (ops_of o) based
       in_basis =

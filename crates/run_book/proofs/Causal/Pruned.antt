@@ -1,5 +1,5 @@
 -- What centres of a book that fits have folded and let go, and how they answer to those who ask for it.
-use Rattle.std.proofs.Common.{◌≡◌, ℕ, suc, ◌+◌, ◌≤◌, true, cond, ⊎_elim, List, [], ◌∷◌, take, refl, sym, ap, ◌∙◌, subst, arith}
+use Rattle.std.proofs.Common.{◌≡◌, ℕ, suc, ◌+◌, ◌≤◌, Bool, true, false, cond, ⊎_elim, List, [], ◌∷◌, length, take, refl, sym, ap, ◌∙◌, subst, arith}
 use Rattle.std.specs.Prelude.{◌↔◌, ◌==◌, nat_le, map}
 use Rattle.std.proofs.lemmas.Bool.{cases_Bool, and_parts, and_from, leb-true, leb-false, le-leb, ne_eqb}
 use Rattle.list_core.specs.Members.{In}
@@ -7,26 +7,29 @@ use Rattle.list_core.proofs.Choices.{first_of_holds, when_none, when_holds}
 use Rattle.list_core.proofs.Members.{In_map}
 use Rattle.list_core.proofs.Moments.{by_prefixes, take_one_more}
 use Rattle.list_core.proofs.Ranges.{In_range}
-use Rattle.list_core.specs.Choices.{when}
+use Rattle.list_core.specs.Choices.{when, first_of}
+use Rattle.ids_core.specs.declared.ids.Mark.{Mark}
 use Rattle.ids_core.specs.declared.object.ObjectId.{ObjectId}
 use Rattle.vv_core.specs.declared.stamp.Stamp.{Stamp}
 use Rattle.vv_core.specs.declared.stamp.Lack.{Lack}
 use Rattle.vv_core.specs.Vectors.{at, zeros, centres, Covers, IsFirstLack}
 use Rattle.vv_core.proofs.Covering.{Covers_trans}
 use Rattle.vv_core.proofs.Entrywise.{at-zeros}
-use Rattle.dc_talk.specs.declared.ask.TheConstants.{MOST_SENT}
+use Rattle.dc_talk.specs.declared.ask.TheConstants.{MOST_SENT, MOST_CHANGES}
+use Rattle.tx_core.specs.declared.op.Op.{Op}
+use Rattle.tx_core.specs.declared.state.State.{State}
 use Rattle.tx_core.specs.Checks.{is_within}
 use Rattle.dc_talk.specs.declared.ask.Ask.{Ask}
-use Rattle.dc_talk.specs.declared.ask.Ask.TheVariants.{Fetch, Send, Relay, Prune}
+use Rattle.dc_talk.specs.declared.ask.Ask.TheVariants.{Fetch, Delta, Send, Relay, Prune}
 use Rattle.dc_talk.specs.declared.say.Say.{Say}
-use Rattle.dc_talk.specs.declared.say.Say.TheVariants.{Misfit, Lacks, Pruned, Object, Records, Trimmed}
+use Rattle.dc_talk.specs.declared.say.Say.TheVariants.{Misfit, Lacks, Pruned, Object, Changes, Records, Trimmed}
 use Rattle.dc_talk.specs.declared.sent.Sent.{Sent}
 use Rattle.dc_talk.specs.declared.settings.Settings.{Settings}
 use Rattle.dc_talk.specs.Entries.{Entry}
 use Rattle.dc_talk.specs.Records.{vector}
 use Rattle.dc_talk.specs.Trails.{carried, applied, told, all_known, Horizon, horizon, horizon_after}
-use Rattle.dc_talk.specs.Objects.{state_at}
-use Rattle.dc_talk.specs.Answers.{fits, lacking, send_answer, part_of, row, answer}
+use Rattle.dc_talk.specs.Objects.{state_at, ops_since}
+use Rattle.dc_talk.specs.Answers.{fits, lacking, told_of, send_answer, part_of, row, answer}
 use Rattle.dc_talk.proofs.Answers.{lack_holds, lack_first, answer_holds, fitting, no_misfit, misfit}
 use Rattle.dc_talk.proofs.Counts.{vector_front}
 use Rattle.dc_talk.proofs.Growth.{applied_front}
@@ -105,7 +108,7 @@ fits_relay n origin after most is =
     let range = and_parts (nat_le 1 origin) (nat_le origin n) parts.0 in
     record { range = (leb-true 1 origin range.0, leb-true origin n range.1); few = fits_send n after most parts.1 }
 
--- equal refusals of a fetch have equal parts
+-- equal refusals of a fetch or a delta have equal parts
 same_refusal : (c d high more low less : ℕ) → Pruned c high low ≡ Pruned d more less → (c ≡ d) × (high ≡ more) × (low ≡ less)
 same_refusal c d high more low less same = (cc, cc, cc)
 
@@ -115,6 +118,14 @@ refusal_is here base c high low lack first same =
     let parts = same_refusal c lack.centre high lack.need low lack.have same in
     let is : lack ≡ record { centre = c; need = high; have = low } = λ j. record { centre = sym parts.0 j; need = sym parts.1 j; have = sym parts.2 j } in
     subst (IsFirstLack here base) is first
+
+-- what is told of an object is no refusal
+told_unpruned : (c high low : ℕ) (ops : List (Mark × Op)) (state : State) → Pruned c high low ≡ told_of ops state → ⊥
+told_unpruned c high low ops state same = go (nat_le (length ops) MOST_CHANGES) same
+  where
+    go : (few : Bool) → Pruned c high low ≡ cond few (Changes ops) (Object state) → ⊥
+    go true same = cc
+    go false same = cc
 
 module _ (b : Book) (setup : Setup) (fit : FitsWith b setup) where
   -- ---- what is folded
@@ -168,11 +179,12 @@ module _ (b : Book) (setup : Setup) (fit : FitsWith b setup) where
     said_to : (ask : Ask) → entry.ask ≡ ask → entry.say ≡ answer (centre_settings b setup i) (take stands.place (trail_of b i)) ask
     said_to ask asks = said ∙ ap (answer (centre_settings b setup i) (take stands.place (trail_of b i))) asks
 
-    -- a fetch that is refused for the centre's base is told the least centre of which the base is above it
-    pub refused : (o : ObjectId) (here : List ℕ) (c high low : ℕ) → entry.ask ≡ Fetch o here → entry.say ≡ Pruned c high low → IsFirstLack here (horizon_at b setup i stands.place).base (record { centre = c; need = high; have = low })
-    refused o here c high low asks says = first_of_holds Q (lacking Lacks have here ∷ lacking Pruned here base ∷ []) (Object (state_at o (applied b.n X) here))
-        (lack_holds Q Lacks (λ d m h e. absurd (cc)) have here, λ none. (lack_first Q Pruned here base (λ lack first e. refusal_is here base c high low lack first e), λ kept e. absurd (cc)))
-        (fitting (centre_settings b setup i) X (Fetch o here) (Pruned c high low) (sym says ∙ said_to (Fetch o here) asks) (λ e. cc) (λ e. cc)).1
+    -- an ask that is refused for the centre's base is told the least centre of which the base is above the vector
+    refused_at : (ask : Ask) (from here : List ℕ) (told : Say) (c high low : ℕ) → (Pruned c high low ≡ told → ⊥) → row (centre_settings b setup i) (take stands.place (trail_of b i)) ask ≡ first_of (lacking Lacks (vector b.n (applied_at b i stands.place)) here ∷ lacking Pruned from (horizon_at b setup i stands.place).base ∷ []) told
+        → entry.ask ≡ ask → entry.say ≡ Pruned c high low → IsFirstLack from (horizon_at b setup i stands.place).base (record { centre = c; need = high; have = low })
+    refused_at ask from here told c high low differs is asks says = first_of_holds Q (lacking Lacks have here ∷ lacking Pruned from base ∷ []) told
+        (lack_holds Q Lacks (λ d m h e. absurd (cc)) have here, λ none. (lack_first Q Pruned from base (λ lack first e. refusal_is from base c high low lack first e), λ kept e. absurd (differs e)))
+        ((fitting (centre_settings b setup i) X ask (Pruned c high low) (sym says ∙ said_to ask asks) (λ e. cc) (λ e. cc)).1 ∙ is)
       where
         X : List Entry
         X = take stands.place (trail_of b i)
@@ -184,7 +196,17 @@ module _ (b : Book) (setup : Setup) (fit : FitsWith b setup) where
         base = (horizon_at b setup i stands.place).base
 
         Q : Say → Type 0
-        Q say = Pruned c high low ≡ say → IsFirstLack here (horizon_at b setup i stands.place).base (record { centre = c; need = high; have = low })
+        Q say = Pruned c high low ≡ say → IsFirstLack from (horizon_at b setup i stands.place).base (record { centre = c; need = high; have = low })
+
+    -- so is a fetch
+    pub refused : (o : ObjectId) (here : List ℕ) (c high low : ℕ) → entry.ask ≡ Fetch o here → entry.say ≡ Pruned c high low → IsFirstLack here (horizon_at b setup i stands.place).base (record { centre = c; need = high; have = low })
+    refused o here c high low = refused_at (Fetch o here) here here (Object (state_at o (applied_at b i stands.place) here)) c high low (λ e. cc) refl
+
+    -- and a delta, for the vector from which it goes
+    pub refused_delta : (o : ObjectId) (from here : List ℕ) (c high low : ℕ) → entry.ask ≡ Delta o from here → entry.say ≡ Pruned c high low → IsFirstLack from (horizon_at b setup i stands.place).base (record { centre = c; need = high; have = low })
+    refused_delta o from here c high low =
+        let A = applied_at b i stands.place in
+        refused_at (Delta o from here) from here (told_of (ops_since o A from here) (state_at o A here)) c high low (told_unpruned c high low (ops_since o A from here) (state_at o A here)) refl
 
     -- an ask is a misfit exactly where it does not fit
     misfit_where : (ask : Ask) (Fits : Type 0) → (Fits → fits b.n ask ≡ true) → (fits b.n ask ≡ true → Fits) → entry.ask ≡ ask → (entry.say ≡ Misfit) ↔ (Fits → ⊥)

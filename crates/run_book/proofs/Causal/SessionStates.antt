@@ -1,25 +1,30 @@
 -- A session at each moment of its log: its own numbers within its vector, its ranks, its snapshots and its
 -- cache.
-use Rattle.std.proofs.Common.{◌≡◌, ℕ, suc, ◌-◌, ◌≤◌, ◌<◌, max, Bool, true, false, cond, ◌&&◌, ⊎_elim, List, [], ◌∷◌, ◌++◌, take, Some, refl, sym, ap, ◌∙◌, subst, arith}
-use Rattle.std.specs.Prelude.{slice_get, ◌==◌}
-use Rattle.std.proofs.lemmas.Bool.{and_parts, eqb-true}
+use Rattle.std.proofs.Common.{◌≡◌, ℕ, suc, ◌-◌, ◌≤◌, ◌<◌, max, Bool, true, false, cond, ◌&&◌, ⊎_elim, List, [], ◌∷◌, ◌++◌, length, take, Option, Some, None, refl, sym, ap, ◌∙◌, subst, arith}
+use Rattle.std.specs.Prelude.{slice_get, ◌==◌, is_some}
+use Rattle.std.specs.Option.{unwrap_or}
+use Rattle.std.proofs.lemmas.Bool.{and_parts, eqb-true, false≢true}
 use Rattle.std.proofs.lemmas.Option.{none-some, slice_get_within}
 use Rattle.std.proofs.lemmas.List.{append-nil}
 use Rattle.list_core.specs.Members.{In}
+use Rattle.list_core.proofs.Firsts.{In_without_first}
 use Rattle.list_core.proofs.Members.{In_more}
 use Rattle.list_core.proofs.Gets.{get_last, get_In}
 use Rattle.ids_core.specs.declared.ids.Dot.{Dot}
+use Rattle.ids_core.specs.declared.ids.Mark.{Mark}
 use Rattle.ids_core.specs.declared.object.ObjectId.{ObjectId}
 use Rattle.vv_core.specs.Vectors.{at, zeros, Covers}
 use Rattle.vv_core.proofs.Covering.{Covers_refl, Covers_trans}
 use Rattle.vv_core.proofs.Entrywise.{at-tabulate_le, at-zeros}
+use Rattle.tx_core.specs.declared.op.Op.{Op}
 use Rattle.tx_core.specs.declared.tx.Tx.{Tx}
 use Rattle.tx_core.specs.declared.tx.Record.{Record}
 use Rattle.tx_core.specs.declared.state.State.{State}
+use Rattle.tx_core.specs.States.{empty_of, fold_of}
 use Rattle.dc_talk.specs.declared.ask.Ask.{Ask}
-use Rattle.dc_talk.specs.declared.ask.Ask.TheVariants.{Hello, Refresh, Fetch, Commit as CommitAsk}
+use Rattle.dc_talk.specs.declared.ask.Ask.TheVariants.{Hello, Refresh, Fetch, Delta, Commit as CommitAsk}
 use Rattle.dc_talk.specs.declared.say.Say.{Say}
-use Rattle.dc_talk.specs.declared.say.Say.TheVariants.{Welcome, Snap, Object, Known, Stamped}
+use Rattle.dc_talk.specs.declared.say.Say.TheVariants.{Welcome, Snap, Pruned, Object, Changes, Known, Stamped}
 use Rattle.dc_talk.specs.declared.calls.Call.{Call}
 use Rattle.dc_talk.specs.declared.calls.Call.TheVariants.{Begin, Change as ChangeCall, Read, Commit, Abort}
 use Rattle.dc_talk.specs.declared.calls.Outcome.{Outcome}
@@ -31,11 +36,13 @@ use Rattle.dc_talk.specs.declared.log.Deed.{Deed}
 use Rattle.dc_talk.specs.declared.log.Deed.TheVariants.{Did, Asked, Told, Spoilt}
 use Rattle.dc_talk.specs.declared.log.Note.{Note}
 use Rattle.dc_talk.specs.Records.{count, vector, inside, mine as mine_of}
+use Rattle.dc_talk.specs.Objects.{state_at, ops_since}
 use Rattle.dc_talk.specs.Answers.{answer}
-use Rattle.dc_talk.specs.Clients.{Client, new_client, next_tx, draft_updates}
+use Rattle.dc_talk.specs.Clients.{Client, new_client, next_tx, same_vector, cached, kept, is_of, draft_updates}
 use Rattle.dc_talk.specs.Calls.{did, committed}
-use Rattle.dc_talk.specs.Rule.{after, heard, takes, taken, is_linked, can_follow, commit_in}
-use Rattle.dc_talk.proofs.ClientAnswers.{SnapBy, snap_by, object_by}
+use Rattle.dc_talk.specs.Rule.{after, heard, holds, held as held_at, are_of_sort, takes, taken, is_linked, can_follow, commit_in}
+use Rattle.dc_talk.proofs.ClientAnswers.{SnapBy, snap_by, ObjectBy, object_by, changes_by, whole_by}
+use Rattle.dc_talk.proofs.Deltas.{state_since}
 use Rattle.dc_talk.proofs.Counts.{in_top}
 use Rattle.dc_talk.proofs.Dots.{in_mine}
 use Rattle.run_book.specs.Setups.{Setup, centre_settings}
@@ -54,12 +61,12 @@ use Rattle.run_book.proofs.Causal.OneList.{inside_covered, covered_inside}
 use Rattle.run_book.proofs.Causal.Cover.{Covered, cover_in, cover_down}
 use Rattle.run_book.proofs.Causal.SessionVectors.{session_sound}
 use Rattle.run_book.proofs.Causal.Commits.{own_commit, carried, number_low}
-use Rattle.run_book.proofs.Causal.ServedStates.{IsServed, served_at}
+use Rattle.run_book.proofs.Causal.ServedStates.{IsServed, served_once, cached_served, served_at}
 
 -- what holds of a session s of client c that committed C: of its own numbers its vector covers just those
 -- that the snapshot names, what it covers has a rank at most the clock, its commits have sound snapshots
 -- that ascend and lie within the vector, their ranks are above what they cover, and what the cache has, a
--- centre serves
+-- centre serves, at a vector with an entry for each centre
 pub record Standing (b : Book) (setup : Setup) (c : ℕ) (s : Client) (C : List Tx) : Type 0 where
   pub own_in : (d : ℕ) → In (dot_at c d) (cover b s.vector) → (1 ≤ d) × (d ≤ s.mine)
   pub own_all : (d : ℕ) → 1 ≤ d → d ≤ s.mine → In (dot_at c d) (cover b s.vector)
@@ -69,6 +76,7 @@ pub record Standing (b : Book) (setup : Setup) (c : ℕ) (s : Client) (C : List 
   pub above : (t : Tx) → In t C → (d : Dot) (x : Covered b t.snap d) → x.item.tx.rank < t.rank
   pub ascend : (p q : ℕ) (t u : Tx) → p < q → slice_get C p ≡ Some t → slice_get C q ≡ Some u → Covers u.snap t.snap
   pub cache : (x : Cached) → In x s.cache → IsServed b setup x.object x.vector x.state
+  pub wide : (x : Cached) → In x s.cache → length x.vector ≡ b.n
 
 -- so does one that differs from it neither in its snapshot nor in its clock, and has no more in its cache
 same_standing : (b : Book) (setup : Setup) (c : ℕ) (s t : Client) (C : List Tx) → t.vector ≡ s.vector → t.mine ≡ s.mine → t.clock ≡ s.clock → ((x : Cached) → In x t.cache → In x s.cache) → Standing b setup c s C → Standing b setup c t C
@@ -81,6 +89,7 @@ same_standing b setup c s t C vector mine clock cache h = record {
   above = h.above;
   ascend = h.ascend;
   cache = λ x i. h.cache x (cache x i);
+  wide = λ x i. h.wide x (cache x i);
 }
   where
     ranks : (d : Dot) (x : Covered b t.vector d) → x.item.tx.rank ≤ s.clock
@@ -111,6 +120,7 @@ module _ (b : Book) (setup : Setup) (fit : FitsWith b setup) where
     above = h.above;
     ascend = h.ascend;
     cache = h.cache;
+    wide = h.wide;
   }
     where
       parts : (((client == s.client) && is_linked i s.link) ≡ true) × (can_follow s w number rank ≡ true)
@@ -151,9 +161,9 @@ module _ (b : Book) (setup : Setup) (fit : FitsWith b setup) where
           let here = applied_there b setup fit i says.place x.centre x.place x.item says.low says.high (omega (arith, x.within, le.holds x.centre, at-tabulate_le b.n x.centre (λ e. count e A))) x.there in
           omega (arith, in_top A x.item here.0, snap.top_is)
 
-  -- a state that is taken
-  standing_object : (c : ℕ) (s : Client) (C : List Tx) (i : ℕ) (o : ObjectId) (here : List ℕ) (state : State) → IsAnswer i (Fetch o here) (Object state) → Standing b setup c s C → Standing b setup c (taken s i (Fetch o here) (Object state)) C
-  standing_object c s C i o here state says h = record {
+  -- a state that is kept
+  standing_kept : (c : ℕ) (s : Client) (C : List Tx) (o : ObjectId) (here : List ℕ) (state : State) → length here ≡ b.n → IsServed b setup o here state → Standing b setup c s C → Standing b setup c (record s { cache = kept s.capacity (record { object = o; vector = here; state = state }) s.cache }) C
+  standing_kept c s C o here state wide served h = record {
     own_in = h.own_in;
     own_all = h.own_all;
     ranks = h.ranks;
@@ -162,21 +172,52 @@ module _ (b : Book) (setup : Setup) (fit : FitsWith b setup) where
     above = h.above;
     ascend = h.ascend;
     cache = λ x j. ⊎_elim (λ same. subst (λ (x : Cached). IsServed b setup x.object x.vector x.state) (sym same) served) (λ old. h.cache x old) (In_kept s.capacity new s.cache x j);
+    wide = λ x j. ⊎_elim (λ same. ap (λ (x : Cached). length x.vector) same ∙ wide) (λ old. h.wide x old) (In_kept s.capacity new s.cache x j);
   }
     where
       new : Cached
       new = record { object = o; vector = here; state = state }
 
-      served : IsServed b setup o here state
-      served =
-          let object = object_by (centre_settings b setup i) (take says.place (trail_of b i)) o here state says.is in
-          subst (λ state. IsServed b setup o here state) (sym object.is) (served_at b setup fit i says.place says.low says.high o here object.covered)
+  -- a state that is taken
+  standing_object : (c : ℕ) (s : Client) (C : List Tx) (i p : ℕ) (o : ObjectId) (here : List ℕ) (state : State) → 1 ≤ i → i ≤ b.n → ObjectBy b.n (applied_at b i p) o here state → Standing b setup c s C → Standing b setup c (record s { cache = kept s.capacity (record { object = o; vector = here; state = state }) s.cache }) C
+  standing_object c s C i p o here state low high object h = standing_kept c s C o here state object.width (subst (λ state. IsServed b setup o here state) (sym object.is) (served_at b setup fit i p low high o here object.covered)) h
+
+  -- what came to an object after a vector, folded into the state there, is served at the later vector: the centre has
+  -- the same state at the first one, from whichever centre this one came, since the vector fixes it
+  served_since : (i p : ℕ) (o : ObjectId) (from here : List ℕ) (tail : List (Mark × Op)) (state : State) → 1 ≤ i → i ≤ b.n → Covers here from → Covers (vector b.n (applied_at b i p)) here → tail ≡ ops_since o (applied_at b i p) from here → IsServed b setup o from state → IsServed b setup o here (fold_of state tail)
+  served_since i p o from here tail state low high later covered is served =
+      let A : List Record = applied_at b i p in
+      let there : IsServed b setup o from (state_at o A from) = served_at b setup fit i p low high o from (Covers_trans (vector b.n A) here from covered later) in
+      let first : state ≡ state_at o A from = served_once b setup o from state (state_at o A from) served there in
+      let same : fold_of state tail ≡ state_at o A here = (λ j. fold_of (first j) (is j)) ∙ state_since A from here o later in
+      subst (λ state. IsServed b setup o here state) (sym same) (served_at b setup fit i p low high o here covered)
+
+  -- a state that the session holds is served
+  held_served : (c : ℕ) (s : Client) (C : List Tx) (o : ObjectId) (from : List ℕ) → holds s o from ≡ true → Standing b setup c s C → IsServed b setup o from (held_at s o from)
+  held_served c s C o from has h = go (cached o from s.cache) refl has
+    where
+      go : (found : Option State) → cached o from s.cache ≡ found → is_some found ≡ true → IsServed b setup o from (unwrap_or found (empty_of o.sort))
+      go None is none = absurd (false≢true none)
+      go (Some state) is some = cached_served b setup o from s.cache state h.cache is
+
+  -- operations that are taken
+  standing_changes : (c : ℕ) (s : Client) (C : List Tx) (i : ℕ) (o : ObjectId) (from here : List ℕ) (tail : List (Mark × Op)) → IsAnswer i (Delta o from here) (Changes tail) → takes s i (Delta o from here) (Changes tail) ≡ true → Standing b setup c s C → Standing b setup c (taken s i (Delta o from here) (Changes tail)) C
+  standing_changes c s C i o from here tail says takes_it h =
+      let by = changes_by (centre_settings b setup i) (take says.place (trail_of b i)) o from here tail says.is in
+      let has : holds s o from ≡ true = (and_parts (holds s o from) (are_of_sort o.sort tail) (and_parts (same_vector here s.vector) (holds s o from && are_of_sort o.sort tail) takes_it).1).0 in
+      standing_kept c s C o here (fold_of (held_at s o from) tail) by.widths.1
+      (served_since i says.place o from here tail (held_at s o from) says.low says.high by.later by.covered by.is (held_served c s C o from has h)) h
 
   -- an answer that is taken
   standing_taken : (c : ℕ) (s : Client) (C : List Tx) (i : ℕ) (ask : Ask) (say : Say) → IsAnswer i ask say → takes s i ask say ≡ true → IsSound b (taken s i ask say).vector → Held c s C → Standing b setup c s C → Standing b setup c (taken s i ask say) C
   standing_taken c s C i (Hello client need) (Welcome through) says is sound held h = same_standing b setup c s _ C refl refl refl (λ x j. j) h
   standing_taken c s C i (Refresh client here) (Snap w number rank) says is sound held h = standing_snap c s C i client here w number rank says is sound held h
-  standing_taken c s C i (Fetch o here) (Object state) says is sound held h = standing_object c s C i o here state says h
+  standing_taken c s C i (Fetch o here) (Object state) says is sound held h =
+      standing_object c s C i says.place o here state says.low says.high (object_by (centre_settings b setup i) (take says.place (trail_of b i)) o here state says.is) h
+  standing_taken c s C i (Delta o from here) (Object state) says is sound held h =
+      standing_object c s C i says.place o here state says.low says.high (whole_by (centre_settings b setup i) (take says.place (trail_of b i)) o from here state says.is) h
+  standing_taken c s C i (Delta o from here) (Changes tail) says is sound held h = standing_changes c s C i o from here tail says is h
+  standing_taken c s C i (Delta o from here) (Pruned centre base low) says is sound held h = same_standing b setup c s _ C refl refl refl (λ x j. In_without_first (is_of o) s.cache x j) h
   standing_taken c s C i (CommitAsk tx) (Stamped stamp) says is sound held h = same_standing b setup c s _ C refl refl refl (λ x j. j) h
   standing_taken c s C i (CommitAsk tx) (Known through) says is sound held h = same_standing b setup c s _ C refl refl refl (λ x j. j) h
   standing_taken c s C i _ _ says is sound held h = h
@@ -204,6 +245,7 @@ module _ (b : Book) (setup : Setup) (fit : FitsWith b setup) where
     above = λ t i. ⊎_elim (λ j. h.above t j) (λ same. subst (λ (t : Tx). (d : Dot) (x : Covered b t.snap d) → x.item.tx.rank < t.rank) (sym same) (λ d x. omega (arith, h.ranks d x))) (In_more C tx t i);
     ascend = ascend;
     cache = h.cache;
+    wide = h.wide;
   }
     where
       tx : Tx
@@ -252,6 +294,7 @@ module _ (b : Book) (setup : Setup) (fit : FitsWith b setup) where
     above = λ t i. absurd i;
     ascend = λ p q t u lt here. absurd (none-some t here);
     cache = λ x i. absurd i;
+    wide = λ x i. absurd i;
   }
     where
       none : (d : Dot) → Covered b (zeros b.n) d → ⊥

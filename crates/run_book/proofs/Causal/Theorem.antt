@@ -21,7 +21,7 @@ use Rattle.run_book.proofs.Causal.SessionVectors.{session_sound, snap_sound}
 use Rattle.run_book.proofs.Causal.OneList.{front, inside_covered, covered_inside}
 use Rattle.run_book.proofs.Causal.KnownToK.{basis_known}
 use Rattle.run_book.proofs.Causal.Moments.{moment}
-use Rattle.run_book.proofs.Causal.Pruned.{base_held, base_known, horizon_sound, trimmed_known, refused, send_misfit, send, relay_misfit, relay, prune}
+use Rattle.run_book.proofs.Causal.Pruned.{base_held, base_known, horizon_sound, trimmed_known, refused, refused_delta, send_misfit, send, relay_misfit, relay, prune}
 use Rattle.run_book.proofs.Causal.Commits.{one_tx, applied_commit}
 use Rattle.run_book.proofs.Causal.SessionStates.{standing}
 use Rattle.run_book.proofs.Causal.Closure.{made, closed_basis, basis_grows, session_held}
@@ -114,6 +114,7 @@ module _ (b : Book) (setup : Setup) (fit : FitsWith b setup) where
     held = λ i p low high. base_held (centre_settings b setup i) (take p (trail_of b i));
     let_go = trimmed_known b setup fit;
     refused = λ i o here centre high low entry stands. refused b setup fit i entry stands o here centre high low;
+    refused_deltas = λ i o from here centre high low entry stands. refused_delta b setup fit i entry stands o from here centre high low;
     sends = λ i after most entry stands. send b setup fit i entry stands after most;
     misfits = λ i after most entry stands. send_misfit b setup fit i entry stands after most;
     relays = λ i origin after most entry stands. relay b setup fit i entry stands origin after most;

@@ -12,7 +12,7 @@ use Rattle.list_core.proofs.Passing.{In_filter_map, In_from_filter_map}
 use Rattle.dc_talk.specs.declared.sent.Sent.{Sent}
 use Rattle.dc_talk.specs.Sents.{with_hops}
 use Rattle.dc_talk.specs.declared.ask.Ask.{Ask}
-use Rattle.dc_talk.specs.declared.ask.Ask.TheVariants.{Hello, Refresh, Fetch, Commit, Send, Deliver, Relay, Report, Learn, Prune, Stop, Start}
+use Rattle.dc_talk.specs.declared.ask.Ask.TheVariants.{Hello, Refresh, Fetch, Delta, Commit, Send, Deliver, Relay, Report, Learn, Prune, Stop, Start}
 use Rattle.dc_talk.specs.declared.say.Say.{Say}
 use Rattle.dc_talk.specs.declared.say.Say.TheVariants.{Records, Vector}
 use Rattle.dc_talk.specs.declared.log.Deed.{Deed}
@@ -88,6 +88,7 @@ carries_allowed n k setup all t before done (Asked i Start fate) is = tt
 carries_allowed n k setup all t before done (Asked i (Hello client need) fate) is = absurd is
 carries_allowed n k setup all t before done (Asked i (Refresh client here) fate) is = absurd is
 carries_allowed n k setup all t before done (Asked i (Fetch o here) fate) is = tt
+carries_allowed n k setup all t before done (Asked i (Delta o from here) fate) is = absurd is
 carries_allowed n k setup all t before done (Asked i (Commit tx) fate) is = absurd is
 carries_allowed n k setup all t before done (Did call outcome) is = absurd is
 carries_allowed n k setup all t before done (Told line) is = tt

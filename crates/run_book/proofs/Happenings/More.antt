@@ -41,6 +41,7 @@ asks_as trails others same ask.Start h = tt
 asks_as trails others same (ask.Hello client need) h = absurd h
 asks_as trails others same (ask.Refresh client here) h = absurd h
 asks_as trails others same (ask.Fetch o here) h = tt
+asks_as trails others same (ask.Delta o from here) h = absurd h
 asks_as trails others same (ask.Commit tx) h = absurd h
 
 -- and so with what it may do

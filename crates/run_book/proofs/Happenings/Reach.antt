@@ -8,9 +8,9 @@ use Rattle.ids_core.specs.declared.object.ObjectId.{ObjectId}
 use Rattle.tx_core.specs.declared.tx.Tx.{Tx}
 use Rattle.tx_core.specs.declared.tx.Update.{Update}
 use Rattle.dc_talk.specs.declared.ask.Ask.{Ask}
-use Rattle.dc_talk.specs.declared.ask.Ask.TheVariants.{Hello, Refresh as RefreshAsk, Fetch, Commit as CommitAsk}
+use Rattle.dc_talk.specs.declared.ask.Ask.TheVariants.{Hello, Refresh as RefreshAsk, Fetch, Delta, Commit as CommitAsk}
 use Rattle.dc_talk.specs.declared.say.Say.{Say}
-use Rattle.dc_talk.specs.declared.say.Say.TheVariants.{Welcome, Snap, Object, Known, Stamped}
+use Rattle.dc_talk.specs.declared.say.Say.TheVariants.{Welcome, Snap, Pruned, Object, Changes, Known, Stamped}
 use Rattle.dc_talk.specs.declared.calls.Connection.{Connection}
 use Rattle.dc_talk.specs.declared.calls.Call.{Call}
 use Rattle.dc_talk.specs.declared.calls.Call.TheVariants.{Begin as BeginCall, Change as ChangeCall, Read as ReadCall, Commit as CommitCall, Abort as AbortCall}
@@ -39,10 +39,11 @@ use Rattle.script_core.specs.declared.steps.ClientStep.{ClientStep}
 use Rattle.script_core.specs.declared.steps.ClientStep.TheVariants.{Connect, Begin, Change, Read, Grant, Give, Take, Rights, Commit, Abort, Push, Flush, Refresh, Again, Arm, Look}
 use Rattle.script_core.specs.Steps.{IsStep}
 use Rattle.script_core.specs.Taps.{looks}
-use Rattle.script_core.specs.Deeds.{Progress, StepDeeds, Asks, OrTells, OverNext, Pushes, PushesOn, FetchDeeds, CallDeeds, FlushDeeds, flush_ends, flush_goes, RefreshDeeds, AgainDeeds, CellsDeeds, AddsOwned, TakingDeeds, TellsRights, RightsDeeds, after_all, after_fetch, calls, calls_on, call_line, cell_inc, cell_read, cell_to, change_call, counter_of_share, line_on, read_call, rights_got, share_cells, copies, fate_of, fetch_line, goes_on, hello_line, push_line, pushed, refresh_line, again_line, told, took}
+use Rattle.script_core.specs.Deeds.{Progress, StepDeeds, Asks, OrTells, OverNext, Pushes, PushesOn, Fetches, FetchDeeds, CallDeeds, FlushDeeds, flush_ends, flush_goes, RefreshDeeds, AgainDeeds, CellsDeeds, AddsOwned, TakingDeeds, TellsRights, RightsDeeds, after_all, after_fetch, let_go, calls, calls_on, call_line, cell_inc, cell_read, cell_to, change_call, counter_of_share, line_on, read_call, rights_got, share_cells, copies, fate_of, fetch_line, goes_on, hello_line, push_line, pushed, refresh_line, again_line, told, took}
 use Rattle.run_book.specs.Setups.{Setup}
 use Rattle.run_book.specs.Happenings.{Happened, notes_by, GoesToOneOf, IsLinkWithin, AreTogether}
 use Rattle.run_book.proofs.CellReads.{cells_hold}
+use Rattle.run_book.proofs.Fetches.{LastAsk, fetches_hold}
 use Rattle.run_book.proofs.Happenings.Places.{noted}
 
 -- ---- the link
@@ -62,6 +63,9 @@ module _ (n : ℕ) where
   taken_within s i (CommitAsk tx) (Known through) range within = through_within through s.own s.link within
   taken_within s i (RefreshAsk client need) (Snap vector mine top) range within = within
   taken_within s i (Fetch o need) (Object state) range within = within
+  taken_within s i (Delta o from need) (Object state) range within = within
+  taken_within s i (Delta o from need) (Changes tail) range within = within
+  taken_within s i (Delta o from need) (Pruned centre base low) range within = within
   taken_within s i _ _ range within = within
 
   heard_within : (s : Client) (i : ℕ) (ask : Ask) (say : Say) → (1 ≤ i) × (i ≤ n) → IsLinkWithin n s.link → IsLinkWithin n (heard s i ask say).link
@@ -140,12 +144,19 @@ module _ (n : ℕ) where
   calls_on_go : (s : Client) (c : ObjectCall) → AllGo (calls_on s c)
   calls_on_go s c = one_go (Did c.call (outcome_of s c.call)) (told (line_on s.client c (outcome_of s c.call))) tt (told_go (line_on s.client c (outcome_of s c.call)))
 
+  -- the last ask of a fetch
+  last_go : (c : ObjectCall) (link : Connection) (s : Client) (armed : Option AskFault) (deeds : List Deed) → (1 ≤ link.centre) × (link.centre ≤ n) → LastAsk c link s armed deeds → AllGo deeds
+  last_go c link s armed deeds range asks = asks_go armed link.centre (fetch_of s c.object) (after_fetch s link.centre c) deeds range (λ fate.
+      either_go (took s link.centre (fetch_of s c.object) fate) _ _
+      (calls_on_go (after s (Asked link.centre (fetch_of s c.object) fate)) c) (told_go (fetch_line s.client c fate))) asks
+
   fetch_go : (p : Progress) (c : ObjectCall) (deeds : List Deed) → IsLinkWithin n p.client.link → FetchDeeds p c deeds → AllGo deeds
   fetch_go p c deeds within fetch =
-      link_go p.client (line.Unconnected p.client.client c.word c.shown) (λ link. Asks p.armed link.centre (fetch_of p.client c.object) (after_fetch p.client link.centre c)) deeds within
-      (λ link range asks. asks_go p.armed link.centre (fetch_of p.client c.object) (after_fetch p.client link.centre c) deeds range (λ fate.
-      either_go (took p.client link.centre (fetch_of p.client c.object) fate) _ _
-      (calls_on_go (after p.client (Asked link.centre (fetch_of p.client c.object) fate)) c) (told_go (fetch_line p.client.client c fate))) asks) fetch
+      link_go p.client (line.Unconnected p.client.client c.word c.shown) (Fetches p c) deeds within
+      (λ link range fetches. fetches_hold AllGo (All-append (GoesToOneOf n)) p c link deeds
+      (λ first asks. asks_go p.armed link.centre (fetch_of p.client c.object) (λ fate. []) first range (λ fate. All-nil (GoesToOneOf n)) asks)
+      (λ last asks. last_go c link p.client p.armed last range asks)
+      (λ say last asks. last_go c link (let_go p link c say) None last range asks) fetches) fetch
 
   call_go : (p : Progress) (c : ObjectCall) (out : Outcome) (deeds : List Deed) → IsLinkWithin n p.client.link → CallDeeds p c out deeds → AllGo deeds
   call_go p c (Refused (NeedsFetch o)) deeds within r = subst AllGo (sym r.whole) (one_go (Did c.call (outcome_of p.client c.call)) r.rest tt (fetch_go p c r.rest within r.fetch))

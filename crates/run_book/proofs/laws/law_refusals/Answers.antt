@@ -1,7 +1,7 @@
 use Rattle.std.proofs.Common.{◌≡◌, Some, sym, ap, ◌∙◌, subst}
 use Rattle.std.specs.Prelude.{slice_get}
 use Rattle.dc_talk.specs.declared.ask.Ask.{Ask}
-use Rattle.dc_talk.specs.declared.ask.Ask.TheVariants.{Hello, Refresh, Fetch, Commit}
+use Rattle.dc_talk.specs.declared.ask.Ask.TheVariants.{Hello, Refresh, Fetch, Delta, Commit}
 use Rattle.dc_talk.specs.declared.say.Say.TheVariants.{Object}
 use Rattle.dc_talk.specs.Rule.{takes}
 use Rattle.run_book.specs.declared.book.Book.{Book}
@@ -12,7 +12,7 @@ use Rattle.run_book.specs.Refusals.{Exchange, Makes}
 use Rattle.run_book.proofs.Causal.Deliveries.{no_orphan, no_misfit_delivery, no_misfit_lesson}
 use Rattle.run_book.proofs.Causal.Links.{linked}
 use Rattle.run_book.proofs.Causal.FitCommits.{commits_fit}
-use Rattle.run_book.proofs.Causal.ClientAsks.{push, refresh, fetch, hello, object}
+use Rattle.run_book.proofs.Causal.ClientAsks.{push, refresh, fetch, delta, delta_taken, hello, object}
 use Rattle.run_book.proofs.Causal.TimelySnapshots.{takes_snapshots}
 use Rattle.run_book.proofs.laws.law_refusals.Goals as goal
 
@@ -46,6 +46,18 @@ returns-clause-fetch c setup x o here fit made is =
     let b = c.args.book.now in
     let f = fetch b setup fit x.actor x.place made.client x.centre o here x.answer (asked b setup x (Fetch o here) made is) in
     record { place = f.place; there = subst (λ ask. slice_get (trail_of b x.centre) f.place ≡ Some (record { caller = x.actor; ask = ask; say = x.answer })) (sym is) f.there; answer = f.answer }
+
+pub returns-clause-delta : goal.returns-clause-delta
+returns-clause-delta c setup x o from here fit made is =
+    let b = c.args.book.now in
+    let f = delta b setup fit x.actor x.place made.client x.centre o from here x.answer (asked b setup x (Delta o from here) made is) in
+    record { place = f.place; there = subst (λ ask. slice_get (trail_of b x.centre) f.place ≡ Some (record { caller = x.actor; ask = ask; say = x.answer })) (sym is) f.there; answer = f.answer }
+
+pub returns-clause-delta_taken : goal.returns-clause-delta_taken
+returns-clause-delta_taken c setup x o from here fit made is up =
+    let b = c.args.book.now in
+    ap (λ ask. takes (client_at b setup x.actor x.place) x.centre ask x.answer) is
+    ∙ delta_taken b setup fit x.actor x.place made.client x.centre o from here x.answer (asked b setup x (Delta o from here) made is) up
 
 pub returns-clause-hello : goal.returns-clause-hello
 returns-clause-hello c setup x client need fit made is = hello c.args.book.now setup fit x.actor x.place made.client x.centre client need x.answer (asked c.args.book.now setup x (Hello client need) made is)

@@ -17,10 +17,10 @@ returns-clause-asked g c =
     let s : StubView = c.args.self.now in
     let e = c.args.errand in
     let client : c.client-client.result ≡ s.client.client = c.client-client.ensures ∙ ap (λ (s : StubView). s.client.client) c.self.view_is in
-    asked_for e (beside s (g.D.Door.shown c.args.door.now) c.args.log.now) c.reach.new.self (g.D.Door.shown c.reach.new.door) (c.in_ok-fate.fate, c.in_ok-fate.took) c.push.new.self c.client-client.result (c.line_after-line.result, c.goes_after-more.result)
+    asked_for e (beside s (g.D.Door.shown c.args.door.now) c.args.log.now) c.reach.new.self (g.D.Door.shown c.reach.new.door) (c.in_ok-fate.fate, c.in_ok-fate.took) c.push.new.self c.client-client.result (c.line_after-line.result, c.next_after-next.result)
     c.requires.gives c.requires.centre
     (record { fate = c.in_ok-fate.ensures.fate; took = c.in_ok-fate.ensures.took; stub = c.in_ok-fate.ensures.stub; door = c.in_ok-fate.ensures.door; room = c.in_ok-fate.ensures.room })
     c.in_ok-push.ensures.ok
     client
     c.line_after-line.ensures
-    c.goes_after-more.ensures
+    c.next_after-next.ensures

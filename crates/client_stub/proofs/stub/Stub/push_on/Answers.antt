@@ -29,7 +29,7 @@ returns-in_ok-tell-in-Err-NotConnected-clause-goes g c =
     let none : c.args.self.now.client.link ≡ None = ap (λ (s : StubView). s.client.link) (sym c.self.view_is) ∙ c.in-Err-NotConnected.ensures.not_connected.0 (ap Err c.in-Err-NotConnected.field-0-is) in
     flush_unlinked (beside c.args.self.now (g.D.Door.shown c.args.door.now) c.args.log.now) c.tell-in-Err-NotConnected.new.log c.client-client.result none client c.in_ok-tell-in-Err-NotConnected.ensures.ok
 
-pub returns-in_ok-more-in-Ok-Some-clause-goes : goal.returns-in_ok-more-in-Ok-Some-clause-goes
-returns-in_ok-more-in-Ok-Some-clause-goes g c =
+pub returns-in_ok-next-in-Ok-Some-clause-goes : goal.returns-in_ok-next-in-Ok-Some-clause-goes
+returns-in_ok-next-in-Ok-Some-clause-goes g c =
     let asked : commit_ask c.args.self.now.client ≡ Ok (Some (c.in-Ok-Some.centre, c.in-Ok-Some.ask)) = ap (λ (s : StubView). commit_ask s.client) (sym c.self.view_is) ∙ (sym (c.in-Ok-Some.ensures.ask (λ e. cc)) ∙ ap Ok c.in-Ok-Some.field-0-is) in
-    flush_pushes (beside c.args.self.now (g.D.Door.shown c.args.door.now) c.args.log.now) (beside c.send.new.self (g.D.Door.shown c.send.new.door) c.send.new.log) c.in-Ok-Some.centre c.in-Ok-Some.ask c.number_in.result c.in_ok-more-in-Ok-Some.more asked c.number_in.ensures c.in_ok-more-in-Ok-Some.ensures.runs
+    flush_pushes (beside c.args.self.now (g.D.Door.shown c.args.door.now) c.args.log.now) (beside c.send.new.self (g.D.Door.shown c.send.new.door) c.send.new.log) c.in-Ok-Some.centre c.in-Ok-Some.ask c.number_in.result c.in_ok-next-in-Ok-Some.next c.is_more.result asked c.number_in.ensures c.is_more.ensures c.in_ok-next-in-Ok-Some.ensures.runs

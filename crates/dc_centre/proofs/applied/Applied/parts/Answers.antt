@@ -19,4 +19,4 @@ returns-clause-are c =
       point = c.in_ok-parts-2.ensures.told;
       rest = c.in_ok-parts-3.ensures.told;
     } in
-    parts_kept x p s.served.entries s.mines.entries c.self.invariant are (subst guard.AreParts notes c.in_ok-parts.ensures.parts) c.in_ok-parts-2.ensures.parts c.in_ok-parts-3.ensures.parts
+    parts_kept x p s.served.entries s.mines.entries s.passed.entries c.self.invariant are (subst guard.AreParts notes c.in_ok-parts.ensures.parts) c.in_ok-parts-2.ensures.parts c.in_ok-parts-3.ensures.parts

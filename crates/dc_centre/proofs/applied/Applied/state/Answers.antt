@@ -17,4 +17,5 @@ invariant_of-self c = record {
     here = c.serve.ensures.here c.self.inside.vector (subst (λ (x : AppliedView). Covers x.counts c.args.at.now) (sym c.self.view_is) c.requires.here) c.self.invariant.states.here;
   };
   told = c.self.invariant.told;
+  passed = c.self.invariant.passed;
 }

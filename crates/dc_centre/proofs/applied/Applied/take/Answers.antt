@@ -47,7 +47,7 @@ module _ (c : goal.After-self-2-1) where
       subst (λ (x : AppliedView). IsApplied (length c.self.inside.vector) x (A ++ c.args.item.now ∷ [])) made_more made
 
 pub invariant_of-self-2 : goal.invariant_of-self-2
-invariant_of-self-2 c = subst (λ (x : AppliedView). IsKept x c.self.inside.served.entries c.self.inside.mines.entries) (made_more c) (kept_taken (kept c) c.note_if.new.guard c.args.item.now c.self.inside.served.entries c.self.inside.mines.entries c.self.invariant (next c) (noted c))
+invariant_of-self-2 c = subst (λ (x : AppliedView). IsKept x c.self.inside.served.entries c.self.inside.mines.entries c.self.inside.passed.entries) (made_more c) (kept_taken (kept c) c.note_if.new.guard c.args.item.now c.self.inside.served.entries c.self.inside.mines.entries c.self.inside.passed.entries c.self.invariant (next c) (noted c))
 
 pub returns-clause-grown : goal.returns-clause-grown
 returns-clause-grown c A h =
