@@ -1,6 +1,6 @@
 -- What a centre keeps of applied records, made again of its parts: it is well kept, and stands for the same records.
 use Rattle.std.proofs.Common.{◌≡◌, ◌<◌, ◌≤◌, ℕ, ◌+◌, ◌==◌, Bool, true, false, cond, Option, Some, None, inl, inr, List, [], ◌∷◌, length, map, refl, sym, ap, ◌∙◌, subst, arith, ne_eqb}
-use Rattle.std.specs.Prelude.{unwrap_or}
+use Rattle.std.specs.Prelude.{is_some, unwrap_or}
 use Rattle.std.specs.Option.{option_map}
 use Rattle.list_core.specs.Members.{In}
 use Rattle.list_core.specs.Apart.{Apart}
@@ -190,6 +190,7 @@ module _ (x y : AppliedView) (p : AppliedParts) (was : AreAppliedPartsOf x p) (a
     states = λ (o : ObjectId). ap (λ found. unwrap_or found (empty_of o.sort)) (sym (are.point.states o) ∙ was.point.states o) ∙ h.states o;
     numbers = λ client. ap (λ found. unwrap_or found 0) (sym (are.point.numbers client) ∙ was.point.numbers client) ∙ h.numbers client;
     folded = sym are.point.folded ∙ (was.point.folded ∙ h.folded);
+    known = λ (o : ObjectId). ap is_some (sym (are.point.states o) ∙ was.point.states o) ∙ h.known o;
   }
 
   -- the logs have the same transactions

@@ -1,0 +1,10 @@
+mod Lookups
+mod Searches
+mod Base
+mod ClientParts
+mod Touched
+mod States
+mod ToldRows
+mod Cutting
+mod Bundling
+mod Causes
