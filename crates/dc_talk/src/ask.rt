@@ -23,25 +23,53 @@ pub const MOST_HOPS: u8 = 7;
 #[derive(Drop)]
 pub enum Ask {
     /// A client comes, for the first time, again, or from another centre. It has seen `need`.
-    Hello { client: u32, need: Vector },
+    Hello {
+        client: u32,
+        need: Vector,
+    },
     /// A client at the snapshot `at` asks for a newer one.
-    Refresh { client: u32, at: Vector },
+    Refresh {
+        client: u32,
+        at: Vector,
+    },
     /// The state of an object at the snapshot `at`.
-    Fetch { object: ObjectId, at: Vector },
+    Fetch {
+        object: ObjectId,
+        at: Vector,
+    },
     /// What came to an object between the snapshots `from` and `at`, the second of which covers the first.
-    Delta { object: ObjectId, from: Vector, at: Vector },
+    Delta {
+        object: ObjectId,
+        from: Vector,
+        at: Vector,
+    },
     /// A transaction that a client has committed.
-    Commit { tx: SharedTx },
+    Commit {
+        tx: SharedTx,
+    },
     /// The centre's own records, at most so many, from the one after the first `after`.
-    Send { after: u64, most: u32 },
+    Send {
+        after: u64,
+        most: u32,
+    },
     /// A record that another centre stamped, with the hops that it has at the centre that handed it on.
-    Deliver { item: SharedRecord, hops: u8 },
+    Deliver {
+        item: SharedRecord,
+        hops: u8,
+    },
     /// Records of any origin, at most so many, from the one numbered `after + 1` on.
-    Relay { origin: u8, after: u64, most: u32 },
+    Relay {
+        origin: u8,
+        after: u64,
+        most: u32,
+    },
     /// How many records of each centre are here.
     Report,
     /// What a centre reported.
-    Learn { from: u8, vector: Vector },
+    Learn {
+        from: u8,
+        vector: Vector,
+    },
     /// The centre is to fold what may be folded, and to let go of own records that all centres have.
     Prune,
     /// The centre is to answer nothing until it is started.

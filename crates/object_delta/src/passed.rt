@@ -28,7 +28,12 @@ pub type PassedObjects = BTreeMap<ObjectId, Passed>;
 
 // How many of the first operations of the object's chain are known to be within the vector: as many as are kept at
 // one that it covers, or else none.
-pub(crate) fn passed_before(log: &Log, kept: &PassedObjects, object: &ObjectId, at: &Vector) -> usize
+pub(crate) fn passed_before(
+    log: &Log,
+    kept: &PassedObjects,
+    object: &ObjectId,
+    at: &Vector,
+) -> usize
     requires { ArePassed (length at.now) log.now kept.now.entries }
     ensures few { result ≤ length (chain_of object.now log.now.items) }
     ensures first { AreInside at.now log.now.items (take result (chain_of object.now log.now.items)) }
@@ -41,7 +46,13 @@ pub(crate) fn passed_before(log: &Log, kept: &PassedObjects, object: &ObjectId, 
 
 // Keeps how many of the first operations of the object's chain are within the vector, of which so many are known to
 // be.
-pub(crate) fn pass(log: &Log, kept: &mut PassedObjects, object: &ObjectId, at: &Vector, known: usize)
+pub(crate) fn pass(
+    log: &Log,
+    kept: &mut PassedObjects,
+    object: &ObjectId,
+    at: &Vector,
+    known: usize,
+)
     requires passed { ArePassed (length at.now) log.now kept.old.entries }
     requires few { known ≤ length (chain_of object.now log.now.items) }
     requires first { AreInside at.now log.now.items (take known (chain_of object.now log.now.items)) }
