@@ -2,5 +2,6 @@
 #![tactic(auto)]
 
 mod cache;
+mod held;
 
 pub use cache::Cache;

@@ -3,6 +3,7 @@
 #![tactic(auto)]
 
 mod pending;
+mod same;
 mod turns;
 
-pub use pending::{Pending, fold_all};
+pub use pending::Pending;

@@ -1,11 +1,12 @@
 // Commits that are pending.
 ghost use Rattle.std.specs.Prelude.{◌≡◌, ◌≤◌, ◌++◌, ◌∷◌, [], length, drop, flat_map, IfErr, OnOk, OnErr};
-ghost use Rattle.std.specs.Bool.{OnFalse};
+ghost use Rattle.std.specs.Bool.{OnFalse, OnTrue};
 ghost use Rattle.ids_core.specs.declared.limits.TheConstants.{MOST_UPDATES};
 ghost use Rattle.tx_core.specs.States.{fold_of};
 ghost use Rattle.tx_core.specs.Operations.{ops_of};
 ghost use Rattle.client_pending.specs.Folding.{FoldsPart};
 
+use crate::same::are_same;
 use crate::turns::{Index, put, take_txs};
 use ids_core::{Mark, NoMemory, ObjectId};
 use object_lists::{ObjectLists, drop_front};
@@ -89,6 +90,14 @@ impl Pending {
         !self.index.get(object).is_empty()
     }
 
+    /// Whether the operations of all commits on an object are these, in their order: where it says yes, they are.
+    /// It takes no memory. Time: linear in their number.
+    pub fn has_changes(&self, object: &ObjectId, marked: &[(Mark, Op)]) -> bool
+        ensures { OnTrue result (flat_map (ops_of object.now) self.now ≡ marked.now) }
+    {
+        are_same(self.index.get(object), marked)
+    }
+
     /// Folds the operations of all commits on an object, in their order, into its state. Where memory
     /// is refused the first ones alone are folded into it.
     pub fn fold(&self, object: &ObjectId, state: &mut State) -> Result<(), NoMemory>
@@ -99,9 +108,9 @@ impl Pending {
     }
 }
 
-/// Folds marked operations into a state, in their order. Where memory is refused the first ones alone are folded into
-/// it.
-pub fn fold_all(marked: &[(Mark, Op)], state: &mut State) -> Result<(), NoMemory>
+// Folds marked operations into a state, in their order. Where memory is refused the first ones alone are folded into
+// it.
+fn fold_all(marked: &[(Mark, Op)], state: &mut State) -> Result<(), NoMemory>
     ensures all { OnOk result (state.new ≡ fold_of state.old marked.now) }
     ensures part { OnErr result (FoldsPart marked.now state.old state.new) }
 {

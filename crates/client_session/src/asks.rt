@@ -63,8 +63,7 @@ impl Session {
         let (object, at) = (*object, self.vector);
         match self.cache.peek(&object) {
             None => Ask::Fetch { object, at },
-            Some(entry) => {
-                let from = entry.0;
+            Some(from) => {
                 if is_before(&from, &at) {
                     Ask::Delta { object, from, at }
                 } else {

@@ -6,10 +6,11 @@ ghost use Rattle.client_session.specs.SessionAnswers.{MayBeShort};
 ghost use Rattle.dc_talk.specs.Calls.{sort_of_change, is_modest, named, op_of, tags_in};
 
 use crate::folded::{follow, let_go, seen, stand};
+use crate::past::leave;
 use crate::session::Session;
 use crate::views::updates_of;
 use dc_talk::{Call, Change, Outcome, Refusal};
-use ids_core::{MOST_TAGS, MOST_UPDATES, Mark, Name, ObjectId, OpId, Tags};
+use ids_core::{MOST_TAGS, MOST_UPDATES, Mark, Name, NoMemory, ObjectId, OpId, Tags};
 use std::alloc::Global;
 use tx_core::{Op, Update, Updates, is_small_delta};
 
@@ -61,6 +62,7 @@ impl Session {
             },
         };
         follow(&mut self.folded, &object, &mark, &update.op);
+        leave(&mut self.past, &object);
         let pushed = push(&mut self.draft, update);
         if pushed.is_err() {
             let_go(&mut self.folded, &object);
@@ -136,8 +138,9 @@ impl Session {
         let rank = self.clock + 1;
         let dot = self.next_dot();
         match self.cache.find(object, &at) {
-            None => Err(Refusal::NeedsFetch { object: *object }),
-            Some(base) => {
+            Err(NoMemory) => Err(Refusal::NoMemory),
+            Ok(None) => Err(Refusal::NeedsFetch { object: *object }),
+            Ok(Some(base)) => {
                 let updates = updates_of(&self.draft);
                 stand(
                     &mut self.folded,

@@ -1,15 +1,16 @@
 // What a session hears of an object that it has at an earlier snapshot.
-ghost use Rattle.std.specs.Prelude.{◌≡◌, ◌&&◌, if◌then◌else◌, true, IfOk, OnOk, OnErr};
+ghost use Rattle.std.specs.Prelude.{◌≡◌, ◌&&◌, if◌then◌else◌, true, IsSome, IfOk, OnOk, OnErr};
+ghost use Rattle.std.specs.Bool.{OnTrue};
 ghost use Rattle.ids_core.specs.Ids.{same_sort};
 ghost use Rattle.tx_core.specs.States.{sort_of, fold_of};
-ghost use Rattle.dc_talk.specs.Clients.{same_vector, kept, forgotten};
+ghost use Rattle.dc_talk.specs.Clients.{same_vector, kept, forgotten, entry_of};
 ghost use Rattle.dc_talk.specs.Rule.{holds, held, are_of_sort};
 ghost use Rattle.client_session.specs.SessionAnswers.{heard_as};
 
 use crate::folded::let_go;
 use crate::hears::Heard;
+use crate::past::{leave, take_over};
 use crate::session::Session;
-use client_pending::fold_all;
 use ids_core::{Mark, NoMemory, ObjectId, Sort};
 use tx_core::{Op, State};
 use vv_core::Vector;
@@ -49,8 +50,7 @@ impl Session {
         ensures err { OnErr result (self.new ≡ self.old) }
     {
         if *at == self.vector && self.holds(object, from) && are_of_sort(object.sort, tail) {
-            let state = self.brought_up(object, from, tail)?;
-            self.take(object, at, state)?;
+            self.bring(object, from, at, tail)?;
             Ok(Heard::Took)
         } else {
             Ok(Heard::Ignored)
@@ -65,6 +65,7 @@ impl Session {
         if self.holds(object, from) {
             self.cache.forget(object);
             let_go(&mut self.folded, object);
+            leave(&mut self.past, object);
             Heard::Took
         } else {
             Heard::Ignored
@@ -73,32 +74,32 @@ impl Session {
 
     // Whether the client has the object at the vector.
     fn holds(&self, object: &ObjectId, from: &Vector) -> bool
-        ensures { result ≡ holds self.now object.now from.now }
+        ensures holds { result ≡ holds self.now object.now from.now }
+        ensures entry { OnTrue result (IsSome (entry_of object.now self.now.cache)) }
     {
         match self.cache.peek(object) {
-            Some((vector, _)) => vector == *from,
+            Some(vector) => vector == *from,
             None => false,
         }
     }
 
-    // A copy of the state that the client has of the object at the vector, with these operations folded in.
-    fn brought_up(
-        &self,
+    // Folds operations into the state that the client has of the object at the vector, which is at the snapshot then.
+    fn bring(
+        &mut self,
         object: &ObjectId,
         from: &Vector,
+        at: &Vector,
         tail: &[(Mark, Op)],
-    ) -> Result<State, NoMemory>
-        requires { holds self.now object.now from.now ≡ true }
-        ensures { IfOk result (λ state. state ≡ fold_of (held self.now object.now from.now) tail.now) }
+    ) -> Result<(), NoMemory>
+        requires at { at.now ≡ self.old.vector }
+        requires holds { holds self.old object.now from.now ≡ true }
+        requires entry { IsSome (entry_of object.now self.old.cache) }
+        ensures ok { OnOk result (self.new ≡ record self.old { cache = kept self.old.capacity (record { object = object.now; vector = at.now; state = fold_of (held self.old object.now from.now) tail.now }) self.old.cache }) }
+        ensures err { OnErr result (self.new ≡ self.old) }
     {
-        match self.cache.peek(object) {
-            Some((_, held)) => {
-                let mut state = held.copy()?;
-                fold_all(tail, &mut state)?;
-                Ok(state)
-            }
-            None => unreachable!(),
-        }
+        self.cache.bring(object, at, tail)?;
+        take_over(&mut self.past, &mut self.folded, object, from, tail);
+        Ok(())
     }
 }
 

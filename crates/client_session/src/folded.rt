@@ -1,5 +1,5 @@
 // The states that a client has of objects, kept with all that is pending and open folded in.
-ghost use Rattle.std.specs.Prelude.{◌≡◌, ◌≤◌, ◌<◌, ℕ, [], length, is_some, Some, None, All, IfOk, OnOk, OnErr, false, if◌then◌else◌};
+ghost use Rattle.std.specs.Prelude.{◌≡◌, ◌≤◌, ◌<◌, ℕ, [], length, is_some, Some, None, All, IfOk, OnOk, OnErr, false};
 ghost use Rattle.std.specs.Bool.{OnFalse, OnTrue};
 ghost use Rattle.std.specs.Option.{unwrap_or};
 ghost use Rattle.std.specs.Map.{lookup};
@@ -69,7 +69,7 @@ fn use_again(folded: &mut Folded, object: &ObjectId) -> bool
 }
 
 // Keeps the state of an object. Nothing changes where memory is refused.
-fn put(folded: &mut Folded, object: &ObjectId, state: State) -> Result<(), NoMemory>
+pub(crate) fn put(folded: &mut Folded, object: &ObjectId, state: State) -> Result<(), NoMemory>
     ensures there { OnOk result (lookup (same_object object.now) folded.new.entries ≡ Some state) }
     ensures apart { HadApart object.now folded.old.entries folded.new.entries }
     ensures err { OnErr result ((o : the_object) → lookup (same_object o) folded.new.entries ≡ lookup (same_object o) folded.old.entries) }
@@ -128,13 +128,22 @@ fn fold_kept(folded: &mut Folded, object: &ObjectId, mark: &Mark, op: &Op) -> bo
     }
 }
 
+// Takes the state of an object out, where one is kept.
+pub(crate) fn take_out(folded: &mut Folded, object: &ObjectId) -> Option<State>
+    ensures was { result ≡ lookup (same_object object.now) folded.old.entries }
+    ensures gone { lookup (same_object object.now) folded.new.entries ≡ None }
+    ensures apart { (o : the_object) → same_object object.now o ≡ false → lookup (same_object o) folded.new.entries ≡ lookup (same_object o) folded.old.entries }
+{
+    let _size = folded.len();
+    folded.pop(object)
+}
+
 // Lets the state of an object go.
 pub(crate) fn let_go(folded: &mut Folded, object: &ObjectId)
     ensures gone { lookup (same_object object.now) folded.new.entries ≡ None }
     ensures apart { (o : the_object) → same_object object.now o ≡ false → lookup (same_object o) folded.new.entries ≡ lookup (same_object o) folded.old.entries }
 {
-    let _size = folded.len();
-    folded.pop(object);
+    take_out(folded, object);
 }
 
 // Lets the states of all objects go that the updates change.
@@ -143,15 +152,6 @@ pub(crate) fn let_all_go(folded: &mut Folded, updates: &[Update])
 {
     for update in updates {
         let_go(folded, &update.object);
-    }
-}
-
-// Lets all states go, unless they are kept.
-pub(crate) fn clear_unless(folded: &mut Folded, are_kept: bool)
-    ensures { folded.new.entries ≡ (if are_kept then folded.old.entries else []) }
-{
-    if !are_kept {
-        folded.clear();
     }
 }
 

@@ -7,7 +7,8 @@ ghost use Rattle.dc_talk.specs.Clients.{same_vector, kept};
 ghost use Rattle.dc_talk.specs.Rule.{is_linked, sent_through, can_follow, takes, heard};
 ghost use Rattle.client_session.specs.SessionAnswers.{heard_as, is_object};
 
-use crate::folded::{clear_unless, let_go};
+use crate::folded::let_go;
+use crate::past::{leave, turn};
 use crate::session::Session;
 use dc_talk::{Ask, Connection, Say};
 use ids_core::{Dot, MOST_NUMBER, NoMemory, ObjectId};
@@ -84,12 +85,22 @@ impl Session {
         ensures new { self.new ≡ (if (client == self.old.client) && is_linked centre self.old.link && can_follow self.old vector.now mine top then record self.old { vector = vector.now; mine = mine; clock = max self.old.clock top; pending = drop (mine - self.old.mine) self.old.pending } else self.old) }
     {
         if client == self.client && self.is_linked(centre) && self.can_follow(vector, mine, top) {
-            let is_same = self.is_at(vector, mine);
-            clear_unless(&mut self.folded, is_same);
-            self.pending.drop_front((mine - self.mine) as usize);
+            let clock = self.clock.max(top);
+            if self.is_at(vector, mine) {
+                self.clock = clock;
+                return Heard::Took;
+            }
+            let count = (mine - self.mine) as usize;
+            turn(
+                &mut self.past,
+                &mut self.folded,
+                &mut self.pending,
+                &self.vector,
+                count,
+            );
             self.vector = *vector;
             self.mine = mine;
-            self.clock = self.clock.max(top);
+            self.clock = clock;
             Heard::Took
         } else {
             Heard::Ignored
@@ -129,6 +140,7 @@ impl Session {
     {
         self.cache.keep(object, at, state)?;
         let_go(&mut self.folded, object);
+        leave(&mut self.past, object);
         Ok(())
     }
 

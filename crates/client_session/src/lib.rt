@@ -8,6 +8,7 @@ mod changes;
 mod deltas;
 mod folded;
 mod hears;
+mod past;
 mod session;
 mod views;
 

@@ -3,6 +3,7 @@ ghost use Rattle.std.specs.Prelude.{◌≡◌, ◌≢◌, ◌≤◌, ◌<◌, �
 ghost use Rattle.ids_core.specs.declared.limits.TheConstants.{MOST_CENTRES, MOST_CLIENTS};
 
 use crate::folded::{Folded, let_all_go, new_folded};
+use crate::past::{Past, leave_all, new_past};
 use client_cache::Cache;
 use client_pending::Pending;
 use dc_talk::{Call, Connection, Outcome, Refusal};
@@ -48,13 +49,15 @@ pub struct Session {
     pub(crate) cache: Cache,
     // What the client has of objects that it looked up at this snapshot, where something is pending or open.
     pub(crate) folded: Folded,
+    // What it had of objects at the snapshot before.
+    pub(crate) past: Past,
 }
 
 impl Model for Session {
     ghost use Rattle.tx_core.specs.States.{state_codes};
     ghost use Rattle.dc_talk.specs.Clients.{Client};
     ghost use Rattle.client_session.specs.Sessions.{IsClient};
-    ghost use Rattle.client_session.specs.Folded.{Follows};
+    ghost use Rattle.client_session.specs.Folded.{Follows, FollowsPast};
 
     ghost Value = { Client };
 
@@ -62,7 +65,7 @@ impl Model for Session {
 
     ghost view = { λ s. record { client = s.client; vector = s.vector; own = s.own; mine = s.mine; clock = s.clock; pending = s.pending; link = s.link; draft = s.draft; cache = s.cache.entries; capacity = s.cache.capacity } };
 
-    ghost invariant = { λ s. let seen : Client = record { client = s.client; vector = s.vector; own = s.own; mine = s.mine; clock = s.clock; pending = s.pending; link = s.link; draft = s.draft; cache = s.cache.entries; capacity = s.cache.capacity } in IsClient seen × Follows s.folded.entries seen };
+    ghost invariant = { λ s. let seen : Client = record { client = s.client; vector = s.vector; own = s.own; mine = s.mine; clock = s.clock; pending = s.pending; link = s.link; draft = s.draft; cache = s.cache.entries; capacity = s.cache.capacity } in IsClient seen × Follows s.folded.entries seen × FollowsPast s.past seen };
 }
 
 impl Session {
@@ -89,6 +92,7 @@ impl Session {
             draft: None,
             cache: Cache::new(alloc, cache)?,
             folded: new_folded(alloc, cache)?,
+            past: new_past(alloc, n, cache)?,
         })
     }
 
@@ -169,6 +173,7 @@ impl Session {
             None => Err(Refusal::NotOpen),
             Some(updates) => {
                 let_all_go(&mut self.folded, updates.as_slice());
+                leave_all(&mut self.past, updates.as_slice());
                 Ok(())
             }
         }

@@ -18,7 +18,7 @@ fn cache_of(alloc: Global, first: &ObjectId, second: &ObjectId) -> Result<Cache,
 // Whether the cache has the object at the vector of one entry with this number.
 fn is_at(cache: &Cache, object: &ObjectId, seq: u32) -> bool {
     match cache.peek(object) {
-        Some((vector, _)) => vector == single(seq),
+        Some(vector) => vector == single(seq),
         None => false,
     }
 }

@@ -3,7 +3,7 @@ use Rattle.std.specs.Map.{lookup}
 use Rattle.ids_core.specs.Ids.{same_object}
 use Rattle.ids_core.specs.Same.{same_object-itself}
 use Rattle.client_session.proofs.Found.{lookup-gone}
-use Rattle.client_session.proofs.folded.let_go.Goals as goal
+use Rattle.client_session.proofs.folded.take_out.Goals as goal
 
 pub returns-clause-gone : goal.returns-clause-gone
 returns-clause-gone c =
