@@ -17,7 +17,7 @@ use script_core::ClientStep;
 use std::alloc::Global;
 use std::process::Abort;
 use std::test::Fail;
-use tx_core::{State, Tail};
+use tx_core::State;
 use vv_core::Vector;
 
 // Client 1 among two centres, with its log, before a door.
@@ -101,8 +101,6 @@ enum Answer {
     NarrowSnap,
     // The state of an empty set.
     Empty,
-    // That nothing came to the object.
-    Changes,
     OutOfOrder,
     // What the centre lacks.
     Lacks,
@@ -127,9 +125,6 @@ fn said(alloc: Global, answer: Answer) -> Result<Say, NoMemory> {
         Answer::Snap => Ok(snap(pair(4, 0))),
         Answer::NarrowSnap => Ok(snap(single(4))),
         Answer::Empty => empty(alloc),
-        Answer::Changes => Ok(Say::Changes {
-            tail: Tail::from_vec(alloc, Vec::new(alloc))?,
-        }),
         Answer::OutOfOrder => Ok(Say::OutOfOrder { have: 0 }),
         Answer::Lacks => Ok(Say::Lacks {
             centre: 1,
@@ -196,7 +191,6 @@ fn a_read_by_the_answer_to_its_fetch(rt: HostRuntime) -> Result<(), Fail> {
     let object = object(Sort::Counter, "b")?;
     let table = [
         (Answer::Empty, "c1 read c.b ignored\n"),
-        (Answer::Changes, "c1 read c.b ignored\n"),
         (Answer::Lacks, "c1 read c.b lacks 1:3 has 1\n"),
         (Answer::Misfit, "c1 read c.b misfit\n"),
     ];
