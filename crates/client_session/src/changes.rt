@@ -10,7 +10,7 @@ use crate::past::leave;
 use crate::session::Session;
 use crate::views::updates_of;
 use dc_talk::{Call, Change, Outcome, Refusal};
-use ids_core::{MOST_TAGS, MOST_UPDATES, Mark, Name, NoMemory, ObjectId, OpId, Tags};
+use ids_core::{MOST_TAGS, MOST_UPDATES, Mark, Name, ObjectId, OpId, Tags};
 use std::alloc::Global;
 use tx_core::{Op, Update, Updates, is_small_delta};
 
@@ -137,10 +137,9 @@ impl Session {
         let at = self.vector;
         let rank = self.clock + 1;
         let dot = self.next_dot();
-        match self.cache.find(object, &at) {
-            Err(NoMemory) => Err(Refusal::NoMemory),
-            Ok(None) => Err(Refusal::NeedsFetch { object: *object }),
-            Ok(Some(base)) => {
+        match self.cache.find(object, &at)? {
+            None => Err(Refusal::NeedsFetch { object: *object }),
+            Some(base) => {
                 let updates = updates_of(&self.draft);
                 stand(
                     &mut self.folded,

@@ -6,7 +6,7 @@ ghost use Rattle.dc_talk.specs.Clients.{promoted};
 use crate::folded::{seen, stand};
 use crate::session::Session;
 use dc_talk::{Call, Outcome, Refusal};
-use ids_core::{NoMemory, ObjectId};
+use ids_core::ObjectId;
 use std::alloc::Global;
 use tx_core::{Update, Updates, Value};
 
@@ -26,10 +26,9 @@ impl Session {
         let at = self.vector;
         let rank = self.clock + 1;
         let dot = self.next_dot();
-        match self.cache.find(object, &at) {
-            Err(NoMemory) => Err(Refusal::NoMemory),
-            Ok(None) => Err(Refusal::NeedsFetch { object: *object }),
-            Ok(Some(base)) => {
+        match self.cache.find(object, &at)? {
+            None => Err(Refusal::NeedsFetch { object: *object }),
+            Some(base) => {
                 let updates = updates_of(&self.draft);
                 stand(
                     &mut self.folded,

@@ -1,4 +1,4 @@
-use Rattle.std.proofs.Common.{◌<◌, length, rules, arith, ◌∙◌}
+use Rattle.std.proofs.Common.{rules, ◌∙◌}
 use Rattle.client_pending.specs.Folding.{FoldsPart}
 use Rattle.client_pending.proofs.pending.fold_all.Goals as goal
 

@@ -1,10 +1,9 @@
-use Rattle.std.proofs.Common.{ap, ◌∙◌}
 use Rattle.client_session.proofs.Held.{has_state}
 use Rattle.client_session.proofs.Standing.{brought}
 use Rattle.client_session.proofs.session.Session.bring.Goals as goal
 
-pub invariant_of-self : goal.invariant_of-self
-invariant_of-self c =
+pub invariant_of-self-2 : goal.invariant_of-self-2
+invariant_of-self-2 c =
     let at = rw (← c.self.view_is) at c.requires.at in
     let held = rw (← c.self.view_is) at c.requires.holds in
     let had = has_state c.args.object.now _ c.args.from.now held in
