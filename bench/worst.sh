@@ -3,8 +3,7 @@
 # sizes, with the built program, and prints the rows of the tables in docs/benchmarks.md: the lines of a
 # script, the seconds of processor, the greatest memory, and how much longer a script took than one half
 # as long. Each time is the least of three runs. The status is 1 where a doubling takes more than 2.2 times as
-# long, or 4.8 times where each fetch is answered with a state of its own (words, crowd), or the program gives a
-# wrong end.
+# long, or 4.8 times where each client reads what all of them added (crowd), or the program gives a wrong end.
 #   bench/worst.sh             times crates/swift_sim/out/swift_sim
 #   bench/worst.sh NAME..      only these kinds
 #   SWIFT_SIM=FILE bench/worst.sh     times another program
@@ -151,6 +150,6 @@ wanted hundred "$@" && table hundred 1600 2.2
 wanted names "$@" && table names 2500 2.2
 wanted reads "$@" && table reads 9000 2.2
 wanted adds "$@" && table adds 1175 2.2
-wanted words "$@" && table words 286 4.8
+wanted words "$@" && table words 286 2.2
 wanted crowd "$@" && table crowd 256 4.8
 exit "$status"
